@@ -1,0 +1,57 @@
+-- The twelve calls: their numbers, and which numbers in them are in range.
+use Prim.Native.Nat.{ℕ, _^_}
+use mathlib.Core.Bool.{Bool, true, false, _&&_}
+use lib.Dec.{leb, ltb}
+use Rattle.machine.specs.declared.Call.{Call}
+use Rattle.machine.specs.declared.Call.the-variants.{CreateThread, DestroyThread, SetPriority, CreateEndpoint, Interrupt, Tick, Send, Receive, Yield, Wait, Delete, Abort}
+
+-- The number of a call.
+abbrev pub numberOf : Call → ℕ
+numberOf (CreateThread t p) = 1
+numberOf (DestroyThread t) = 2
+numberOf (SetPriority t p) = 3
+numberOf (CreateEndpoint e) = 4
+numberOf (Interrupt l) = 5
+numberOf Tick = 6
+numberOf (Send e b m) = 7
+numberOf (Receive e) = 8
+numberOf Yield = 9
+numberOf (Wait l) = 10
+numberOf (Delete e a) = 11
+numberOf (Abort e a b) = 12
+
+abbrev pub isThread : ℕ → Bool
+isThread t = leb t 255
+
+abbrev pub isPriority : ℕ → Bool
+isPriority p = leb p 255
+
+abbrev pub isEndpoint : ℕ → Bool
+isEndpoint e = leb e 63
+
+abbrev pub isLine : ℕ → Bool
+isLine l = leb l 31
+
+abbrev pub isBadge : ℕ → Bool
+isBadge b = ltb b (2 ^ 28)
+
+abbrev pub isMessage : ℕ → Bool
+isMessage m = ltb m (2 ^ 28)
+
+abbrev pub isAllowance : ℕ → Bool
+isAllowance a = leb 1 a && leb a 65535
+
+-- Refusal 19 does not apply: every number is in range.
+abbrev pub inRange : Call → Bool
+inRange (CreateThread t p) = isThread t && isPriority p
+inRange (DestroyThread t) = isThread t
+inRange (SetPriority t p) = isThread t && isPriority p
+inRange (CreateEndpoint e) = isEndpoint e
+inRange (Interrupt l) = isLine l
+inRange Tick = true
+inRange (Send e b m) = isEndpoint e && isBadge b && isMessage m
+inRange (Receive e) = isEndpoint e
+inRange Yield = true
+inRange (Wait l) = isLine l
+inRange (Delete e a) = isEndpoint e && isAllowance a
+inRange (Abort e a b) = isEndpoint e && isAllowance a && isBadge b
