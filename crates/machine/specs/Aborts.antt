@@ -77,7 +77,7 @@ unfoldable pub begin : ℕ → ℕ → ℕ → State → State
 begin t e b s =
     setThread t (withDebt (owns e) (s .threads t))
     (setAbort e
-     (some (record { badge = b; owner = some t; pending = senders (s .threads) (s .endpoints e .waiters) })) s)
+    (some (record { badge = b; owner = some t; pending = senders (s .threads) (s .endpoints e .waiters) })) s)
 
 -- Join: the joiner t becomes owner only if there is none.
 unfoldable pub joinAs : Option ℕ → ℕ → ℕ → State → State

@@ -63,20 +63,20 @@ unfoldable pub joinEndpoint : ℕ → ℕ → State → State
 joinEndpoint t e s =
     setEndpoint e
     (record {
-       status = s .endpoints e .status;
-       waiters = s .endpoints e .waiters ++ (t ∷ []);
-       abort = s .endpoints e .abort
-     }) s
+      status = s .endpoints e .status;
+      waiters = s .endpoints e .waiters ++ (t ∷ []);
+      abort = s .endpoints e .abort;
+    }) s
 
 -- t leaves the endpoint's queue.
 unfoldable pub leaveEndpoint : ℕ → ℕ → State → State
 leaveEndpoint t e s =
     setEndpoint e
     (record {
-       status = s .endpoints e .status;
-       waiters = without t (s .endpoints e .waiters);
-       abort = passing t (s .endpoints e .abort)
-     }) s
+      status = s .endpoints e .status;
+      waiters = without t (s .endpoints e .waiters);
+      abort = passing t (s .endpoints e .abort);
+    }) s
 
 -- t leaves the endpoint's queue and is woken.
 unfoldable pub wakeFrom : ℕ → ℕ → ℕ → ℕ → ℕ → State → State

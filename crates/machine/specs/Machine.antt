@@ -38,7 +38,7 @@ createIf false t p s = refuse 22 s
 createIf true t p s =
     done (enqueue t
     (setThread t
-     (record { place = able; priority = p; ticks = 5; outcome = 0; badge = 0; message = 0; debt = nothing }) s))
+    (record { place = able; priority = p; ticks = 5; outcome = 0; badge = 0; message = 0; debt = nothing }) s))
 
 unfoldable pub createThread : ℕ → ℕ → State → Result
 createThread t p s = createIf (isAbsent (s .threads t .place)) t p s

@@ -78,7 +78,7 @@ freshState =
       runs = none;
       levels = λ p. [];
       endpoints = λ e. missingEndpoint;
-      lines = λ l. quiet
+      lines = λ l. quiet;
     }
 
 -- The state with one entry changed.
@@ -89,7 +89,7 @@ setThread t x s =
       runs = s .runs;
       levels = s .levels;
       endpoints = s .endpoints;
-      lines = s .lines
+      lines = s .lines;
     }
 
 abbrev pub setRuns : Option ℕ → State → State
@@ -103,7 +103,7 @@ setLevel p q s =
       runs = s .runs;
       levels = put (s .levels) p q;
       endpoints = s .endpoints;
-      lines = s .lines
+      lines = s .lines;
     }
 
 abbrev pub setEndpoint : ℕ → Endpoint → State → State
@@ -113,7 +113,7 @@ setEndpoint e x s =
       runs = s .runs;
       levels = s .levels;
       endpoints = put (s .endpoints) e x;
-      lines = s .lines
+      lines = s .lines;
     }
 
 abbrev pub setLine : ℕ → Line → State → State
@@ -123,7 +123,7 @@ setLine l x s =
       runs = s .runs;
       levels = s .levels;
       endpoints = s .endpoints;
-      lines = put (s .lines) l x
+      lines = put (s .lines) l x;
     }
 
 -- The thread with some fields changed.
@@ -136,7 +136,7 @@ withPriority p x =
       outcome = x .outcome;
       badge = x .badge;
       message = x .message;
-      debt = x .debt
+      debt = x .debt;
     }
 
 abbrev pub withTicks : ℕ → Thread → Thread
@@ -148,7 +148,7 @@ withTicks n x =
       outcome = x .outcome;
       badge = x .badge;
       message = x .message;
-      debt = x .debt
+      debt = x .debt;
     }
 
 abbrev pub withDebt : Debt → Thread → Thread
@@ -160,7 +160,7 @@ withDebt d x =
       outcome = x .outcome;
       badge = x .badge;
       message = x .message;
-      debt = d
+      debt = d;
     }
 
 abbrev pub withPlace : Place → ℕ → ℕ → ℕ → Thread → Thread
@@ -172,5 +172,5 @@ withPlace p o b m x =
       outcome = o;
       badge = b;
       message = m;
-      debt = x .debt
+      debt = x .debt;
     }

@@ -4,18 +4,45 @@ ghost use Rattle.machine.specs.Calls.{numberOf, inRange};
 
 // A call, each kind with its own numbers. Any number may stand in any place: those out of range are refused by 19.
 pub enum Call {
-    CreateThread { thread: u32, priority: u32 },
-    DestroyThread { thread: u32 },
-    SetPriority { thread: u32, priority: u32 },
-    CreateEndpoint { endpoint: u32 },
-    Interrupt { line: u32 },
+    CreateThread {
+        thread: u32,
+        priority: u32,
+    },
+    DestroyThread {
+        thread: u32,
+    },
+    SetPriority {
+        thread: u32,
+        priority: u32,
+    },
+    CreateEndpoint {
+        endpoint: u32,
+    },
+    Interrupt {
+        line: u32,
+    },
     Tick,
-    Send { endpoint: u32, badge: u32, message: u32 },
-    Receive { endpoint: u32 },
+    Send {
+        endpoint: u32,
+        badge: u32,
+        message: u32,
+    },
+    Receive {
+        endpoint: u32,
+    },
     Yield,
-    Wait { line: u32 },
-    Delete { endpoint: u32, allowance: u32 },
-    Abort { endpoint: u32, allowance: u32, badge: u32 },
+    Wait {
+        line: u32,
+    },
+    Delete {
+        endpoint: u32,
+        allowance: u32,
+    },
+    Abort {
+        endpoint: u32,
+        allowance: u32,
+        badge: u32,
+    },
 }
 
 // What every call is answered with.
@@ -31,18 +58,35 @@ pub fn number(c: Call) -> u32
     ensures { λ r. ⌜ r ≡ numberOf c ⌝ }
 {
     match c {
-        Call::CreateThread { thread: _, priority: _ } => 1,
+        Call::CreateThread {
+            thread: _,
+            priority: _,
+        } => 1,
         Call::DestroyThread { thread: _ } => 2,
-        Call::SetPriority { thread: _, priority: _ } => 3,
+        Call::SetPriority {
+            thread: _,
+            priority: _,
+        } => 3,
         Call::CreateEndpoint { endpoint: _ } => 4,
         Call::Interrupt { line: _ } => 5,
         Call::Tick => 6,
-        Call::Send { endpoint: _, badge: _, message: _ } => 7,
+        Call::Send {
+            endpoint: _,
+            badge: _,
+            message: _,
+        } => 7,
         Call::Receive { endpoint: _ } => 8,
         Call::Yield => 9,
         Call::Wait { line: _ } => 10,
-        Call::Delete { endpoint: _, allowance: _ } => 11,
-        Call::Abort { endpoint: _, allowance: _, badge: _ } => 12,
+        Call::Delete {
+            endpoint: _,
+            allowance: _,
+        } => 11,
+        Call::Abort {
+            endpoint: _,
+            allowance: _,
+            badge: _,
+        } => 12,
     }
 }
 
@@ -57,11 +101,22 @@ pub fn in_range(c: Call) -> bool
         Call::CreateEndpoint { endpoint } => endpoint <= 63,
         Call::Interrupt { line } => line <= 31,
         Call::Tick => true,
-        Call::Send { endpoint, badge, message } => endpoint <= 63 && badge <= 0x0FFF_FFFF && message <= 0x0FFF_FFFF,
+        Call::Send {
+            endpoint,
+            badge,
+            message,
+        } => endpoint <= 63 && badge <= 0x0FFF_FFFF && message <= 0x0FFF_FFFF,
         Call::Receive { endpoint } => endpoint <= 63,
         Call::Yield => true,
         Call::Wait { line } => line <= 31,
-        Call::Delete { endpoint, allowance } => endpoint <= 63 && 1 <= allowance && allowance <= 65535,
-        Call::Abort { endpoint, allowance, badge } => endpoint <= 63 && 1 <= allowance && allowance <= 65535 && badge <= 0x0FFF_FFFF,
+        Call::Delete {
+            endpoint,
+            allowance,
+        } => endpoint <= 63 && 1 <= allowance && allowance <= 65535,
+        Call::Abort {
+            endpoint,
+            allowance,
+            badge,
+        } => endpoint <= 63 && 1 <= allowance && allowance <= 65535 && badge <= 0x0FFF_FFFF,
     }
 }
