@@ -1,6 +1,6 @@
 // The twelve calls and their answer. What the calls do, the queue machine, stands in specs/; the theorems about it stand in proofs/.
 ghost use mathlib.Core.Path.{_≡_};
-ghost use Rattle.machine.specs.Calls.{numberOf, inRange};
+ghost use Rattle.machine.specs.Calls.{numberOf, isAllowance, inRange};
 
 // A call, each kind with its own numbers. Any number may stand in any place: those out of range are refused by 19.
 pub enum Call {
@@ -90,6 +90,12 @@ pub fn number(c: Call) -> u32
     }
 }
 
+fn is_allowance(a: u32) -> bool
+    ensures { λ r. ⌜ r ≡ isAllowance a ⌝ }
+{
+    1 <= a && a <= 65535
+}
+
 // Whether every number of the call is in range; if not, it is refused by 19.
 pub fn in_range(c: Call) -> bool
     ensures { λ r. ⌜ r ≡ inRange c ⌝ }
@@ -105,18 +111,18 @@ pub fn in_range(c: Call) -> bool
             endpoint,
             badge,
             message,
-        } => endpoint <= 63 && badge <= 0x0FFF_FFFF && message <= 0x0FFF_FFFF,
+        } => endpoint <= 63 && badge < 0x1000_0000 && message < 0x1000_0000,
         Call::Receive { endpoint } => endpoint <= 63,
         Call::Yield => true,
         Call::Wait { line } => line <= 31,
         Call::Delete {
             endpoint,
             allowance,
-        } => endpoint <= 63 && 1 <= allowance && allowance <= 65535,
+        } => endpoint <= 63 && is_allowance(allowance),
         Call::Abort {
             endpoint,
             allowance,
             badge,
-        } => endpoint <= 63 && 1 <= allowance && allowance <= 65535 && badge <= 0x0FFF_FFFF,
+        } => endpoint <= 63 && is_allowance(allowance) && badge < 0x1000_0000,
     }
 }
