@@ -1,2 +1,4 @@
 pub mod Lists
 pub mod Mid
+pub mod Computed
+pub mod Histories

@@ -61,8 +61,8 @@ pub record Waiting : Type 0 where
   pub queues : ℕ → List ℕ
   pub lines : ℕ → Option ℕ
 
--- A call 12, refused or not: its place and numbers, code and count of its answer, its looks, the abort that it reports if
--- it was answered 0, and who was waiting before and after it.
+-- A call 12, refused or not: its place and numbers, code and count of its answer, its looks, the abort that it began, found
+-- under its badge or was noted of, which it reports if it was answered 0, and who was waiting before and after it.
 pub record AbortCall : Type 0 where
   pub place : ℕ
   pub endpoint : ℕ
