@@ -1,7 +1,71 @@
-// The two-level summary of the ready queues: which of the 256 levels are occupied. Bit p mod 32 of word p div 32 is set exactly when
-// level p is occupied, and bit w of the top word exactly when word w is not 0.
+// The two-level summary of the ready queues: which of the 256 levels are occupied. Bit p mod 32 of word p div 32 is
+// set exactly when level p is occupied, and bit w of the top word exactly when word w is not 0.
+ghost use mathlib.Core.Path.{_≡_};
+ghost use mathlib.Core.Bool.{true, false};
+ghost use Prim.Native.Nat.{_<_};
+ghost use Rattle.summary.specs.Levels.{summaryOf, nobody, IsSummary, Marks, Finds};
 
 pub struct Summary {
     pub words: [u32; 8],
     pub top: u32,
+}
+
+// The finder's answer: the highest occupied level, if there is one.
+pub enum Level {
+    At(u32),
+    Nothing,
+}
+
+impl Summary {
+    // No level is occupied.
+    pub fn new() -> Self
+        ensures { λ r. ⌜ r ≡ summaryOf nobody ⌝ }
+    {
+        Summary {
+            words: [0; 8],
+            top: 0,
+        }
+    }
+
+    // The summary with level p occupied. Its word is then not 0, so the word's bit is set too.
+    pub fn occupied(mut self, p: u32) -> Self
+        requires { ⌜ p < 256 ⌝ }
+        ensures { λ r. ⌜ Marks self p true r ⌝ }
+    {
+        let w = (p / 32) as usize;
+        self.words[w] |= 1u32 << (p % 32);
+        self.top |= 1u32 << (p / 32);
+        self
+    }
+
+    // The summary with level p empty. The word's bit goes with the last level of the word.
+    pub fn emptied(mut self, p: u32) -> Self
+        requires { ⌜ p < 256 ⌝ }
+        ensures { λ r. ⌜ Marks self p false r ⌝ }
+    {
+        let w = (p / 32) as usize;
+        let word = self.words[w] & !(1u32 << (p % 32));
+        self.words[w] = word;
+        if word == 0 {
+            self.top &= !(1u32 << (p / 32));
+        }
+        self
+    }
+
+    // The highest occupied level, by the leading zeros of the top word and then of the word that it names.
+    pub fn highest(self) -> Level
+        requires { ⌜ IsSummary self ⌝ }
+        ensures { λ r. ⌜ Finds self r ⌝ }
+    {
+        let top = self.top;
+        if top == 0 {
+            return Level::Nothing;
+        }
+        let w = 31 - u32::leading_zeros(top);
+        let i = w as usize;
+        let word = self.words[i];
+        let bit = 31 - u32::leading_zeros(word);
+        let level = 32 * w + bit;
+        Level::At(level)
+    }
 }

@@ -1,0 +1,42 @@
+-- `summary::Summary::highest` meets its contract: the highest word that is not 0, and that word's highest bit.
+-- Assumes nothing.
+use borrow.Author.Needs.{needs}
+use Rattle.summary.proofs.Found.{Led, led, finds-nothing, finds-level}
+use Rattle.summary.proofs.Summary.highest.Statement.{statement}
+use Rattle.summary.proofs.Summary.highest.Tie as tie
+
+returns : tie.Need-returns
+returns c = finds-nothing (c .before .args .t1) (c .if1 .taken)
+
+-- What the top word shows where it is not 0.
+led-here : (c : tie.Else1) → Led (c .before .args .t1) (c .before .pre .levels)
+led-here c = led (c .before .args .t1) (c .before .pre .levels) (c .before .pre .shown) (c .if1 .left)
+
+sub-w : tie.Need-sub-w
+sub-w c = led-here c .fits
+
+cast-i : tie.Need-cast-i
+cast-i c = search needs
+
+mul-word : tie.Need-mul-word
+mul-word c = search needs
+
+element-copy-out-word : tie.Need-element-copy-out-word
+element-copy-out-word c = led-here c .inside
+
+sub-bit : tie.Need-sub-bit
+sub-bit c = led-here (c .before) .fits-word
+
+mul-level : tie.Need-mul-level
+mul-level c = search needs
+
+add-level : tie.Need-add-level
+add-level c = search needs
+
+returns-2 : tie.Need-returns-2
+returns-2 c = finds-level (c .before .before .args .t1) (c .before .if1 .left)
+
+pub highest-spec : {M : Type 1} → statement M
+highest-spec =
+    tie.close
+    (tie.spec returns sub-w cast-i mul-word element-copy-out-word sub-bit mul-level add-level returns-2)
