@@ -1,0 +1,254 @@
+-- The laws of addresses: each valid name is the name of its address, and each address is that of a valid name.
+-- Assumes nothing.
+use Prim.Native.Nat.{ℕ, zero, suc, _+_, _*_, _-_, _/_, _%_, _≤_, _<_}
+use mathlib.Core.Path.{_≡_, refl, sym, _∙_, ap}
+use mathlib.Core.Logic.{_⊎_, inl, inr}
+use mathlib.Core.Bool.{Bool, true, false}
+use mathlib.Core.List.{List}
+use native.Mathlib.Omega.{arith}
+use lib.Dec.{ltb}
+use lib.ListN.{length, set}
+use lib.Seq.{getD-set-same, getD-set-other}
+use borrow.Author.Tests.{lt-ltb, le-ltb, ltb-true, ltb-false}
+use Rattle.layout.specs.Addresses.{Field, place, priority, ticks, outcome, badge, message, owes, note, Part}
+use Rattle.layout.specs.Addresses.{status, aborting, aborted, owner, cursor, end, Slot, ofThread, ofEndpoint}
+use Rattle.layout.specs.Addresses.{ofLine, summary, top, running, unused, Link, next, prev, head, tail, Name}
+use Rattle.layout.specs.Addresses.{slot, link, ValidSlot, ValidLink, Valid, column, offset, at, linkAt, address}
+use Rattle.layout.specs.Addresses.{inThread, inQueue, inEndpoint, nameOf, word}
+
+-- The name of word k of a row.
+
+thread-row : (t k : ℕ) → t ≤ 255 → k < 10 → nameOf (10 * t + k) ≡ inThread t k
+unfolding nameOf
+thread-row t k h g =
+    let d : (10 * t + k) / 10 ≡ t = omega arith in
+    let r : (10 * t + k) % 10 ≡ k = omega arith in
+    rw (lt-ltb (10 * t + k) 2560 (omega arith), d, r)
+
+queue-row : (q k : ℕ) → q ≤ 319 → k < 2 → (i : ℕ) → i ≡ 2560 + 2 * q + k → nameOf i ≡ inQueue q k
+unfolding nameOf
+queue-row q k h g i e =
+    let d : (i - 2560) / 2 ≡ q = omega arith in
+    let r : (i - 2560) % 2 ≡ k = omega arith in
+    rw (le-ltb i 2560 (omega arith), lt-ltb i 3200 (omega arith), d, r)
+
+endpoint-row : (e k : ℕ) → e ≤ 63 → k < 6 → nameOf (3200 + 6 * e + k) ≡ inEndpoint e k
+unfolding nameOf
+endpoint-row e k h g =
+    let i = 3200 + 6 * e + k in
+    let d : (i - 3200) / 6 ≡ e = omega arith in
+    let r : (i - 3200) % 6 ≡ k = omega arith in
+    rw (le-ltb i 2560 (omega arith), le-ltb i 3200 (omega arith), lt-ltb i 3584 (omega arith), d, r)
+
+column-small : (f : Field) → column f < 10
+unfolding column
+column-small place = omega arith
+column-small priority = omega arith
+column-small ticks = omega arith
+column-small outcome = omega arith
+column-small badge = omega arith
+column-small message = omega arith
+column-small owes = omega arith
+column-small note = omega arith
+
+offset-small : (p : Part) → offset p < 6
+unfolding offset
+offset-small status = omega arith
+offset-small aborting = omega arith
+offset-small aborted = omega arith
+offset-small owner = omega arith
+offset-small cursor = omega arith
+offset-small end = omega arith
+
+field-name : (f : Field) (t : ℕ) → inThread t (column f) ≡ slot (ofThread f t)
+unfolding inThread column
+field-name place t = refl
+field-name priority t = refl
+field-name ticks t = refl
+field-name outcome t = refl
+field-name badge t = refl
+field-name message t = refl
+field-name owes t = refl
+field-name note t = refl
+
+part-name : (p : Part) (e : ℕ) → inEndpoint e (offset p) ≡ slot (ofEndpoint p e)
+unfolding inEndpoint offset
+part-name status e = refl
+part-name aborting e = refl
+part-name aborted e = refl
+part-name owner e = refl
+part-name cursor e = refl
+part-name end e = refl
+
+-- An address from 3584 on has the name that its range says.
+module _ (i : ℕ) where
+  line-name : 3584 ≤ i → i < 3616 → nameOf i ≡ slot (ofLine (i - 3584))
+  unfolding nameOf
+  line-name h g =
+      rw (le-ltb i 2560 (omega arith), le-ltb i 3200 (omega arith), le-ltb i 3584 h, lt-ltb i 3616 g)
+
+  summary-name : 3616 ≤ i → i < 3624 → nameOf i ≡ slot (summary (i - 3616))
+  unfolding nameOf
+  summary-name h g =
+      rw (
+        le-ltb i 2560 (omega arith),
+        le-ltb i 3200 (omega arith),
+        le-ltb i 3584 (omega arith),
+        le-ltb i 3616 h,
+        lt-ltb i 3624 g,
+      )
+
+  unused-name : 3626 ≤ i → nameOf i ≡ slot (unused (i - 3626))
+  unfolding nameOf
+  unused-name h =
+      rw (
+        le-ltb i 2560 (omega arith),
+        le-ltb i 3200 (omega arith),
+        le-ltb i 3584 (omega arith),
+        le-ltb i 3616 (omega arith),
+        le-ltb i 3624 (omega arith),
+        le-ltb i 3625 (omega arith),
+        le-ltb i 3626 h,
+      )
+
+name-at : (a : Slot) → ValidSlot a → nameOf (at a) ≡ slot a
+unfolding at
+name-at (ofThread f t) h = thread-row t (column f) h (column-small f) ∙ field-name f t
+name-at (ofEndpoint p e) h = endpoint-row e (offset p) h (offset-small p) ∙ part-name p e
+name-at (ofLine l) h =
+    line-name (3584 + l) (omega arith) (omega arith)
+    ∙ ap (λ (k : ℕ). slot (ofLine k)) (let e : 3584 + l - 3584 ≡ l = omega arith in e)
+name-at (summary w) h =
+    summary-name (3616 + w) (omega arith) (omega arith)
+    ∙ ap (λ (k : ℕ). slot (summary k)) (let e : 3616 + w - 3616 ≡ w = omega arith in e)
+name-at top h = unfold nameOf in refl
+name-at running h = unfold nameOf in refl
+name-at (unused i) h =
+    unused-name (3626 + i) (omega arith)
+    ∙ ap (λ (k : ℕ). slot (unused k)) (let e : 3626 + i - 3626 ≡ i = omega arith in e)
+
+name-linkAt : (k : Link) → ValidLink k → nameOf (linkAt k) ≡ link k
+unfolding linkAt inThread inQueue
+name-linkAt (next t) h = thread-row t 6 h (omega arith)
+name-linkAt (prev t) h = thread-row t 7 h (omega arith)
+name-linkAt (head q) h = queue-row q 0 h (omega arith) (2560 + 2 * q) (omega arith)
+name-linkAt (tail q) h = queue-row q 1 h (omega arith) (2561 + 2 * q) (omega arith)
+
+-- Each valid name is the name of its address: two valid names have the same address only if they are the same.
+pub name-address : (a : Name) → Valid a → nameOf (address a) ≡ a
+name-address (slot a) h = name-at a h
+name-address (link k) h = name-linkAt k h
+
+pub address-injective : (a b : Name) → Valid a → Valid b → address a ≡ address b → a ≡ b
+address-injective a b h g e = sym (name-address a h) ∙ ap nameOf e ∙ name-address b g
+
+pub at-small : (a : Slot) → ValidSlot a → at a < 4096
+unfolding at
+at-small (ofThread f t) h = omega (arith, column-small f)
+at-small (ofEndpoint p e) h = omega (arith, offset-small p)
+at-small (ofLine l) h = omega arith
+at-small (summary w) h = omega arith
+at-small top h = omega arith
+at-small running h = omega arith
+at-small (unused i) h = omega arith
+
+pub linkAt-small : (k : Link) → ValidLink k → linkAt k < 4096
+unfolding linkAt
+linkAt-small (next t) h = omega arith
+linkAt-small (prev t) h = omega arith
+linkAt-small (head q) h = omega arith
+linkAt-small (tail q) h = omega arith
+
+pub address-small : (a : Name) → Valid a → address a < 4096
+address-small (slot a) h = at-small a h
+address-small (link k) h = linkAt-small k h
+
+-- Each address is that of a valid name.
+pub record Named (i : ℕ) : Type 0 where
+  pub name : Name
+  pub valid : Valid name
+  pub here : address name ≡ i
+
+-- The valid name of word k of thread t, of queue q and of endpoint e.
+in-thread : (t k i : ℕ) → t ≤ 255 → k < 10 → 10 * t + k ≡ i → Named i
+unfolding at column linkAt
+in-thread t zero i h g e = record { name = slot (ofThread place t); valid = h; here = e }
+in-thread t (suc zero) i h g e = record { name = slot (ofThread priority t); valid = h; here = e }
+in-thread t (suc (suc zero)) i h g e = record { name = slot (ofThread ticks t); valid = h; here = e }
+in-thread t (suc (suc (suc zero))) i h g e = record { name = slot (ofThread outcome t); valid = h; here = e }
+in-thread t (suc (suc (suc (suc zero)))) i h g e = record { name = slot (ofThread badge t); valid = h; here = e }
+in-thread t (suc (suc (suc (suc (suc zero))))) i h g e =
+    record { name = slot (ofThread message t); valid = h; here = e }
+in-thread t (suc (suc (suc (suc (suc (suc zero)))))) i h g e = record { name = link (next t); valid = h; here = e }
+in-thread t (suc (suc (suc (suc (suc (suc (suc zero))))))) i h g e =
+    record { name = link (prev t); valid = h; here = e }
+in-thread t (suc (suc (suc (suc (suc (suc (suc (suc zero)))))))) i h g e =
+    record { name = slot (ofThread owes t); valid = h; here = e }
+in-thread t (suc (suc (suc (suc (suc (suc (suc (suc (suc zero))))))))) i h g e =
+    record { name = slot (ofThread note t); valid = h; here = e }
+in-thread t (suc (suc (suc (suc (suc (suc (suc (suc (suc (suc k)))))))))) i h g e = absurd (omega arith)
+
+in-queue : (q k i : ℕ) → q ≤ 319 → k < 2 → 2560 + 2 * q + k ≡ i → Named i
+unfolding linkAt
+in-queue q zero i h g e = record { name = link (head q); valid = h; here = omega arith }
+in-queue q (suc zero) i h g e = record { name = link (tail q); valid = h; here = omega arith }
+in-queue q (suc (suc k)) i h g e = absurd (omega arith)
+
+in-endpoint : (n k i : ℕ) → n ≤ 63 → k < 6 → 3200 + 6 * n + k ≡ i → Named i
+unfolding at offset
+in-endpoint n zero i h g e = record { name = slot (ofEndpoint status n); valid = h; here = e }
+in-endpoint n (suc zero) i h g e = record { name = slot (ofEndpoint aborting n); valid = h; here = e }
+in-endpoint n (suc (suc zero)) i h g e = record { name = slot (ofEndpoint aborted n); valid = h; here = e }
+in-endpoint n (suc (suc (suc zero))) i h g e = record { name = slot (ofEndpoint owner n); valid = h; here = e }
+in-endpoint n (suc (suc (suc (suc zero)))) i h g e = record { name = slot (ofEndpoint cursor n); valid = h; here = e }
+in-endpoint n (suc (suc (suc (suc (suc zero))))) i h g e =
+    record { name = slot (ofEndpoint end n); valid = h; here = e }
+in-endpoint n (suc (suc (suc (suc (suc (suc k)))))) i h g e = absurd (omega arith)
+
+-- Whether a number is below a bound.
+pub below? : (i n : ℕ) → (i < n) ⊎ (n ≤ i)
+below? i n = go (ltb i n) refl
+  where
+    go : (b : Bool) → ltb i n ≡ b → (i < n) ⊎ (n ≤ i)
+    go true e = inl (ltb-true i n e)
+    go false e = inr (ltb-false i n e)
+
+module _ (i : ℕ) (small : i < 4096) where
+  from-marks : 3624 ≤ i → Named i
+  unfolding at
+  from-marks h = go (below? i 3625) (below? i 3626)
+    where
+      go : (i < 3625) ⊎ (3625 ≤ i) → (i < 3626) ⊎ (3626 ≤ i) → Named i
+      go (inl g) k = record { name = slot top; valid = tt; here = omega arith }
+      go (inr g) (inl k) = record { name = slot running; valid = tt; here = omega arith }
+      go (inr g) (inr k) = record { name = slot (unused (i - 3626)); valid = omega arith; here = omega arith }
+
+  from-lines : 3584 ≤ i → Named i
+  unfolding at
+  from-lines h = go (below? i 3616) (below? i 3624)
+    where
+      go : (i < 3616) ⊎ (3616 ≤ i) → (i < 3624) ⊎ (3624 ≤ i) → Named i
+      go (inl g) k = record { name = slot (ofLine (i - 3584)); valid = omega arith; here = omega arith }
+      go (inr g) (inl k) = record { name = slot (summary (i - 3616)); valid = omega arith; here = omega arith }
+      go (inr g) (inr k) = from-marks k
+
+  pub named : Named i
+  named = go (below? i 2560) (below? i 3200) (below? i 3584)
+    where
+      go : (i < 2560) ⊎ (2560 ≤ i) → (i < 3200) ⊎ (3200 ≤ i) → (i < 3584) ⊎ (3584 ≤ i) → Named i
+      go (inl g) k l = in-thread (i / 10) (i % 10) i (omega arith) (omega arith) (omega arith)
+      go (inr g) (inl k) l =
+          in-queue ((i - 2560) / 2) ((i - 2560) % 2) i (omega arith) (omega arith) (omega arith)
+      go (inr g) (inr k) (inl l) =
+          in-endpoint ((i - 3200) / 6) ((i - 3200) % 6) i (omega arith) (omega arith) (omega arith)
+      go (inr g) (inr k) (inr l) = from-lines l
+
+-- A word after a store.
+
+pub word-set-same : (m : List ℕ) (i v : ℕ) → i < length m → word (set m i v) i ≡ v
+unfolding word
+word-set-same m i v h = getD-set-same m i v 0 h
+
+pub word-set-other : (m : List ℕ) (i j v : ℕ) → (j ≡ i → ⊥) → word (set m i v) j ≡ word m j
+unfolding word
+word-set-other m i j v h = getD-set-other m i j v 0 h

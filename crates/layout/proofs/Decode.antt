@@ -1,0 +1,127 @@
+-- Decoded states are neat, and a sound state is decoded from any memory that shows it.
+-- Assumes nothing.
+use Prim.Native.Nat.{ℕ, _+_, _≤_, _<_}
+use mathlib.Core.Path.{_≡_, refl, sym, _∙_, ap, fun-ext}
+use mathlib.Core.Bool.{Bool, true, false}
+use mathlib.Core.List.{List, []}
+use native.Mathlib.Omega.{arith}
+use lib.Dec.{leb}
+use borrow.Author.Tests.{lt-leb, leb-true, leb-false}
+use Rattle.machine.specs.Lists.{pick, Mem}
+use Rattle.machine.specs.State.{State, quiet, awaited, absentThread, missingEndpoint}
+use Rattle.machine.specs.Sound.{Sound}
+use Rattle.layout.specs.Addresses.{Part, ofThread, ofEndpoint, ofLine, running, head, at, linkAt, word}
+use Rattle.layout.specs.Words.{queuesOf, endpointWord}
+use Rattle.layout.specs.Shows.{Shows}
+use Rattle.layout.specs.Decode.{queueFrom, linked, lineOf, threadFrom, endpointFrom, decode}
+use Rattle.layout.proofs.Codes.{linked-small, linked-back, line-back}
+use Rattle.layout.proofs.Codes.{line-small as read-small}
+use Rattle.layout.proofs.Blocks.{NeatThread, thread-neat, thread-back, beyond-absent, absent-neat}
+use Rattle.layout.proofs.Walks.{walk-small, walk-chain, bounded-length}
+use Rattle.layout.proofs.Ends.{NeatEndpoint, endpoint-neat, endpoint-back, missing-neat}
+use Rattle.layout.proofs.Standing.{queues-level, queues-endpoint}
+use Rattle.layout.proofs.Neat.{Neat, sound-neat}
+
+-- An entry of a table that is empty past the index n.
+
+module _ {A : Type 0} (n : ℕ) (x y : A) where
+  pick-beyond : (i : ℕ) → n < i → pick (leb i n) x y ≡ y
+  pick-beyond i h = rw (lt-leb i n h)
+
+  -- What holds of the entry inside and of the empty one holds of what is picked.
+  pick-at : (P : A → Type 0) (i : ℕ) → (i ≤ n → P x) → P y → P (pick (leb i n) x y)
+  pick-at P i f q = go (leb i n) refl
+    where
+      go : (b : Bool) → leb i n ≡ b → P (pick b x y)
+      go true e = f (leb-true i n e)
+      go false e = q
+
+  -- The entry is z, inside and past the index.
+  pick-is : (i : ℕ) (z : A) → (i ≤ n → x ≡ z) → (n < i → y ≡ z) → pick (leb i n) x y ≡ z
+  pick-is i z f g = go (leb i n) refl
+    where
+      go : (b : Bool) → leb i n ≡ b → pick b x y ≡ z
+      go true e = f (leb-true i n e)
+      go false e = g (leb-false i n e)
+
+pub decode-neat : (m : List ℕ) → Neat (decode m)
+unfolding decode lineOf
+decode-neat m =
+    record {
+      threads = λ t.
+          pick-at 255 (threadFrom (λ f. word m (at (ofThread f t)))) absentThread (NeatThread t) t
+          (thread-neat t (λ f. word m (at (ofThread f t)))) (absent-neat t);
+      endpoints = λ e.
+          pick-at 63 (endpointFrom (λ p. word m (at (ofEndpoint p e))) (queueFrom m (256 + e))) missingEndpoint
+          NeatEndpoint e
+          (λ _. endpoint-neat (λ p. word m (at (ofEndpoint p e))) (queueFrom m (256 + e))
+          (walk-small m 256 (word m (linkAt (head (256 + e)))))) missing-neat;
+      unused-endpoint = λ e h. pick-beyond 63 _ missingEndpoint e h;
+      unused-line = λ l h. pick-beyond 31 _ quiet l h;
+      unused-level = λ p h. pick-beyond 255 _ [] p h;
+      runs-small = linked-small (word m (at running));
+      ready-small = λ p t.
+          pick-at 255 (queueFrom m p) [] (λ l. Mem t l → t ≤ 255) p
+          (λ _. walk-small m 256 (word m (linkAt (head p))) t) (λ k. absurd k);
+      line-small = λ l t.
+          pick-at 31 (lineOf (word m (at (ofLine l)))) quiet (λ x. x ≡ awaited t → t ≤ 255) l
+          (λ _. read-small (word m (at (ofLine l))) t) (read-small 0 t);
+    }
+
+module _ (m : List ℕ) (s : State) (S : Sound s) (M : Shows m s) where
+  -- Each queue is walked off the memory.
+  queue-back : (q : ℕ) → q ≤ 319 → queueFrom m q ≡ queuesOf s q
+  queue-back q h =
+      walk-chain m q 256 0 (queuesOf s q) (M .links .chains q h)
+      (bounded-length 256 (queuesOf s q) (M .links .once q h) (λ t k. omega (arith, M .links .small q t h k)))
+      (λ t k. M .links .small q t h k)
+
+  -- A sound state is the one decoded from a memory that shows it.
+  pub shows-decode : decode m ≡ s
+  unfolding decode
+  shows-decode = λ i.
+      record {
+        threads = fun-ext threads i;
+        runs = runs i;
+        levels = fun-ext levels i;
+        endpoints = fun-ext endpoints i;
+        lines = fun-ext lines i;
+      }
+    where
+      N : Neat s
+      N = sound-neat s S
+
+      threads : (t : ℕ)
+          → pick (leb t 255) (threadFrom (λ f. word m (at (ofThread f t)))) absentThread ≡ s .threads t
+      threads t =
+          pick-is 255 (threadFrom (λ f. word m (at (ofThread f t)))) absentThread t (s .threads t)
+          (λ h. ap threadFrom (fun-ext (λ f. M .slots (ofThread f t) h)) ∙ thread-back t (s .threads t) (N .threads t))
+          (λ h. sym (beyond-absent t (s .threads t) (N .threads t) h))
+
+      runs : linked (word m (at running)) ≡ s .runs
+      runs = ap linked (M .slots running tt) ∙ linked-back (s .runs) (N .runs-small)
+
+      levels : (p : ℕ) → pick (leb p 255) (queueFrom m p) [] ≡ s .levels p
+      levels p =
+          pick-is 255 (queueFrom m p) [] p (s .levels p)
+          (λ h. queue-back p (omega arith) ∙ queues-level s p h) (λ h. sym (N .unused-level p h))
+
+      endpoint-here : (e : ℕ) → e ≤ 63
+          → endpointFrom (λ p. word m (at (ofEndpoint p e))) (queueFrom m (256 + e)) ≡ s .endpoints e
+      endpoint-here e h =
+          ap (λ (w : Part → ℕ). endpointFrom w (queueFrom m (256 + e))) (fun-ext (λ p. M .slots (ofEndpoint p e) h))
+          ∙ ap (endpointFrom (endpointWord (s .endpoints e))) (queue-back (256 + e) (omega arith) ∙ queues-endpoint s e)
+          ∙ endpoint-back (s .endpoints e) (N .endpoints e) (S .queues .queued-once e)
+
+      endpoints : (e : ℕ)
+          → pick (leb e 63) (endpointFrom (λ p. word m (at (ofEndpoint p e))) (queueFrom m (256 + e))) missingEndpoint
+          ≡ s .endpoints e
+      endpoints e =
+          pick-is 63 (endpointFrom (λ p. word m (at (ofEndpoint p e))) (queueFrom m (256 + e))) missingEndpoint e
+          (s .endpoints e) (endpoint-here e) (λ h. sym (N .unused-endpoint e h))
+
+      lines : (l : ℕ) → pick (leb l 31) (lineOf (word m (at (ofLine l)))) quiet ≡ s .lines l
+      lines l =
+          pick-is 31 (lineOf (word m (at (ofLine l)))) quiet l (s .lines l)
+          (λ h. ap lineOf (M .slots (ofLine l) h) ∙ line-back (s .lines l) (N .line-small l))
+          (λ h. sym (N .unused-line l h))

@@ -1,0 +1,195 @@
+-- Each state with sound numbers and queues has one memory, its image; and the fresh state's is all 0.
+-- Assumes nothing.
+use Prim.Native.Nat.{ℕ, zero, suc, _≤_, _<_}
+use mathlib.Core.Path.{_≡_, refl, sym, _∙_, ap, subst}
+use mathlib.Core.Logic.{_⊎_, inl, inr}
+use mathlib.Core.Bool.{Bool, true, false, not}
+use mathlib.Core.List.{List, []}
+use native.Mathlib.Omega.{arith}
+use lib.Dec.{eqb, ltb}
+use lib.ListN.{length, getD, replicate, length-replicate, getD-replicate}
+use lib.Seq.{ext-getD}
+use Rattle.machine.specs.Lists.{pick, Mem}
+use Rattle.machine.specs.State.{State, freshState, absentThread, missingEndpoint}
+use Rattle.machine.specs.Sound.{Ranges, Queues}
+use Rattle.machine.proofs.Lists.{mem?}
+use Rattle.summary.specs.Levels.{wordOf, topOf, bits}
+use Rattle.layout.specs.Addresses.{Field, place, priority, ticks, outcome, badge, message, owes, note, Part}
+use Rattle.layout.specs.Addresses.{status, aborting, aborted, owner, cursor, end, ofThread, ofEndpoint, ofLine}
+use Rattle.layout.specs.Addresses.{summary, top, running, unused, next, prev, head, tail, Name, slot, link, Valid}
+use Rattle.layout.specs.Addresses.{address, at, linkAt, nameOf, word}
+use Rattle.layout.specs.Words.{firstOf, lastOf, threadWord, endpointWord, afterIn, beforeIn, queuesOf, queueOf}
+use Rattle.layout.specs.Words.{wordAt, tabulate, image, occupiedIn}
+use Rattle.layout.specs.Shows.{Chain, Shows}
+use Rattle.layout.proofs.Addresses.{name-address, address-small, named}
+use Rattle.layout.proofs.Chains.{chain-first, chain-last, chain-after, chain-before, chain-of, after-none}
+use Rattle.layout.proofs.Chains.{before-none}
+use Rattle.layout.proofs.Standing.{stands, stands-there, queue-distinct, queue-small, queue-apart}
+
+length-tabulate : (n : ℕ) (f : ℕ → ℕ) → length (tabulate n f) ≡ n
+unfolding tabulate
+length-tabulate zero f = refl
+length-tabulate (suc n) f = ap suc (length-tabulate n (λ i. f (suc i)))
+
+getD-tabulate : (n : ℕ) (f : ℕ → ℕ) (i : ℕ) → i < n → getD (tabulate n f) i 0 ≡ f i
+unfolding tabulate
+getD-tabulate zero f i h = absurd (omega arith)
+getD-tabulate (suc n) f zero h = refl
+getD-tabulate (suc n) f (suc i) h = getD-tabulate n (λ k. f (suc k)) i (omega arith)
+
+pub length-image : (s : State) → length (image s) ≡ 4096
+unfolding image
+length-image s = length-tabulate 4096 (λ i. wordAt s (nameOf i))
+
+word-image : (s : State) (i : ℕ) → i < 4096 → word (image s) i ≡ wordAt s (nameOf i)
+unfolding image word
+word-image s i h = getD-tabulate 4096 (λ i. wordAt s (nameOf i)) i h
+
+-- The image holds at each name the word of that name.
+pub image-name : (s : State) (a : Name) → Valid a → word (image s) (address a) ≡ wordAt s a
+image-name s a h = word-image s (address a) (address-small a h) ∙ ap (wordAt s) (name-address a h)
+
+-- Two memories with the same words at all names are one.
+pub same-memory :
+    (m n : List ℕ) → length m ≡ 4096 → length n ≡ 4096
+    → ((a : Name) → Valid a → word m (address a) ≡ word n (address a)) → m ≡ n
+unfolding word
+same-memory m n h g f =
+    ext-getD 0 m n (h ∙ sym g) (λ i k. let w = named i (subst (λ (j : ℕ). i < j) h k) in
+    subst (λ (j : ℕ). getD m j 0 ≡ getD n j 0) (w .here) (f (w .name) (w .valid)))
+
+module _ (s : State) (R : Ranges s) (Q : Queues s) where
+  module _ (m : List ℕ) (S : Shows m s) where
+    -- The links of a thread in a memory that shows the state.
+    link-words :
+        (t : ℕ) → t ≤ 255
+        → (word m (linkAt (next t)) ≡ afterIn t (queueOf s t)) × (word m (linkAt (prev t)) ≡ beforeIn 0 t (queueOf s t))
+    link-words t h = go (mem? t (queueOf s t))
+      where
+        go : Mem t (queueOf s t) ⊎ (Mem t (queueOf s t) → ⊥)
+            → (word m (linkAt (next t)) ≡ afterIn t (queueOf s t))
+            × (word m (linkAt (prev t)) ≡ beforeIn 0 t (queueOf s t))
+        go (inl k) =
+            let w = stands s R Q t k in
+            let q = w .queue in
+            let c = subst (λ (l : List ℕ). Chain m q 0 l 0) (w .here) (S .links .chains q (w .small)) in
+            (chain-after m q 0 t (queueOf s t) c k, chain-before m q 0 t (queueOf s t) c k)
+        go (inr n) =
+            let z = S .links .bare t h (λ q g k. n (subst (Mem t) (stands-there s R Q t q g k) k)) in
+            (z .0 ∙ sym (after-none t (queueOf s t) n), z .1 ∙ sym (before-none 0 t (queueOf s t) n))
+
+    shown : (a : Name) → Valid a → word m (address a) ≡ wordAt s a
+    shown (slot a) h = S .slots a h
+    shown (link (next t)) h = link-words t h .0
+    shown (link (prev t)) h = link-words t h .1
+    shown (link (head q)) h = chain-first m q 0 (queuesOf s q) (S .links .chains q h)
+    shown (link (tail q)) h = chain-last m q 0 (queuesOf s q) (S .links .chains q h)
+
+    -- A memory that shows the state is its image.
+    pub shows-image : m ≡ image s
+    shows-image =
+        same-memory m (image s) (S .size) (length-image s) (λ a h. shown a h ∙ sym (image-name s a h))
+
+  -- The image shows the state.
+  pub image-shows : Shows (image s) s
+  image-shows =
+      record {
+        size = length-image s;
+        links =
+            record {
+              chains = chained;
+              small = queue-small s R Q;
+              once = queue-distinct s R Q;
+              apart = queue-apart s R Q;
+              bare = alone;
+            };
+        slots = λ a h. image-name s (slot a) h;
+      }
+    where
+      chained : (q : ℕ) → q ≤ 319 → Chain (image s) q 0 (queuesOf s q) 0
+      chained q h =
+          chain-of (image s) q 0 (queuesOf s q) (queue-distinct s R Q q h) (image-name s (link (head q)) h)
+          (image-name s (link (tail q)) h)
+          (λ t k. image-name s (link (next t)) (queue-small s R Q q t h k)
+          ∙ ap (afterIn t) (sym (stands-there s R Q t q h k)))
+          (λ t k. image-name s (link (prev t)) (queue-small s R Q q t h k)
+          ∙ ap (beforeIn 0 t) (sym (stands-there s R Q t q h k)))
+
+      alone : (t : ℕ) → t ≤ 255 → ((q : ℕ) → q ≤ 319 → Mem t (queuesOf s q) → ⊥)
+          → (word (image s) (linkAt (next t)) ≡ 0) × (word (image s) (linkAt (prev t)) ≡ 0)
+      alone t h n =
+          let away : Mem t (queueOf s t) → ⊥
+          = λ k. let w = stands s R Q t k in n (w .queue) (w .small) (subst (Mem t) (sym (w .here)) k) in (
+            image-name s (link (next t)) h ∙ after-none t (queueOf s t) away,
+            image-name s (link (prev t)) h ∙ before-none 0 t (queueOf s t) away,
+          )
+
+-- The summary in the image is that of the levels with a ready thread.
+
+pub image-summary : (s : State) (w : ℕ) → w ≤ 7 → word (image s) (at (summary w)) ≡ wordOf (occupiedIn s) w
+image-summary s w h = image-name s (slot (summary w)) h
+
+pub image-top : (s : State) → word (image s) (at top) ≡ topOf (occupiedIn s)
+image-top s = image-name s (slot top) tt
+
+-- The memory with no thread, endpoint or pending line is all 0.
+
+bits-none : (n : ℕ) (f : ℕ → Bool) → ((k : ℕ) → f k ≡ false) → bits n f ≡ 0
+unfolding bits
+bits-none zero f h = refl
+bits-none (suc n) f h = rw (h n, bits-none n f h)
+
+word-none : (w : ℕ) → wordOf (λ p. false) w ≡ 0
+unfolding wordOf
+word-none w = bits-none 32 (λ k. false) (λ k. refl)
+
+top-none : topOf (λ p. false) ≡ 0
+unfolding topOf
+top-none = bits-none 8 (λ w. not (eqb (wordOf (λ p. false) w) 0)) (λ w. rw (word-none w))
+
+fresh-thread : (f : Field) → threadWord absentThread f ≡ 0
+fresh-thread place = refl
+fresh-thread priority = refl
+fresh-thread ticks = refl
+fresh-thread outcome = refl
+fresh-thread badge = refl
+fresh-thread message = refl
+fresh-thread owes = refl
+fresh-thread note = refl
+
+fresh-endpoint : (p : Part) → endpointWord missingEndpoint p ≡ 0
+fresh-endpoint status = refl
+fresh-endpoint aborting = refl
+fresh-endpoint aborted = refl
+fresh-endpoint owner = refl
+fresh-endpoint cursor = refl
+fresh-endpoint end = refl
+
+fresh-queues : (q : ℕ) → queuesOf freshState q ≡ []
+unfolding queuesOf
+fresh-queues q = go (ltb q 256)
+  where
+    go : (b : Bool) → pick {A = List ℕ} b [] [] ≡ []
+    go true = refl
+    go false = refl
+
+fresh-word : (a : Name) → wordAt freshState a ≡ 0
+fresh-word (slot (ofThread f t)) = fresh-thread f
+fresh-word (slot (ofEndpoint p e)) = fresh-endpoint p
+fresh-word (slot (ofLine l)) = refl
+fresh-word (slot (summary w)) = word-none w
+fresh-word (slot top) = top-none
+fresh-word (slot running) = refl
+fresh-word (slot (unused i)) = refl
+fresh-word (link (next t)) = unfold queueOf afterIn in refl
+fresh-word (link (prev t)) = unfold queueOf beforeIn in refl
+fresh-word (link (head q)) = ap firstOf (fresh-queues q)
+fresh-word (link (tail q)) = ap (lastOf 0) (fresh-queues q)
+
+pub image-fresh : image freshState ≡ replicate 4096 0
+image-fresh =
+    same-memory (image freshState) (replicate 4096 0) (length-image freshState) (length-replicate {A = ℕ} 4096 0)
+    (λ a h. image-name freshState a h ∙ fresh-word a ∙ sym (zero (address a) (address-small a h)))
+  where
+    zero : (i : ℕ) → i < 4096 → word (replicate 4096 0) i ≡ 0
+    zero i h = unfold word in getD-replicate 4096 i 0 0 h

@@ -1,0 +1,14 @@
+pub mod Addresses
+pub mod Chains
+pub mod Codes
+pub mod Standing
+pub mod Image
+pub mod Blocks
+pub mod Walks
+pub mod Ends
+pub mod Neat
+pub mod Decode
+pub mod Tests
+pub mod Decision
+pub mod Tables
+pub mod Stores

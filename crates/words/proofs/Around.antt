@@ -1,0 +1,23 @@
+-- The links around a link: link 0 is the queue itself, link t + 1 is thread t. Assumes nothing.
+use Prim.Native.Nat.{ℕ, zero, suc, _-_}
+use mathlib.Core.Path.{_≡_, refl, ap, sym, _∙_, subst}
+use native.Mathlib.Omega.{arith}
+use Rattle.layout.specs.Addresses.{linkAt, next, prev, head, tail, afterAt, beforeAt}
+use Rattle.words.specs.Access.{Address}
+
+module _ (q : ℕ) {r : ℕ} where
+  pub after-queue : (x : ℕ) → x ≡ 0 → Address r (linkAt (head q)) → Address r (afterAt q x)
+  after-queue x e a = subst (λ (y : ℕ). Address r (afterAt q y)) (sym e) a
+
+  pub before-queue : (x : ℕ) → x ≡ 0 → Address r (linkAt (tail q)) → Address r (beforeAt q x)
+  before-queue x e a = subst (λ (y : ℕ). Address r (beforeAt q y)) (sym e) a
+
+  pub after-thread : (x : ℕ) → (x ≡ 0 → ⊥) → Address r (linkAt (next (x - 1))) → Address r (afterAt q x)
+  after-thread zero n a = absurd (n refl)
+  after-thread (suc t) n a =
+      let e : suc t - 1 ≡ t = omega arith in subst (λ (y : ℕ). Address r (linkAt (next y))) e a
+
+  pub before-thread : (x : ℕ) → (x ≡ 0 → ⊥) → Address r (linkAt (prev (x - 1))) → Address r (beforeAt q x)
+  before-thread zero n a = absurd (n refl)
+  before-thread (suc t) n a =
+      let e : suc t - 1 ≡ t = omega arith in subst (λ (y : ℕ). Address r (linkAt (prev y))) e a

@@ -1,0 +1,18 @@
+-- The address is that of the layout, and lies in the memory. Assumes nothing.
+use borrow.Author.Needs.{needs}
+use Rattle.layout.specs.Addresses.{at, offset}
+use Rattle.words.proofs.end_at.Statement.{statement}
+use Rattle.words.proofs.end_at.Tie as tie
+
+mul-result : tie.Need-mul-result
+mul-result c = search needs
+
+add-result : tie.Need-add-result
+add-result c = search needs
+
+returns : tie.Need-returns
+unfolding at offset
+returns c = search needs
+
+pub end-at-spec : {M : Type 1} → statement M
+end-at-spec = tie.close (tie.spec mul-result add-result returns)

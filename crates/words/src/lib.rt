@@ -1,0 +1,227 @@
+// The addresses of the lent words, and the two functions that read and write one. The arithmetic of the layout stands here and in
+// specs/Addresses of crate layout, and nowhere else.
+ghost use mathlib.Core.Path.{_≡_};
+ghost use Prim.Native.Nat.{_≤_, _<_};
+ghost use lib.ListN.{length, set};
+ghost use Rattle.layout.specs.Addresses.{at, linkAt, word, afterAt, beforeAt, ofThread, ofEndpoint, ofLine, summary, top, running, unused, place, priority, ticks, outcome, badge, message, owes, note, status, aborting, aborted, owner, cursor, end, next, prev, head, tail};
+ghost use Rattle.words.specs.Access.{Address};
+
+// The word at an address.
+pub fn get(tables: &[u32], i: usize) -> u32
+    requires { ⌜ i < length (now tables) ⌝ }
+    ensures { λ r. ⌜ r ≡ word (now (tables .entry)) i ⌝ }
+{
+    tables[i]
+}
+
+// A word becomes v.
+pub fn put(tables: &mut [u32], i: usize, v: u32)
+    requires { ⌜ i < length (now tables) ⌝ }
+    ensures { λ _. ⌜ now (tables .exit) ≡ set (now (tables .entry)) i v ⌝ }
+{
+    tables[i] = v;
+}
+
+// The place of thread t.
+pub fn place_at(t: usize) -> usize
+    requires { ⌜ t ≤ 255 ⌝ }
+    ensures { λ r. ⌜ Address r (at (ofThread place t)) ⌝ }
+{
+    10 * t
+}
+
+// The priority of thread t.
+pub fn priority_at(t: usize) -> usize
+    requires { ⌜ t ≤ 255 ⌝ }
+    ensures { λ r. ⌜ Address r (at (ofThread priority t)) ⌝ }
+{
+    10 * t + 1
+}
+
+// The ticks of thread t.
+pub fn ticks_at(t: usize) -> usize
+    requires { ⌜ t ≤ 255 ⌝ }
+    ensures { λ r. ⌜ Address r (at (ofThread ticks t)) ⌝ }
+{
+    10 * t + 2
+}
+
+// The outcome of thread t.
+pub fn outcome_at(t: usize) -> usize
+    requires { ⌜ t ≤ 255 ⌝ }
+    ensures { λ r. ⌜ Address r (at (ofThread outcome t)) ⌝ }
+{
+    10 * t + 3
+}
+
+// The badge of thread t.
+pub fn badge_at(t: usize) -> usize
+    requires { ⌜ t ≤ 255 ⌝ }
+    ensures { λ r. ⌜ Address r (at (ofThread badge t)) ⌝ }
+{
+    10 * t + 4
+}
+
+// The message of thread t.
+pub fn message_at(t: usize) -> usize
+    requires { ⌜ t ≤ 255 ⌝ }
+    ensures { λ r. ⌜ Address r (at (ofThread message t)) ⌝ }
+{
+    10 * t + 5
+}
+
+// The owes of thread t.
+pub fn owes_at(t: usize) -> usize
+    requires { ⌜ t ≤ 255 ⌝ }
+    ensures { λ r. ⌜ Address r (at (ofThread owes t)) ⌝ }
+{
+    10 * t + 8
+}
+
+// The note of thread t.
+pub fn note_at(t: usize) -> usize
+    requires { ⌜ t ≤ 255 ⌝ }
+    ensures { λ r. ⌜ Address r (at (ofThread note t)) ⌝ }
+{
+    10 * t + 9
+}
+
+// The status word of endpoint e.
+pub fn status_at(e: usize) -> usize
+    requires { ⌜ e ≤ 63 ⌝ }
+    ensures { λ r. ⌜ Address r (at (ofEndpoint status e)) ⌝ }
+{
+    3200 + 6 * e
+}
+
+// The aborting word of endpoint e.
+pub fn aborting_at(e: usize) -> usize
+    requires { ⌜ e ≤ 63 ⌝ }
+    ensures { λ r. ⌜ Address r (at (ofEndpoint aborting e)) ⌝ }
+{
+    3201 + 6 * e
+}
+
+// The aborted word of endpoint e.
+pub fn aborted_at(e: usize) -> usize
+    requires { ⌜ e ≤ 63 ⌝ }
+    ensures { λ r. ⌜ Address r (at (ofEndpoint aborted e)) ⌝ }
+{
+    3202 + 6 * e
+}
+
+// The owner word of endpoint e.
+pub fn owner_at(e: usize) -> usize
+    requires { ⌜ e ≤ 63 ⌝ }
+    ensures { λ r. ⌜ Address r (at (ofEndpoint owner e)) ⌝ }
+{
+    3203 + 6 * e
+}
+
+// The cursor word of endpoint e.
+pub fn cursor_at(e: usize) -> usize
+    requires { ⌜ e ≤ 63 ⌝ }
+    ensures { λ r. ⌜ Address r (at (ofEndpoint cursor e)) ⌝ }
+{
+    3204 + 6 * e
+}
+
+// The end word of endpoint e.
+pub fn end_at(e: usize) -> usize
+    requires { ⌜ e ≤ 63 ⌝ }
+    ensures { λ r. ⌜ Address r (at (ofEndpoint end e)) ⌝ }
+{
+    3205 + 6 * e
+}
+
+// Line l.
+pub fn line_at(l: usize) -> usize
+    requires { ⌜ l ≤ 31 ⌝ }
+    ensures { λ r. ⌜ Address r (at (ofLine l)) ⌝ }
+{
+    3584 + l
+}
+
+// Word w of the summary.
+pub fn summary_at(w: usize) -> usize
+    requires { ⌜ w ≤ 7 ⌝ }
+    ensures { λ r. ⌜ Address r (at (summary w)) ⌝ }
+{
+    3616 + w
+}
+
+// The top word of the summary.
+pub fn top_at() -> usize
+    ensures { λ r. ⌜ Address r (at top) ⌝ }
+{
+    3624
+}
+
+// The running thread.
+pub fn running_at() -> usize
+    ensures { λ r. ⌜ Address r (at running) ⌝ }
+{
+    3625
+}
+
+// An unused word.
+pub fn unused_at(i: usize) -> usize
+    requires { ⌜ i ≤ 469 ⌝ }
+    ensures { λ r. ⌜ Address r (at (unused i)) ⌝ }
+{
+    3626 + i
+}
+
+// The link of thread t to the next in its queue.
+pub fn next_at(t: usize) -> usize
+    requires { ⌜ t ≤ 255 ⌝ }
+    ensures { λ r. ⌜ Address r (linkAt (next t)) ⌝ }
+{
+    10 * t + 6
+}
+
+// The link of thread t to the one before it in its queue.
+pub fn prev_at(t: usize) -> usize
+    requires { ⌜ t ≤ 255 ⌝ }
+    ensures { λ r. ⌜ Address r (linkAt (prev t)) ⌝ }
+{
+    10 * t + 7
+}
+
+// The first of queue q: that of level q, or of endpoint q - 256.
+pub fn head_at(q: usize) -> usize
+    requires { ⌜ q ≤ 319 ⌝ }
+    ensures { λ r. ⌜ Address r (linkAt (head q)) ⌝ }
+{
+    2560 + 2 * q
+}
+
+// The last of queue q.
+pub fn tail_at(q: usize) -> usize
+    requires { ⌜ q ≤ 319 ⌝ }
+    ensures { λ r. ⌜ Address r (linkAt (tail q)) ⌝ }
+{
+    2561 + 2 * q
+}
+
+// The link after link x of queue q: link 0 is the queue itself, link t + 1 is thread t.
+pub fn after_at(q: usize, x: usize) -> usize
+    requires { ⌜ (q ≤ 319) × (x ≤ 256) ⌝ }
+    ensures { λ r. ⌜ Address r (afterAt q x) ⌝ }
+{
+    if x == 0 {
+        return head_at(q);
+    }
+    next_at(x - 1)
+}
+
+// The link before link x of queue q.
+pub fn before_at(q: usize, x: usize) -> usize
+    requires { ⌜ (q ≤ 319) × (x ≤ 256) ⌝ }
+    ensures { λ r. ⌜ Address r (beforeAt q x) ⌝ }
+{
+    if x == 0 {
+        return tail_at(q);
+    }
+    prev_at(x - 1)
+}
