@@ -16,3 +16,4 @@ pub mod Interrupts
 pub mod Steps
 pub mod Computed
 pub mod Histories
+pub mod Marks
