@@ -16,4 +16,6 @@ pub mod Interrupts
 pub mod Steps
 pub mod Computed
 pub mod Histories
+pub mod Running
+pub mod Ticks
 pub mod Marks

@@ -2,19 +2,19 @@
 -- Assumes nothing.
 use Prim.Native.Nat.{ℕ}
 use mathlib.Core.Path.{_≡_, refl, sym, _∙_, ap, subst}
-use mathlib.Core.Logic.{_⊎_, inl, inr, _↔_}
+use mathlib.Core.Logic.{inl, inr, _↔_}
 use mathlib.Core.Bool.{Bool, true, false}
 use mathlib.Core.Option.{Option, none, some}
-use mathlib.Core.List.{List, [], _∷_, _++_, append-assoc, append-nil}
+use mathlib.Core.List.{List, [], _∷_, _++_, append-nil}
 use native.Mathlib.Omega.{arith}
 use borrow.Author.Tests.{eq-eqb, ne-eqb}
-use Rattle.machine.specs.Lists.{put, without, first, Mem, Distinct}
-use Rattle.machine.specs.State.{State, Thread, able, Abort, Endpoint, withPlace}
+use Rattle.machine.specs.Lists.{without, first, Mem, Distinct}
+use Rattle.machine.specs.State.{State, able, Abort, Endpoint, withPlace}
 use Rattle.machine.specs.Scheduling.{enqueue, wake}
 use Rattle.machine.specs.Endpoints.{pendingOf, passing, setAbort, leaveEndpoint, wakeFrom}
 use Rattle.machine.specs.Aborts.{hits, lookAt, look, pendingAt}
 use Rattle.machine.specs.Work.{last, cursorAt, endMarkAt}
-use Rattle.machine.proofs.Lists.{Same, same, other, same?, put-same, without-hit, without-miss, without-nil, without-none, without-append, without-first, mem-without, mem-left, mem-right, distinct-apart}
+use Rattle.machine.proofs.Lists.{Same, same, other, same?, put-same, without-hit, without-miss, without-nil, without-none, without-append, without-first, mem-without, distinct-apart}
 
 -- Lists: the first and the last when one leaves
 
