@@ -19,3 +19,6 @@ pub mod Histories
 pub mod Running
 pub mod Ticks
 pub mod Marks
+pub mod Loops
+pub mod Shapes
+pub mod Answers

@@ -90,6 +90,9 @@ module _ (e t : ℕ) (s : State) where
   unfolding wakeFrom wake enqueue
   wake-endpoints o b m = refl
 
+  pub wake-waiters : (o b m : ℕ) → wakeFrom e t o b m s .endpoints e .waiters ≡ without t (s .endpoints e .waiters)
+  wake-waiters o b m = rw (wake-endpoints o b m) (ap (λ (x : Endpoint). x .waiters) leave-endpoint)
+
   wake-thread : (o b m : ℕ) → wakeFrom e t o b m s .threads t ≡ withPlace able o b m (s .threads t)
   unfolding wakeFrom wake enqueue leaveEndpoint
   wake-thread o b m = put-same _ t _

@@ -89,8 +89,8 @@ dispatched s = go (highest-below 256 (s .levels))
     go (nowhere h) = idle (λ p l. h p (omega arith))
     go (top p t q l e h) = rw e (head p t q (omega arith) e (λ k l. h k (omega arith)))
 
--- "If nobody runs, or a level above the running thread's is occupied, the head of the highest queue runs": the choice in
--- state s, with o running before, leaves state r.
+-- "If nobody runs, or a level above the running thread's is occupied, the head of the highest queue runs": what the
+-- choice in state s comes to, by who ran before.
 pub data Choice (s : State) : Option ℕ → State → Type 0 where
   nobody : {r : State} → Dispatched s r → Choice s none r
   displaced :

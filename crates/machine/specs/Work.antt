@@ -45,7 +45,7 @@ pub data WorkLeft (s r : State) : Call → Type 0 where
   to-remove : {e a : ℕ} (w : ℕ) → Mem w (r .endpoints e .waiters) → WorkLeft s r (Delete e a)
   -- a waiter still to look at
   to-look : {e a b : ℕ} (w : ℕ) → Mem w (pendingAt e r) → WorkLeft s r (Abort e a b)
-  -- the caller's own abort not yet begun: another badge's stood, and the looks that it wanted were the allowance or more
+  -- the caller's own abort not yet begun: another badge's stood, and no allowance remains after the looks that it wants
   not-begun :
       {e a b : ℕ} (x : State.Abort) → s .endpoints e .abort ≡ some x → (x .badge ≡ b → ⊥)
       → a ≤ length (x .pending) → WorkLeft s r (Abort e a b)
