@@ -33,7 +33,7 @@ kept-at (some p) s = kept-head (s .levels p) p s
 
 kept-displace : (b : Bool) (t : ℕ) (s : State) → Kept s (displace b t s)
 unfolding displace dispatch standDown enqueue
-kept-displace true t s = kept-at (highest (standDown t s .levels)) (standDown t s)
+kept-displace true t s = kept-at _ _
 kept-displace false t s = (refl, refl, refl)
 
 kept-for : (o : Option ℕ) (s : State) → Kept s (chooseFor o s)

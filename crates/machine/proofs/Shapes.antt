@@ -145,7 +145,8 @@ module _ (s : State) (e a : ℕ) where
       (j : ℕ) (r : State) (w : ℕ) → Mem w (r .endpoints e .waiters) → j ≡ a → Removed s e j r
       → Shape s (Delete e a) (accept (counted 2 j) [] r)
   removed-some j r w m k R =
-      removed 2 j r (lit≤ tt) (le-of-eq k) (always (k, to-remove w (subst (λ (l : List ℕ). Mem w l) (sym (chosen-waiters e r)) m)))
+      removed 2 j r (lit≤ tt) (le-of-eq k)
+      (always (k, to-remove w (subst (λ (l : List ℕ). Mem w l) (sym (chosen-waiters e r)) m)))
       (removed-chosen e s r j R)
 
   deleted-shape :
@@ -213,8 +214,8 @@ module _ (s : State) (e a b : ℕ) where
 
 module _ (s : State) (t e a b : ℕ) where
   ended-shape :
-      (l : List ℕ) (k : List Look) (r : State) → pendingAt e r ≡ l → length k ≤ a → (pendingAt e r ≡ []) ⊎ (length k ≡ a)
-      → Begun s e a b → Shape s (Abort e a b) (ended l t e k r)
+      (l : List ℕ) (k : List Look) (r : State) → pendingAt e r ≡ l → length k ≤ a
+      → (pendingAt e r ≡ []) ⊎ (length k ≡ a) → Begun s e a b → Shape s (Abort e a b) (ended l t e k r)
   unfolding ended endAbort
   ended-shape [] k r h i p B =
       looked-all s e a b k _ i (ap (λ (x : Endpoint). pendingOf (x .abort)) (put-same _ e _)) B
