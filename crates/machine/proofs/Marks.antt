@@ -128,8 +128,7 @@ module _ (e w : ℕ) (s : State) where
     unfolding hits
     look-removes b =
         let h : look e w s ≡ wakeFrom e w 3 0 0 s = look-hit (rw stands (eq-eqb _ _ (sym b))) in (
-          ap (λ (r : State). r .endpoints e .waiters) h
-              ∙ rw (wake-endpoints e w s 3 0 0) (ap (λ (x : Endpoint). x .waiters) (leave-endpoint e w s)),
+          ap (λ (r : State). r .endpoints e .waiters) h ∙ wake-waiters e w s 3 0 0,
           ap (λ (r : State). r .threads w) h ∙ wake-thread e w s 3 0 0,
         )
 
