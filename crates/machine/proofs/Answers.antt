@@ -5,7 +5,7 @@ use mathlib.Core.Path.{_≡_, refl, sym, _∙_, ap, subst}
 use mathlib.Core.Logic.{_⊎_, inl, inr, _↔_}
 use mathlib.Core.Bool.{Bool, true}
 use mathlib.Core.Option.{Option, none, some}
-use mathlib.Core.List.{[], _++_}
+use mathlib.Core.List.{[]}
 use native.Mathlib.Omega.{arith}
 use lib.Dec.{lit≤}
 use borrow.Author.Tests.{eq-eqb}
@@ -22,7 +22,9 @@ use Rattle.machine.specs.Aborts.{pendingAt, hasNote, abortUnless, abort}
 use Rattle.machine.specs.Machine.{byCaller, perform, performIf, step}
 use Rattle.machine.specs.Sound.{Sound}
 use Rattle.machine.specs.Work.{allowanceOf, WorkLeft, to-remove, to-look, not-begun}
-use Rattle.machine.proofs.Lists.{put-same, distinct-left, distinct-right}
+use Rattle.machine.proofs.Lists.{put-same}
+use Rattle.machine.proofs.Mid.{sound-mid}
+use Rattle.machine.proofs.Looking.{pending-once}
 use Rattle.machine.proofs.Running.{goes-on-exactly}
 use Rattle.machine.proofs.Shapes.{Shape, refused, plainly, handed, removed, looked, shape}
 
@@ -146,15 +148,12 @@ broken-off-exactly s c D = go (shape s c)
     go (removed n j r l i x k) h = x
     go (looked {e = e} n k r l i x) h = x (D e)
 
-pub pending-once : {s : State} → Sound s → (e : ℕ) → Distinct (pendingAt e s)
-pending-once {s} S e = go (s .endpoints e .abort) refl
+pub sound-once : {s : State} → Sound s → (e : ℕ) → Distinct (pendingAt e s)
+sound-once {s} S e = go (s .endpoints e .abort) refl
   where
     go : (x : Option State.Abort) → s .endpoints e .abort ≡ x → Distinct (pendingOf x)
     go none h = tt
-    go (some x) h =
-        let P = S .marks .part e x h in
-        distinct-left (x .pending) (P .behind)
-        (distinct-right (P .before) (x .pending ++ P .behind) (rw (P .within) at (S .queues .queued-once e)))
+    go (some x) h = pending-once (sound-mid S) e x h
 
 module _ (s : State) (t e a b : ℕ) (in-range : inRange (Abort e a b) ≡ true) (runs : s .runs ≡ some t)
     (owed : s .threads t .debt ≡ noted e b) where
