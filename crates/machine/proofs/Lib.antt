@@ -16,3 +16,9 @@ pub mod Interrupts
 pub mod Steps
 pub mod Computed
 pub mod Histories
+pub mod Running
+pub mod Ticks
+pub mod Marks
+pub mod Loops
+pub mod Shapes
+pub mod Answers

@@ -39,7 +39,7 @@ part-rest {s} {e} {w} {l} P =
 
 module _ {s : State} (M : Mid s) (e : ℕ) (a : Abort) (h : s .endpoints e .abort ≡ some a) where
   -- Nobody is pending twice.
-  pending-once : Distinct (a .pending)
+  pub pending-once : Distinct (a .pending)
   pending-once =
       let P = M .marks .part e a h in
       distinct-left (a .pending) (P .behind)
