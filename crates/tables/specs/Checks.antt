@@ -1,0 +1,226 @@
+-- What the check tries of the words, test by test, as it goes through them. Nothing here has to be believed: that all tests
+-- hold exactly where the memory shows a sound state is a theorem, and the check's promise speaks of that alone.
+use Prim.Native.Nat.{ℕ, zero, suc, _+_, _-_, _^_}
+use mathlib.Core.Bool.{Bool, true, false, not, _&&_, _||_}
+use mathlib.Core.Option.{Option, none, some}
+use mathlib.Core.List.{List, [], _∷_}
+use lib.Dec.{eqb, leb, ltb}
+use Rattle.machine.specs.Lists.{pick}
+use Rattle.summary.specs.Levels.{wordOf, topOf}
+use Rattle.layout.specs.Addresses.{Field, place, priority, ticks, outcome, badge, message, owes, note, Part, status, aborting, aborted, owner, cursor, end, ofThread, ofEndpoint, ofLine, summary, top, running, unused, next, prev, head, at, linkAt, word, afterAt, beforeAt}
+use Rattle.layout.specs.Tables.{all, member, same}
+
+-- The words by name.
+abbrev pub threadIn : List ℕ → Field → ℕ → ℕ
+threadIn m f t = word m (at (ofThread f t))
+
+abbrev pub endpointIn : List ℕ → Part → ℕ → ℕ
+endpointIn m p e = word m (at (ofEndpoint p e))
+
+-- Blocks
+
+-- An absent thread's words are 0.
+unfoldable pub absentTest : List ℕ → ℕ → Bool
+absentTest m t =
+    eqb (threadIn m priority t) 0 && eqb (threadIn m ticks t) 0 && eqb (threadIn m outcome t) 0
+    && eqb (threadIn m badge t) 0 && eqb (threadIn m message t) 0 && eqb (threadIn m owes t) 0
+    && eqb (threadIn m note t) 0
+
+-- A present thread's numbers are in range.
+unfoldable pub numbersTest : List ℕ → ℕ → Bool
+numbersTest m t =
+    leb (threadIn m place t) 161 && leb (threadIn m priority t) 255
+    && (leb 1 (threadIn m ticks t) && leb (threadIn m ticks t) 5)
+    && leb (threadIn m outcome t) 5 && ltb (threadIn m badge t) (2 ^ 28) && ltb (threadIn m message t) (2 ^ 28)
+
+-- A blocked thread's outcome is 0, and badge and message stand only where a thread stores them.
+unfoldable pub storedTest : List ℕ → ℕ → Bool
+storedTest m t =
+    (eqb (threadIn m place t) 1 || eqb (threadIn m outcome t) 0)
+    && (eqb (threadIn m outcome t) 2 || (leb 2 (threadIn m place t) && ltb (threadIn m place t) 66)
+    || (eqb (threadIn m badge t) 0 && eqb (threadIn m message t) 0))
+
+-- A thread on a line is the line's waiter.
+unfoldable pub waitsTest : List ℕ → ℕ → Bool
+waitsTest m t =
+    ltb (threadIn m place t) 130 || eqb (word m (at (ofLine (threadIn m place t - 130)))) (suc (suc t))
+
+-- What a thread owes: nothing, an abort that names it as owner, or a note of a badge in range.
+unfoldable pub owesTest : ℕ → List ℕ → ℕ → Bool
+owesTest zero m t = eqb (threadIn m note t) 0
+owesTest (suc w) m t =
+    pick (ltb w 64) (eqb (threadIn m note t) 0 && eqb (endpointIn m owner w) (suc t))
+    (ltb w 128 && ltb (threadIn m note t) (2 ^ 28))
+
+unfoldable pub presentTest : List ℕ → ℕ → Bool
+presentTest m t = numbersTest m t && storedTest m t && waitsTest m t && owesTest (threadIn m owes t) m t
+
+unfoldable pub blockTest : List ℕ → ℕ → Bool
+blockTest m t = pick (eqb (threadIn m place t) 0) (absentTest m t) (presentTest m t)
+
+-- Queues of the levels
+
+-- A thread ready at level p.
+unfoldable pub readyTest : List ℕ → ℕ → ℕ → Bool
+readyTest m p t =
+    eqb (threadIn m place t) 1 && eqb (threadIn m priority t) p && not (eqb (word m (at running)) (suc t))
+
+-- The queue of level p from link x on, n - 1 threads at most: each is linked back to the one before it and ready at p.
+unfoldable pub levelFrom : ℕ → ℕ → List ℕ → ℕ → ℕ → Bool
+levelFrom zero y m p x = false
+levelFrom (suc n) zero m p x = eqb (word m (beforeAt p 0)) x
+levelFrom (suc n) (suc t) m p x =
+    (leb t 255 && eqb (word m (beforeAt p (suc t))) x && readyTest m p t)
+    && levelFrom n (word m (afterAt p (suc t))) m p (suc t)
+
+unfoldable pub levelTest : List ℕ → ℕ → Bool
+levelTest m p = levelFrom 257 (word m (afterAt p 0)) m p 0
+
+-- Queues of the endpoints
+
+-- Where a walk through an abort's queue is: before its cursor, from there to its end mark, or past that.
+pub data Phase : Type 0 where
+  ahead : Phase
+  inside : Phase
+  past : Phase
+
+-- The phase at link y, and behind it.
+unfoldable pub enter : Phase → ℕ → ℕ → Phase
+enter ahead c y = pick (eqb y c) inside ahead
+enter inside c y = inside
+enter past c y = past
+
+unfoldable pub leave : Phase → ℕ → ℕ → Phase
+leave ahead d y = ahead
+leave inside d y = pick (eqb y d) past inside
+leave past d y = past
+
+-- No sender under the aborted badge stands outside; b is 2 ^ 28 where there is none.
+unfoldable pub allowed : Phase → ℕ → ℕ → Bool
+allowed ahead b w = not (eqb w b)
+allowed inside b w = true
+allowed past b w = not (eqb w b)
+
+-- At the end of the queue both marks have been met, or there are none.
+unfoldable pub complete : Phase → ℕ → Bool
+complete ahead c = eqb c 0
+complete inside c = false
+complete past c = true
+
+-- The queue q of an endpoint from link x on, whose threads have place k: with the phase behind x, the marks c and d, and the
+-- badge b that may not stand outside them.
+unfoldable pub waitersFrom : ℕ → ℕ → Phase → List ℕ → ℕ → ℕ → ℕ → ℕ → ℕ → ℕ → Bool
+waitersFrom zero y f m q k c d b x = false
+waitersFrom (suc n) zero f m q k c d b x = eqb (word m (beforeAt q 0)) x && complete f c
+waitersFrom (suc n) (suc t) f m q k c d b x =
+    (leb t 255 && eqb (word m (beforeAt q (suc t))) x && eqb (threadIn m place t) k
+    && allowed (enter f c (suc t)) b (threadIn m badge t))
+    && waitersFrom n (word m (afterAt q (suc t))) (leave (enter f c (suc t)) d (suc t)) m q k c d b (suc t)
+
+-- The place that all in the queue of endpoint e must have: that of its first, to send or to receive there.
+unfoldable pub kindOf : ℕ → List ℕ → ℕ → ℕ
+kindOf zero m e = 2 + e
+kindOf (suc t) m e = pick (leb t 255) (threadIn m place t) 0
+
+unfoldable pub bannedOf : List ℕ → ℕ → ℕ → ℕ
+bannedOf m e k = pick (eqb (endpointIn m aborting e) 1 && eqb k (2 + e)) (endpointIn m aborted e) (2 ^ 28)
+
+unfoldable pub waitersTest : List ℕ → ℕ → Bool
+waitersTest m e =
+    (eqb (kindOf (word m (linkAt (head (256 + e)))) m e) (2 + e)
+    || (eqb (kindOf (word m (linkAt (head (256 + e)))) m e) (66 + e) && eqb (endpointIn m cursor e) 0))
+    && waitersFrom 257 (word m (afterAt (256 + e) 0)) ahead m (256 + e)
+    (kindOf (word m (linkAt (head (256 + e)))) m e) (endpointIn m cursor e) (endpointIn m end e)
+    (bannedOf m e (kindOf (word m (linkAt (head (256 + e)))) m e)) 0
+
+-- An owner owes: it names the endpoint.
+unfoldable pub ownerTest : ℕ → List ℕ → ℕ → Bool
+ownerTest zero m e = true
+ownerTest (suc t) m e = leb t 255 && eqb (threadIn m owes t) (suc e)
+
+-- No abort, or one of a badge in range.
+unfoldable pub abortTest : ℕ → List ℕ → ℕ → Bool
+abortTest zero m e =
+    eqb (endpointIn m aborted e) 0 && eqb (endpointIn m owner e) 0 && eqb (endpointIn m cursor e) 0
+    && eqb (endpointIn m end e) 0
+abortTest (suc zero) m e =
+    ltb (endpointIn m aborted e) (2 ^ 28) && ownerTest (endpointIn m owner e) m e
+    && same (eqb (endpointIn m cursor e) 0) (eqb (endpointIn m end e) 0)
+abortTest (suc (suc n)) m e = false
+
+-- An absent endpoint is empty; an absent or closing one has no abort.
+unfoldable pub statusTest : ℕ → List ℕ → ℕ → Bool
+statusTest zero m e = eqb (word m (linkAt (head (256 + e)))) 0 && eqb (endpointIn m aborting e) 0
+statusTest (suc zero) m e = true
+statusTest (suc (suc zero)) m e = eqb (endpointIn m aborting e) 0
+statusTest (suc (suc (suc n))) m e = false
+
+unfoldable pub endpointTest : List ℕ → ℕ → Bool
+endpointTest m e =
+    statusTest (endpointIn m status e) m e && abortTest (endpointIn m aborting e) m e && waitersTest m e
+
+-- Lines, summary, running thread, unused words
+
+-- A line's waiter waits on it.
+unfoldable pub lineFrom : ℕ → List ℕ → ℕ → Bool
+lineFrom zero m l = true
+lineFrom (suc zero) m l = true
+lineFrom (suc (suc t)) m l = leb t 255 && eqb (threadIn m place t) (130 + l)
+
+unfoldable pub lineTest : List ℕ → ℕ → Bool
+lineTest m l = lineFrom (word m (at (ofLine l))) m l
+
+-- Level p is occupied: its queue has a first.
+abbrev pub occupiedAt : List ℕ → ℕ → Bool
+occupiedAt m p = not (eqb (word m (linkAt (head p))) 0)
+
+unfoldable pub summaryTest : List ℕ → Bool
+summaryTest m =
+    all 8 (λ w. eqb (word m (at (summary w))) (wordOf (occupiedAt m) w)) && eqb (word m (at top)) (topOf (occupiedAt m))
+
+-- Nobody ready is above the running thread; none is ready if none runs.
+unfoldable pub runningFrom : ℕ → List ℕ → Bool
+runningFrom zero m = all 256 (λ p. not (occupiedAt m p))
+runningFrom (suc t) m =
+    leb t 255 && eqb (threadIn m place t) 1
+    && all 256 (λ p. leb p (threadIn m priority t) || not (occupiedAt m p))
+
+unfoldable pub runningTest : List ℕ → Bool
+runningTest m = runningFrom (word m (at running)) m
+
+unfoldable pub unusedTest : List ℕ → ℕ → Bool
+unusedTest m i = eqb (word m (at (unused i))) 0
+
+-- Each thread stands where its place says
+
+-- The threads met in queue q from a link on, n at most.
+unfoldable pub metFrom : ℕ → ℕ → List ℕ → List ℕ
+metFrom zero y m = []
+metFrom (suc n) zero m = []
+metFrom (suc n) (suc t) m = t ∷ metFrom n (word m (linkAt (next t))) m
+
+unfoldable pub met : List ℕ → ℕ → List ℕ
+met m q = metFrom 256 (word m (linkAt (head q))) m
+
+-- Met in one of the first n queues.
+unfoldable pub metBelow : ℕ → List ℕ → ℕ → Bool
+metBelow zero m t = false
+metBelow (suc q) m t = member t (met m q) || metBelow q m t
+
+-- A thread that is ready, sends or receives is in a queue.
+unfoldable pub queuedTest : List ℕ → ℕ → Bool
+queuedTest m t =
+    (eqb (threadIn m place t) 1 && not (eqb (word m (at running)) (suc t)))
+    || (leb 2 (threadIn m place t) && ltb (threadIn m place t) 130)
+
+-- It was met exactly if it is in a queue; whoever was not met has links 0.
+unfoldable pub placedTest : List ℕ → ℕ → Bool
+placedTest m t =
+    same (metBelow 320 m t) (queuedTest m t)
+    && (metBelow 320 m t || (eqb (word m (linkAt (next t))) 0 && eqb (word m (linkAt (prev t))) 0))
+
+-- All tests.
+unfoldable pub goodTest : List ℕ → Bool
+goodTest m =
+    all 256 (blockTest m) && all 256 (levelTest m) && all 64 (endpointTest m) && all 32 (lineTest m) && summaryTest m
+    && runningTest m && all 470 (unusedTest m) && all 256 (placedTest m)

@@ -1,0 +1,1 @@
+// The lent tables: made fresh, and checked.
