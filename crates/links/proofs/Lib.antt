@@ -1,0 +1,9 @@
+pub mod Names
+pub mod Splits
+pub mod Neatness
+pub mod Chains
+pub mod Readings
+pub mod Relinks
+pub mod Writes
+pub mod Joining
+pub mod Leaving

@@ -1,0 +1,101 @@
+-- What the links hold where they join a table of queues: the ends of a queue, and the neighbours of a thread in it.
+-- Assumes nothing.
+use Prim.Native.Nat.{ℕ, suc, _≤_}
+use mathlib.Core.Path.{_≡_, sym, _∙_, ap, subst}
+use mathlib.Core.Logic.{inr}
+use mathlib.Core.List.{List, [], _∷_, _++_}
+use Rattle.machine.proofs.Lists.{mem-left, mem-right}
+use Rattle.layout.specs.Addresses.{next, prev, head, tail, linkAt, word}
+use Rattle.layout.specs.Words.{firstOf, lastOf}
+use Rattle.layout.specs.Shows.{Chain, Linked}
+use Rattle.layout.proofs.Chains.{chain-first, chain-last}
+use Rattle.words.specs.Access.{Address}
+use Rattle.links.specs.Links.{First, Next, Prev}
+use Rattle.links.proofs.Splits.{Of, of-small, first-of, last-of, first-zero, last-zero, last-snoc}
+use Rattle.links.proofs.Chains.{chain-joint, chain-behind}
+
+module _ {m : List ℕ} {queues : ℕ → List ℕ} (L : Linked m queues) (q : ℕ) (h : q ≤ 319) where
+  -- The first and the last of a queue: 0 exactly where the queue is empty.
+
+  pub head-word : word m (linkAt (head q)) ≡ firstOf (queues q)
+  head-word = chain-first m q 0 (queues q) (L .chains q h)
+
+  pub tail-word : word m (linkAt (tail q)) ≡ lastOf 0 (queues q)
+  tail-word = chain-last m q 0 (queues q) (L .chains q h)
+
+  pub head-zero : word m (linkAt (head q)) ≡ 0 → queues q ≡ []
+  head-zero e = first-zero (queues q) (sym head-word ∙ e)
+
+  pub tail-zero : word m (linkAt (tail q)) ≡ 0 → queues q ≡ []
+  tail-zero e = last-zero (queues q) (sym tail-word ∙ e)
+
+  pub head-empty : queues q ≡ [] → word m (linkAt (head q)) ≡ 0
+  head-empty e = head-word ∙ ap firstOf e
+
+  pub tail-empty : queues q ≡ [] → word m (linkAt (tail q)) ≡ 0
+  tail-empty e = tail-word ∙ ap (lastOf 0) e
+
+  pub head-first : (t : ℕ) (l : List ℕ) → queues q ≡ t ∷ l → word m (linkAt (head q)) ≡ suc t
+  head-first t l e = head-word ∙ ap firstOf e
+
+  pub tail-last : (t : ℕ) (l : List ℕ) → queues q ≡ l ++ (t ∷ []) → word m (linkAt (tail q)) ≡ suc t
+  tail-last t l e = tail-word ∙ ap (lastOf 0) e ∙ last-snoc 0 t l
+
+  pub head-of : Of (queues q) (word m (linkAt (head q)))
+  head-of = subst (λ (x : ℕ). Of (queues q) x) (sym head-word) (first-of (queues q) (queues q) (λ _ k. k))
+
+  pub tail-of : Of (queues q) (word m (linkAt (tail q)))
+  tail-of = subst (λ (x : ℕ). Of (queues q) x) (sym tail-word) (last-of 0 (queues q) (queues q) tt (λ _ k. k))
+
+  -- The link of a thread of the queue, or 0, is at most 256.
+  pub link-small : (x : ℕ) → Of (queues q) x → x ≤ 256
+  link-small x o = of-small (queues q) x (λ u k. L .small q u h k) o
+
+  -- The links of a thread in the queue.
+  module _ (t : ℕ) (a b : List ℕ) (e : queues q ≡ a ++ (t ∷ b)) where
+    pub chained : Chain m q 0 (a ++ (t ∷ b)) 0
+    chained = rw e at (L .chains q h)
+
+    pub next-split : word m (linkAt (next t)) ≡ firstOf b
+    next-split = chain-first m q (suc t) b (chain-behind m q 0 t a b chained)
+
+    pub prev-split : word m (linkAt (prev t)) ≡ lastOf 0 a
+    prev-split = chain-joint m q 0 t a b chained .before
+
+    pub next-of : Of b (word m (linkAt (next t)))
+    next-of = subst (λ (x : ℕ). Of b x) (sym next-split) (first-of b b (λ _ k. k))
+
+    pub prev-of : Of a (word m (linkAt (prev t)))
+    prev-of = subst (λ (x : ℕ). Of a x) (sym prev-split) (last-of 0 a a tt (λ _ k. k))
+
+    pub next-small : word m (linkAt (next t)) ≤ 256
+    next-small =
+        of-small b (word m (linkAt (next t))) (λ u k. L .small q u h (rw e (mem-right u a (t ∷ b) (inr k)))) next-of
+
+    pub prev-small : word m (linkAt (prev t)) ≤ 256
+    prev-small = of-small a (word m (linkAt (prev t))) (λ u k. L .small q u h (rw e (mem-left u a (t ∷ b) k))) prev-of
+
+-- The links as the functions read them, at the address that an address function gave.
+
+pub reads-first : {m : List ℕ} {q r i : ℕ} → q ≤ 319 → Address i (linkAt (head q)) → r ≡ word m i → First m q r
+reads-first {m} {q} {r} h a e =
+    let f : r ≡ word m (linkAt (head q)) = e ∙ ap (word m) (a .is) in
+    record { is = f; first = λ queues L. f ∙ head-word L q h }
+
+pub reads-next : {m : List ℕ} {t r i : ℕ} → t ≤ 255 → Address i (linkAt (next t)) → r ≡ word m i → Next m t r
+reads-next {m} {t} {r} h a e =
+    let f : r ≡ word m (linkAt (next t)) = e ∙ ap (word m) (a .is) in
+    record {
+      is = f;
+      next = λ queues L q before behind g s. f ∙ next-split L q g t before behind s;
+      bare = λ queues L free. f ∙ L .bare t h free .0;
+    }
+
+pub reads-prev : {m : List ℕ} {t r i : ℕ} → t ≤ 255 → Address i (linkAt (prev t)) → r ≡ word m i → Prev m t r
+reads-prev {m} {t} {r} h a e =
+    let f : r ≡ word m (linkAt (prev t)) = e ∙ ap (word m) (a .is) in
+    record {
+      is = f;
+      prev = λ queues L q before behind g s. f ∙ prev-split L q g t before behind s;
+      bare = λ queues L free. f ∙ L .bare t h free .1;
+    }

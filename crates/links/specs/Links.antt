@@ -1,0 +1,79 @@
+-- What the operations on links ask and give, over the words before and after: for every table of queues that the links
+-- join.
+use Prim.Native.Nat.{ℕ, _≤_}
+use mathlib.Core.Path.{_≡_}
+use mathlib.Core.List.{List, [], _∷_, _++_}
+use lib.ListN.{length}
+use Rattle.machine.specs.Lists.{put, without, Mem, Distinct}
+use Rattle.layout.specs.Addresses.{Slot, ValidSlot, at, next, prev, head, linkAt, word}
+use Rattle.layout.specs.Words.{firstOf, lastOf}
+use Rattle.layout.specs.Shows.{Linked}
+
+-- Threads in range, each in one queue at most, and there once.
+pub record Neat (queues : ℕ → List ℕ) : Type 0 where
+  pub small : (q t : ℕ) → q ≤ 319 → Mem t (queues q) → t ≤ 255
+  pub once : (q : ℕ) → q ≤ 319 → Distinct (queues q)
+  pub apart : (q r t : ℕ) → q ≤ 319 → r ≤ 319 → Mem t (queues q) → Mem t (queues r) → q ≡ r
+
+-- t stands in no queue.
+abbrev pub Free : (ℕ → List ℕ) → ℕ → Type 0
+Free queues t = (q : ℕ) → q ≤ 319 → Mem t (queues q) → ⊥
+
+-- Every word that is no link is as it was.
+pub record Kept (m m′ : List ℕ) : Type 0 where
+  pub size : length m′ ≡ length m
+  pub slots : (a : Slot) → ValidSlot a → word m′ (at a) ≡ word m (at a)
+
+-- A queue that thread t, in none, may join.
+pub record Joinable (m : List ℕ) (q t : ℕ) : Type 0 where
+  pub size : length m ≡ 4096
+  pub queue : q ≤ 319
+  pub thread : t ≤ 255
+  pub queues : ℕ → List ℕ
+  pub linked : Linked m queues
+  pub neat : Neat queues
+  pub free : Free queues t
+
+-- t has joined the tail of queue q.
+pub record Joins (m : List ℕ) (q t : ℕ) (m′ : List ℕ) : Type 0 where
+  pub kept : Kept m m′
+  pub links :
+      (queues : ℕ → List ℕ) → Linked m queues → Neat queues → Free queues t
+      → Linked m′ (put queues q (queues q ++ (t ∷ [])))
+
+-- A queue in which thread t stands.
+pub record Leavable (m : List ℕ) (q t : ℕ) : Type 0 where
+  pub size : length m ≡ 4096
+  pub queue : q ≤ 319
+  pub queues : ℕ → List ℕ
+  pub linked : Linked m queues
+  pub neat : Neat queues
+  pub stands : Mem t (queues q)
+
+-- t has left queue q, wherever it stood in it.
+pub record Leaves (m : List ℕ) (q t : ℕ) (m′ : List ℕ) : Type 0 where
+  pub kept : Kept m m′
+  pub links :
+      (queues : ℕ → List ℕ) → Linked m queues → Neat queues → Mem t (queues q)
+      → Linked m′ (put queues q (without t (queues q)))
+
+-- r is the link to the first of queue q, 0 where it is empty.
+pub record First (m : List ℕ) (q r : ℕ) : Type 0 where
+  pub is : r ≡ word m (linkAt (head q))
+  pub first : (queues : ℕ → List ℕ) → Linked m queues → r ≡ firstOf (queues q)
+
+-- r is the link to the one behind t in its queue, 0 where t is the last or in no queue.
+pub record Next (m : List ℕ) (t r : ℕ) : Type 0 where
+  pub is : r ≡ word m (linkAt (next t))
+  pub next :
+      (queues : ℕ → List ℕ) → Linked m queues → (q : ℕ) (before behind : List ℕ) → q ≤ 319
+      → queues q ≡ before ++ (t ∷ behind) → r ≡ firstOf behind
+  pub bare : (queues : ℕ → List ℕ) → Linked m queues → Free queues t → r ≡ 0
+
+-- r is the link to the one before t in its queue, 0 where t is the first or in no queue.
+pub record Prev (m : List ℕ) (t r : ℕ) : Type 0 where
+  pub is : r ≡ word m (linkAt (prev t))
+  pub prev :
+      (queues : ℕ → List ℕ) → Linked m queues → (q : ℕ) (before behind : List ℕ) → q ≤ 319
+      → queues q ≡ before ++ (t ∷ behind) → r ≡ lastOf 0 before
+  pub bare : (queues : ℕ → List ℕ) → Linked m queues → Free queues t → r ≡ 0

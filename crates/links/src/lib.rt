@@ -1,0 +1,55 @@
+// Doubly linked queues in the lent words. The queue itself is link 0, so the first and the next, the last and the one
+// before are one thing, and no operation branches.
+ghost use mathlib.Core.Path.{_≡_};
+ghost use Prim.Native.Nat.{_≤_};
+ghost use lib.ListN.{length};
+ghost use Rattle.links.specs.Links.{Joinable, Joins, Leavable, Leaves, First, Next, Prev};
+
+// Thread t joins the tail of queue q.
+pub fn push_tail(tables: &mut [u32], q: usize, t: usize)
+    requires { ⌜ Joinable (now tables) q t ⌝ }
+    ensures { λ _. ⌜ Joins (now (tables .entry)) q t (now (tables .exit)) ⌝ }
+{
+    let last = words::get(tables, words::tail_at(q));
+    let link = (t + 1) as u32;
+    words::put(tables, words::after_at(q, last as usize), link);
+    words::put(tables, words::prev_at(t), last);
+    words::put(tables, words::tail_at(q), link);
+}
+
+// Thread t leaves queue q, in which it stands.
+pub fn unlink(tables: &mut [u32], q: usize, t: usize)
+    requires { ⌜ Leavable (now tables) q t ⌝ }
+    ensures { λ _. ⌜ Leaves (now (tables .entry)) q t (now (tables .exit)) ⌝ }
+{
+    let next = words::get(tables, words::next_at(t));
+    let prev = words::get(tables, words::prev_at(t));
+    words::put(tables, words::after_at(q, prev as usize), next);
+    words::put(tables, words::before_at(q, next as usize), prev);
+    words::put(tables, words::next_at(t), 0);
+    words::put(tables, words::prev_at(t), 0);
+}
+
+// The link to the first of queue q: thread t is t + 1, and none is 0.
+pub fn first(tables: &[u32], q: usize) -> u32
+    requires { ⌜ (length (now tables) ≡ 4096) × (q ≤ 319) ⌝ }
+    ensures { λ r. ⌜ First (now (tables .entry)) q r ⌝ }
+{
+    words::get(tables, words::head_at(q))
+}
+
+// The link to the one behind thread t in its queue.
+pub fn next(tables: &[u32], t: usize) -> u32
+    requires { ⌜ (length (now tables) ≡ 4096) × (t ≤ 255) ⌝ }
+    ensures { λ r. ⌜ Next (now (tables .entry)) t r ⌝ }
+{
+    words::get(tables, words::next_at(t))
+}
+
+// The link to the one before thread t in its queue.
+pub fn prev(tables: &[u32], t: usize) -> u32
+    requires { ⌜ (length (now tables) ≡ 4096) × (t ≤ 255) ⌝ }
+    ensures { λ r. ⌜ Prev (now (tables .entry)) t r ⌝ }
+{
+    words::get(tables, words::prev_at(t))
+}
