@@ -1,0 +1,3 @@
+-- What a call comes to on the lent memory, and calls made in turn.
+pub mod Entry
+pub mod Turns

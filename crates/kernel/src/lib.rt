@@ -1,0 +1,1 @@
+// The core: takes a call on the lent tables.
