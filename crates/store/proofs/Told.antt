@@ -1,0 +1,27 @@
+-- What a word that was read tells of each state that the memory shows, and what one store to a slot does.
+-- Assumes nothing.
+use Prim.Native.Nat.{ℕ, _≤_}
+use mathlib.Core.Path.{_≡_, sym, _∙_, ap, subst}
+use mathlib.Core.List.{List}
+use lib.ListN.{set}
+use Rattle.machine.specs.State.{State}
+use Rattle.layout.specs.Addresses.{Slot, ValidSlot, at, word}
+use Rattle.layout.specs.Words.{content, queuesOf}
+use Rattle.layout.specs.Shows.{Shows}
+use Rattle.layout.proofs.Stores.{store-shows}
+use Rattle.words.specs.Access.{Address}
+use Rattle.store.specs.Steps.{Tells}
+
+module _ (a : Slot) {P : State → Type 0} (valid : (s : State) → P s → ValidSlot a) (m : List ℕ) (i : ℕ) where
+  pub word-tells : (r : ℕ) → Address i (at a) → r ≡ word m i → Tells m P r (λ s. content s a)
+  word-tells r h e = record { tells = λ s M p. e ∙ ap (word m) (h .is) ∙ M .slots a (valid s p) }
+
+-- A memory in which one slot has a new word shows the state that differs there alone.
+pub stored-shows :
+    (a : Slot) (m n : List ℕ) (i v : ℕ) (s z : State) → ValidSlot a → Shows m s → Address i (at a) → n ≡ set m i v
+    → content z a ≡ v
+    → ((b : Slot) → ValidSlot b → (b ≡ a → ⊥) → content z b ≡ content s b)
+    → ((q : ℕ) → q ≤ 319 → queuesOf z q ≡ queuesOf s q) → Shows n z
+stored-shows a m n i v s z h M A e c same-content same-queues =
+    let k : n ≡ set m (at a) (content z a) = e ∙ ap (λ j. set m j v) (A .is) ∙ ap (set m (at a)) (sym c) in
+    subst (λ l. Shows l z) (sym k) (store-shows m s z a h M same-content same-queues)
