@@ -25,7 +25,7 @@ use Rattle.machine.proofs.Debts.{mid-endAbort, endAbort-entry, endAbort
 use Rattle.machine.proofs.Looking.{mid-begin, mid-join, mid-lookUpTo, steady-lookUpTo}
 use Rattle.machine.proofs.Choosing.{choose-sound}
 
-running-present : {s : State} {t : ℕ} → Mid s → s .runs ≡ some t → Present s t
+pub running-present : {s : State} {t : ℕ} → Mid s → s .runs ≡ some t → Present s t
 running-present {s} {t} M r p =
     let q = M .queues .running t r in
     let z : _≡_ {A = ℕ} 0 1 = cc in
@@ -53,11 +53,11 @@ module _ (t e : ℕ) where
       ended-sound (pendingAt e (r .state)) (earlier ++ r .looks) (r .state) (mid-lookUpTo a e s M)
       (steady-lookUpTo a (pendingAt e s) e s .entry e .status ∙ h)
 
-begin-status : (t e b : ℕ) (s : State) → begin t e b s .endpoints e .status ≡ s .endpoints e .status
+pub begin-status : (t e b : ℕ) (s : State) → begin t e b s .endpoints e .status ≡ s .endpoints e .status
 unfolding begin
 begin-status t e b s = ap (λ (x : Endpoint). x .status) (put-same (s .endpoints) e _)
 
-join-status : (t e : ℕ) (s : State) → join t e s .endpoints e .status ≡ s .endpoints e .status
+pub join-status : (t e : ℕ) (s : State) → join t e s .endpoints e .status ≡ s .endpoints e .status
 unfolding join joinAs
 join-status t e s = go (ownerOf (s .endpoints e .abort))
   where
@@ -119,29 +119,29 @@ module _ (t e b : ℕ) (h : b < 2 ^ 28) where
       (F .debt t ∙ d)
 
 -- The caller's debt before the work: none, or the ownership of the abort of badge b at e.
-data Owed (t e b : ℕ) (s : State) : Type 0 where
+pub data Owed (t e b : ℕ) (s : State) : Type 0 where
   clear : s .threads t .debt ≡ nothing → Owed t e b s
   mine : s .threads t .debt ≡ owns e → underAbort b (s .endpoints e .abort) ≡ true → Owed t e b s
 
 -- No abort of badge b stands at e, or none with an owner: there is no debt.
 
-unowed :
+pub unowed :
     {t e b : ℕ} {s : State} → Owed t e b s → underAbort b (s .endpoints e .abort) ≡ false
     → s .threads t .debt ≡ nothing
 unowed (clear d) q = d
 unowed (mine o u) q = absurd (clash u q)
 
-unowned :
+pub unowned :
     {t e b : ℕ} {s : State} → Mid s → Owed t e b s → ownerOf (s .endpoints e .abort) ≡ none
     → s .threads t .debt ≡ nothing
 unowned M (clear d) q = d
 unowned {t} {e} M (mine o u) q = absurd (none-some q (M .owners .each-other e t .1 o))
 
-both-true : (p q : Bool) → (p && q) ≡ true → (p ≡ true) × (q ≡ true)
+pub both-true : (p q : Bool) → (p && q) ≡ true → (p ≡ true) × (q ≡ true)
 both-true true q k = (refl, k)
 both-true false q k = absurd (clash k refl)
 
-owns-this :
+pub owns-this :
     (x : Option Abort) (e b : ℕ) (d : Debt) → ownsThis x e b d ≡ true → (d ≡ owns e) × (underAbort b x ≡ true)
 owns-this x e b nothing q = absurd (clash q refl)
 owns-this x e b (owns f) q =

@@ -8,7 +8,7 @@ use Rattle.machine.specs.declared.Answer.{Answer}
 use Rattle.machine.specs.declared.Call.{Call}
 use Rattle.machine.specs.declared.Call.the-variants.{CreateThread, DestroyThread, SetPriority, CreateEndpoint, Interrupt, Tick, Send, Receive, Yield, Wait, Delete, Abort}
 use Rattle.machine.specs.History.{History, Aborting, Ended, Delivery, AbortCall, Reported, historyOf}
-use Rattle.machine.proofs.Computed.{historied}
+use Rattle.machine.proofs.Computed.{computed}
 
 -- What a history is compared by.
 pub record Table : Type 0 where
@@ -74,7 +74,7 @@ example-history :
       deliveries = hands 8 0 8 200 (5 ∷ []) (5 ∷ []) ∷ [];
       reports = reports 0 7 6 ∷ reports 0 7 6 ∷ reports 0 7 6 ∷ [];
     }
-unfolding tableOf reportsOf example historied answer done blocked abort ends hands reports
+unfolding tableOf reportsOf example computed answer done blocked abort ends hands reports
 example-history = refl
 
 -- Another badge's abort, broken off in call 8, is finished on the way in call 9, whose own begins on the one it kept: that
@@ -95,7 +95,7 @@ other-badge-history :
       deliveries = [];
       reports = reports 0 8 9 ∷ reports 0 7 8 ∷ [];
     }
-unfolding tableOf reportsOf other-badge historied answer done blocked abort ends hands reports
+unfolding tableOf reportsOf other-badge computed answer done blocked abort ends hands reports
 other-badge-history = refl
 
 -- Thread 1 is broken off in call 6; thread 6 joins and finishes in call 8; thread 1's call 10 is answered from its note,
@@ -114,7 +114,7 @@ joined-history :
       deliveries = [];
       reports = reports 0 7 6 ∷ reports 0 7 6 ∷ reports 0 7 6 ∷ [];
     }
-unfolding tableOf reportsOf joined historied answer done blocked abort ends hands reports
+unfolding tableOf reportsOf joined computed answer done blocked abort ends hands reports
 joined-history = refl
 
 -- The abort broken off in call 6 is ended by the delete of call 8, and the endpoint is made anew. Its owner's note is
@@ -134,7 +134,7 @@ made-anew-history :
       deliveries = hands 12 0 7 300 (10 ∷ []) (10 ∷ []) ∷ [];
       reports = reports 0 7 6 ∷ reports 0 7 6 ∷ [];
     }
-unfolding tableOf reportsOf made-anew historied answer done blocked abort ends hands reports
+unfolding tableOf reportsOf made-anew computed answer done blocked abort ends hands reports
 made-anew-history = refl
 
 -- The incident of release 6: the abort of badge 7 is broken off in call 8, and the waiter at its cursor leaves in call 9.
@@ -156,5 +156,5 @@ incident-history :
       deliveries = hands 16 0 7 300 (15 ∷ []) (15 ∷ []) ∷ [];
       reports = reports 0 7 8 ∷ reports 0 7 8 ∷ [];
     }
-unfolding tableOf reportsOf incident historied answer done blocked abort ends hands reports
+unfolding tableOf reportsOf incident computed answer done blocked abort ends hands reports
 incident-history = refl
