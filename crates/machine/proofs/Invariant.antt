@@ -194,6 +194,7 @@ module _ (past : List Call) (s : State) (h : History) (I : Inv past s h) where
         lines-stay = λ y i. I .called y i .lines;
         every-look-of-an-abort = I .stray;
         not-twice = λ x i. exact x i .once;
+        only-those = λ x i. exact x i .among;
         not-more = λ x i. exact x i .most;
         counted = λ y i. I .called y i .counts;
         hands-over = λ d i. I .given d i .hands;

@@ -243,7 +243,8 @@ module _ (past : List Call) (n m : ℕ) (later : n ≤ m) (since : ℕ → ℕ) 
   over-fewer z F O =
       let E = O .exact in
       record {
-        exact = record { began = omega arith; removed = E .removed; once = E .once; most = E .most };
+        exact =
+            record { began = omega arith; removed = E .removed; once = E .once; most = E .most; among = E .among };
         by = omega (arith, O .by);
         clean = λ t e h k. O .clean t e (fewer-sends F t e h .0) (F .live t e h k);
       }

@@ -20,7 +20,7 @@ use Rattle.machine.specs.Results.{plain}
 use Rattle.machine.specs.History.{Aborting, Ended}
 use Rattle.machine.specs.Claim.{In, isSendOf, isOld}
 use Rattle.machine.proofs.Ready.{none-some}
-use Rattle.machine.proofs.Sublists.{Sub, sub-trans, sub-distinct, sub-length, sub-left, only-agree, entry-keep}
+use Rattle.machine.proofs.Sublists.{Sub, sub-trans, sub-distinct, sub-length, sub-mem, sub-left, only-agree, entry-keep}
 use Rattle.machine.proofs.Sublists.{entry-grow}
 
 -- The call that a waiter made, by its place, badge and message.
@@ -62,6 +62,7 @@ pub record Exact (past : List Call) (n : ℕ) (x : Aborting) : Type 0 where
   pub removed : x .removed ≡ only (isOld past x) (x .looked)
   pub once : Distinct (x .looked)
   pub most : length (x .looked) ≤ length (x .onto)
+  pub among : (w : ℕ) → Mem w (x .looked) → Mem w (x .onto)
 
 -- The abort that stands at e, in the machine and in the history.
 pub record Stood
@@ -122,6 +123,7 @@ stood-exact past n since threads e a x S =
       removed = S .removed;
       once = sub-distinct p (S .once);
       most = sub-length p;
+      among = sub-mem p;
     }
 
 -- The list grows
@@ -165,6 +167,7 @@ module _ (past : List Call) (c : Call) (n : ℕ) (fits : n ≤ suc (length past)
         removed = E .removed ∙ only-grow past c x (x .looked) (omega arith);
         once = E .once;
         most = E .most;
+        among = E .among;
       }
 
   module _ (since : ℕ → ℕ) (threads : ℕ → Thread) where

@@ -117,6 +117,8 @@ pub record Claim (calls : List Call) (h : History) : Type 0 where
   pub not-twice : (x : Aborting) → IsAbort h x → Distinct (x .looked)
   -- or at more waiters than stood in the queue when it began,
   pub not-more : (x : Aborting) → IsAbort h x → length (x .looked) ≤ length (x .onto)
+  -- and at none but the senders queued when it began,
+  pub only-those : (x : Aborting) → IsAbort h x → (w : ℕ) → Mem w (x .looked) → Mem w (x .onto)
   -- each look counted in the answer of the call that made it.
   pub counted : (y : AbortCall) → In y (h .abortCalls) → y .count ≡ length (y .looks)
   -- A call 8 answered 0 hands over the message queued longest at its endpoint, and answers that badge and message.
