@@ -1,0 +1,127 @@
+-- What the code's enums say, where the specification has an option; what a part of the journal holds.
+-- Assumes nothing.
+use mathlib.Core.Path.{_≡_, refl, sym, ap, _∙_}
+use mathlib.Core.Bool.{Bool, true, false}
+use mathlib.Core.List.{List}
+use mathlib.Core.Logic.{_≢_}
+use mathlib.Core.Option.{Option, none, some}
+use Prim.Native.Nat.{ℕ, _+_, _-_, _<_}
+use native.Mathlib.Omega.{arith}
+use native.Mathlib.Numerals.{add-one}
+use borrow.Author.Tests.{eq-eqb, leb-true, leb-false}
+use lib.Dec.{leb}
+use lib.ListN.{length, getD, take, drop, length-drop}
+use lib.Seq.{drop-cons, take-all}
+use Rattle.machine.specs.declared.Call.{Call}
+use Rattle.machine.specs.declared.Call.the-variants.{Send, Abort}
+use Rattle.machine.specs.Calls.{inRange}
+use Rattle.journal.specs.declared.Named.{Named}
+use Rattle.journal.specs.declared.Named.the-variants.{One, Nothing}
+use Rattle.journal.specs.declared.Number.the-variants.{Is, Wrong}
+use Rattle.journal.specs.Steps.{named, nameOf, number}
+use Rattle.journal.specs.Words.{topBits, topByte, callNumber, subject, argument, wordsTaken, unused, numberIn}
+use Rattle.journal.specs.Words.{sendOf, abortOf, callOf, callAt, judged, readFrom, readAt}
+use Rattle.journal.proofs.Numbers.{by-number, taken-low, taken-high}
+use Rattle.journal.proofs.Naming.{Fits, in-range-fits}
+
+pub named-name : (x : Named) → x ≡ named (nameOf x)
+named-name (One c) = refl
+named-name Nothing = refl
+
+pub name-named : (o : Option Call) → nameOf (named o) ≡ o
+name-named none = refl
+name-named (some c) = refl
+
+-- a part that should be unused, above a call that was found
+pub unused-above :
+    (part : ℕ) (o : Option Call) (call r : Named) → call ≡ named o → r ≡ named (unused part (nameOf call)) →
+    r ≡ named (unused part o)
+unused-above part o call r e f = f ∙ rw (e, name-named o)
+
+pub number-is : (o : Option ℕ) (n : ℕ) → Is n ≡ number o → o ≡ some n
+number-is none n e = cc
+number-is (some k) n e = cc
+
+pub number-wrong : (o : Option ℕ) → Wrong ≡ number o → o ≡ none
+number-wrong none e = refl
+number-wrong (some k) e = cc
+
+-- a number that is none of 1 to 12, as the last arm of a match on them knows it
+abbrev pub Other : ℕ → Type 0
+Other n =
+    (((((((((((Unit {0} × n ≢ 1) × n ≢ 2) × n ≢ 3) × n ≢ 4) × n ≢ 5) × n ≢ 6) × n ≢ 7) × n ≢ 8) × n ≢ 9) × n ≢ 10)
+    × n ≢ 11)
+    × n ≢ 12
+
+pub no-number : (s a : ℕ) (rest : List ℕ) (n : ℕ) → Other n → callOf n s a rest ≡ none
+unfolding callOf
+no-number s a rest =
+    by-number (λ n. Other n → callOf n s a rest ≡ none)
+    (λ h. refl)
+    (λ h. absurd (h .0 .0 .0 .0 .0 .0 .0 .0 .0 .0 .0 .1 refl))
+    (λ h. absurd (h .0 .0 .0 .0 .0 .0 .0 .0 .0 .0 .1 refl))
+    (λ h. absurd (h .0 .0 .0 .0 .0 .0 .0 .0 .0 .1 refl))
+    (λ h. absurd (h .0 .0 .0 .0 .0 .0 .0 .0 .1 refl))
+    (λ h. absurd (h .0 .0 .0 .0 .0 .0 .0 .1 refl))
+    (λ h. absurd (h .0 .0 .0 .0 .0 .0 .1 refl))
+    (λ h. absurd (h .0 .0 .0 .0 .0 .1 refl))
+    (λ h. absurd (h .0 .0 .0 .0 .1 refl))
+    (λ h. absurd (h .0 .0 .0 .1 refl))
+    (λ h. absurd (h .0 .0 .1 refl))
+    (λ h. absurd (h .0 .1 refl))
+    (λ h. absurd (h .1 refl))
+    (λ k h. refl)
+
+-- the part of a list from a place on
+pub part-is : (l : List ℕ) (n : ℕ) → take (length l - n) (drop n l) ≡ drop n l
+part-is l n = take-all (length l - n) (drop n l) (omega (arith, length-drop n l))
+
+-- a top byte that some call begins with has top bits 1
+top-one : (w : ℕ) → wordsTaken (topByte w) ≢ 0 → topBits w ≡ 1
+top-one w h = go (leb (topByte w) 16) refl (leb (topByte w) 28) refl
+  where
+    go : (b : Bool) → leb (topByte w) 16 ≡ b → (d : Bool) → leb (topByte w) 28 ≡ d → topBits w ≡ 1
+    go true l d u = absurd (h (taken-low (topByte w) (omega (arith, leb-true (topByte w) 16 l))))
+    go false l true u = omega (arith, leb-false (topByte w) 16 l, leb-true (topByte w) 28 u)
+    go false l false u = absurd (h (taken-high (topByte w) (leb-false (topByte w) 28 u)))
+
+-- where some call begins with the top byte, the parts name the call
+pub call-begun :
+    (w : ℕ) (rest : List ℕ) → wordsTaken (topByte w) ≢ 0 →
+    callOf (callNumber w) (subject w) (argument w) rest ≡ callAt w rest
+unfolding callAt
+call-begun w rest h = rw (eq-eqb (topBits w) 1 (top-one w h))
+
+-- reading at a word, with the rest of the journal as a part of it
+pub read-word-at :
+    (j : List ℕ) (at n : ℕ) (words : Named) → at < length j →
+    words ≡ named (callAt (getD j at 0) (take (length j - (at + 1)) (drop (at + 1) j))) →
+    n ≡ wordsTaken (topByte (getD j at 0)) → judged at (at + n) (nameOf words) ≡ readAt j at
+unfolding readAt readFrom
+read-word-at j at n words h e t =
+    rw (e, part-is j (at + 1), name-named (callAt (getD j at 0) (drop (at + 1) j)), drop-cons j at 0 h, t, add-one at)
+
+-- what `abort` and `send` find in the words after a call word
+pub abort-nothing : (e a : ℕ) (rest : List ℕ) → numberIn 2 rest ≡ none → Nothing ≡ named (abortOf e a rest)
+abort-nothing e a rest b = rw b
+
+pub abort-one :
+    (e a : ℕ) (rest : List ℕ) (b : ℕ) → numberIn 2 rest ≡ some b → One (Abort e a b) ≡ named (abortOf e a rest)
+abort-one e a rest b h = rw h
+
+pub send-nothing : (e : ℕ) (rest : List ℕ) → numberIn 2 rest ≡ none → Nothing ≡ named (sendOf e rest)
+send-nothing e rest b = rw b
+
+pub send-no-message :
+    (e : ℕ) (rest : List ℕ) (b : ℕ) → numberIn 2 rest ≡ some b →
+    numberIn 3 (take (length rest - 1) (drop 1 rest)) ≡ none → Nothing ≡ named (sendOf e rest)
+send-no-message e rest b h m = rw (h, rw (part-is rest 1) at m)
+
+pub send-one :
+    (e : ℕ) (rest : List ℕ) (b m : ℕ) → numberIn 2 rest ≡ some b →
+    numberIn 3 (take (length rest - 1) (drop 1 rest)) ≡ some m → One (Send e b m) ≡ named (sendOf e rest)
+send-one e rest b m h k = rw (h, rw (part-is rest 1) at k)
+
+-- the numbers of a call in range fit their parts, once its kind is known
+pub fits-of : (c k : Call) → inRange c ≡ true → c ≡ k → Fits k
+fits-of c k h e = in-range-fits k (sym (ap inRange e) ∙ h)

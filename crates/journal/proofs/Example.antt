@@ -1,0 +1,46 @@
+-- The example of document 01: its words, read by the reader's definition and made in turn, give its twelve lines.
+-- Assumes nothing.
+use Prim.Native.Nat.{ℕ}
+use mathlib.Core.Path.{_≡_, refl}
+use mathlib.Core.Option.{Option, none, some}
+use mathlib.Core.List.{List, [], _∷_}
+use Rattle.machine.proofs.Computed.{computed}
+use Rattle.journal.specs.Words.{callOf, callAt, wordsTaken, readFrom, readAt}
+use Rattle.journal.specs.Rows.{Row, rowsFrom, rowsOf}
+
+example : List ℕ
+example =
+    0x1101000A ∷ 0x1102000A ∷ 0x11030014 ∷ 0x14000000 ∷ 0x17000000 ∷ 0x20000007 ∷ 0x30000064 ∷ 0x17000000
+    ∷ 0x20000008 ∷ 0x300000C8 ∷ 0x1C000001 ∷ 0x20000007 ∷ 0x17000000 ∷ 0x20000007 ∷ 0x30000065 ∷ 0x18000000
+    ∷ 0x1C000005 ∷ 0x20000007 ∷ 0x12030000 ∷ 0x1C000001 ∷ 0x20000007 ∷ []
+
+-- n, call, code, count, badge, message, running
+line : ℕ → ℕ → ℕ → ℕ → ℕ → ℕ → ℕ → Row
+line n call code count badge message running =
+    record {
+      index = n;
+      call = call;
+      answer = record { code = code; count = count; badge = badge; message = message };
+      running = some running;
+    }
+
+lines : List Row
+lines =
+    line 0 1 0 0 0 0 1
+    ∷ line 1 1 0 0 0 0 1
+    ∷ line 2 1 0 0 0 0 3
+    ∷ line 3 4 0 0 0 0 3
+    ∷ line 4 7 1 0 0 0 2
+    ∷ line 5 7 1 0 0 0 1
+    ∷ line 6 12 2 1 0 0 3
+    ∷ line 7 7 26 0 0 0 3
+    ∷ line 8 8 0 0 8 200 3
+    ∷ line 9 12 0 0 0 0 3
+    ∷ line 10 2 0 0 0 0 1
+    ∷ line 11 12 0 0 0 0 1
+    ∷ []
+
+-- "The twelve lines above are proved of the machine."
+twelve-lines : rowsOf example ≡ lines
+unfolding rowsOf rowsFrom readAt readFrom callAt callOf wordsTaken example lines line computed
+twelve-lines = refl

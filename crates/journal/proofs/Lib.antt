@@ -1,0 +1,11 @@
+pub mod Parts
+pub mod Numbers
+pub mod Options
+pub mod Naming
+pub mod Causes
+pub mod Outcomes
+pub mod RoundTrip
+pub mod Refusals
+pub mod Table
+pub mod Answers
+pub mod Example

@@ -1,0 +1,222 @@
+-- The words of a call name that call, and words that name a call are its words.
+-- Assumes nothing.
+use mathlib.Core.Path.{_≡_, refl, ap, _∙_, subst, subst⁻¹}
+use mathlib.Core.Bool.{Bool, true, false, _&&_}
+use mathlib.Core.List.{List, _∷_, _++_}
+use mathlib.Core.Option.{none, some, Option·none-ne-some, Option·some-injective}
+use Prim.Native.Nat.{ℕ, _+_, _^_, _<_}
+use native.Mathlib.Omega.{arith}
+use borrow.Author.Tests.{eqb-true, leb-true, ltb-true}
+use lib.Dec.{eqb, leb, lit<}
+use lib.ListN.{length, take, drop}
+use Rattle.machine.specs.declared.Call.{Call}
+use Rattle.machine.specs.declared.Call.the-variants.{CreateThread, DestroyThread, SetPriority, CreateEndpoint}
+use Rattle.machine.specs.declared.Call.the-variants.{Interrupt, Tick, Send, Receive, Yield, Wait, Delete, Abort}
+use Rattle.machine.specs.Calls.{inRange, isThread, isPriority, isEndpoint, isLine, isBadge, isMessage, isAllowance}
+use Rattle.machine.specs.Lists.{pick}
+use Rattle.journal.specs.Words.{topBits, topByte, callNumber, subject, argument, wordsTaken, unused}
+use Rattle.journal.specs.Words.{numberIn, withMessage, sendOf, abortOf, callOf, callAt, judged, readFrom}
+use Rattle.journal.specs.Words.{callWord, badgeWord, messageWord, wordsOf}
+use Rattle.journal.proofs.Parts.{top-bits, top-byte, call-number, its-subject, its-argument, call-word}
+use Rattle.journal.proofs.Parts.{byte-of}
+use Rattle.journal.proofs.Numbers.{by-number}
+use Rattle.journal.proofs.Options.{unused-some, given-some, number-read, number-some}
+
+-- each number of a call fits its part of a word
+abbrev pub Fits : Call → Type 0
+Fits (CreateThread t p) = (t < 2 ^ 8) × (p < 2 ^ 16)
+Fits (DestroyThread t) = t < 2 ^ 8
+Fits (SetPriority t p) = (t < 2 ^ 8) × (p < 2 ^ 16)
+Fits (CreateEndpoint e) = e < 2 ^ 8
+Fits (Interrupt l) = l < 2 ^ 8
+Fits Tick = Unit {0}
+Fits (Send e b m) = (e < 2 ^ 8) × (b < 2 ^ 28) × (m < 2 ^ 28)
+Fits (Receive e) = e < 2 ^ 8
+Fits Yield = Unit {0}
+Fits (Wait l) = l < 2 ^ 8
+Fits (Delete e a) = (e < 2 ^ 8) × (a < 2 ^ 16)
+Fits (Abort e a b) = (e < 2 ^ 8) × (a < 2 ^ 16) × (b < 2 ^ 28)
+
+both : (a b : Bool) → a && b ≡ true → (a ≡ true) × (b ≡ true)
+both true b e = (refl, e)
+both false b e = let z : _≡_ {A = ℕ} 0 1 = cc in absurd (omega arith)
+
+thread-fits : (t : ℕ) → isThread t ≡ true → t < 2 ^ 8
+thread-fits t e = omega (arith, leb-true t 255 e)
+
+priority-fits : (p : ℕ) → isPriority p ≡ true → p < 2 ^ 16
+priority-fits p e = omega (arith, leb-true p 255 e)
+
+endpoint-fits : (x : ℕ) → isEndpoint x ≡ true → x < 2 ^ 8
+endpoint-fits x e = omega (arith, leb-true x 63 e)
+
+line-fits : (l : ℕ) → isLine l ≡ true → l < 2 ^ 8
+line-fits l e = omega (arith, leb-true l 31 e)
+
+allowance-fits : (a : ℕ) → isAllowance a ≡ true → a < 2 ^ 16
+allowance-fits a e = omega (arith, leb-true a 65535 (both (leb 1 a) (leb a 65535) e .1))
+
+pub in-range-fits : (c : Call) → inRange c ≡ true → Fits c
+in-range-fits (CreateThread t p) e =
+    let h = both (isThread t) (isPriority p) e in (thread-fits t (h .0), priority-fits p (h .1))
+in-range-fits (DestroyThread t) e = thread-fits t e
+in-range-fits (SetPriority t p) e =
+    let h = both (isThread t) (isPriority p) e in (thread-fits t (h .0), priority-fits p (h .1))
+in-range-fits (CreateEndpoint x) e = endpoint-fits x e
+in-range-fits (Interrupt l) e = line-fits l e
+in-range-fits Tick e = tt
+in-range-fits (Send x b m) e =
+    let h = both (isEndpoint x && isBadge b) (isMessage m) e in
+    let g = both (isEndpoint x) (isBadge b) (h .0) in
+    (endpoint-fits x (g .0), ltb-true b (2 ^ 28) (g .1), ltb-true m (2 ^ 28) (h .1))
+in-range-fits (Receive x) e = endpoint-fits x e
+in-range-fits Yield e = tt
+in-range-fits (Wait l) e = line-fits l e
+in-range-fits (Delete x a) e =
+    let h = both (isEndpoint x) (isAllowance a) e in (endpoint-fits x (h .0), allowance-fits a (h .1))
+in-range-fits (Abort x a b) e =
+    let h = both (isEndpoint x && isAllowance a) (isBadge b) e in
+    let g = both (isEndpoint x) (isAllowance a) (h .0) in
+    (endpoint-fits x (g .0), allowance-fits a (g .1), ltb-true b (2 ^ 28) (h .1))
+
+-- what a call word reads as, by its parts
+pub read-word :
+    (at n s a : ℕ) (rest : List ℕ) → n < 2 ^ 4 → s < 2 ^ 8 → a < 2 ^ 16 →
+    readFrom at (callWord n s a ∷ rest) ≡ judged at (at + wordsTaken (16 + n)) (callOf n s a rest)
+unfolding readFrom callAt
+read-word at n s a rest hn hs ha =
+    rw (
+      top-bits n s a hn hs ha,
+      call-number n s a hn hs ha,
+      top-byte n s a hn hs ha,
+      its-subject n s a hn hs ha,
+      its-argument n s a hn hs ha,
+    )
+
+-- the words of a call, whatever follows, read as that call
+pub call-read :
+    (at : ℕ) (c : Call) → Fits c → (after : List ℕ) →
+    readFrom at (wordsOf c ++ after) ≡ judged at (at + length (wordsOf c)) (some c)
+unfolding wordsOf callOf wordsTaken
+call-read at (CreateThread t p) h after = read-word at 1 t p after (lit< tt) (h .0) (h .1)
+call-read at (DestroyThread t) h after = read-word at 2 t 0 after (lit< tt) h (lit< tt)
+call-read at (SetPriority t p) h after = read-word at 3 t p after (lit< tt) (h .0) (h .1)
+call-read at (CreateEndpoint x) h after = read-word at 4 x 0 after (lit< tt) h (lit< tt)
+call-read at (Interrupt l) h after = read-word at 5 l 0 after (lit< tt) h (lit< tt)
+call-read at Tick h after = read-word at 6 0 0 after (lit< tt) (lit< tt) (lit< tt)
+call-read at (Send x b m) h after =
+    read-word at 7 x 0 (badgeWord b ∷ messageWord m ∷ after) (lit< tt) (h .0) (lit< tt)
+    ∙ rw (number-read 2 b (messageWord m ∷ after) (h .1), number-read 3 m after (h .2))
+call-read at (Receive x) h after = read-word at 8 x 0 after (lit< tt) h (lit< tt)
+call-read at Yield h after = read-word at 9 0 0 after (lit< tt) (lit< tt) (lit< tt)
+call-read at (Wait l) h after = read-word at 10 l 0 after (lit< tt) h (lit< tt)
+call-read at (Delete x a) h after = read-word at 11 x a after (lit< tt) (h .0) (h .1)
+call-read at (Abort x a b) h after =
+    read-word at 12 x a (badgeWord b ∷ after) (lit< tt) (h .0) (h .1) ∙ rw (number-read 2 b after (h .2))
+
+-- the words that begin with the call word of these parts are the call's
+pub record Row (n s a : ℕ) (rest : List ℕ) (c : Call) : Type 0 where
+  pub fits : Fits c
+  pub words : take (length (wordsOf c)) (callWord n s a ∷ rest) ≡ wordsOf c
+  pub taken : wordsTaken (16 + n) ≡ length (wordsOf c)
+
+-- a part that is not used, and is 0
+zero-argument : (n s a : ℕ) (rest : List ℕ) (c : Call) → a ≡ 0 → Row n s 0 rest c → Row n s a rest c
+zero-argument n s a rest c h r = subst⁻¹ (λ (x : ℕ). Row n s x rest c) h r
+
+zero-subject : (n s a : ℕ) (rest : List ℕ) (c : Call) → s ≡ 0 → Row n 0 a rest c → Row n s a rest c
+zero-subject n s a rest c h r = subst⁻¹ (λ (x : ℕ). Row n x a rest c) h r
+
+module _ (s a : ℕ) (hs : s < 2 ^ 8) (ha : a < 2 ^ 16) (rest : List ℕ) (c : Call) where
+  -- the number takes a subject and an argument
+  both-used : (n : ℕ) (k : Call) → Row n s a rest k → some k ≡ some c → Row n s a rest c
+  both-used n k r e = subst (Row n s a rest) (Option·some-injective k c e) r
+
+  -- it takes a subject
+  subject-used : (n : ℕ) (k : Call) → Row n s 0 rest k → unused a (some k) ≡ some c → Row n s a rest c
+  subject-used n k r e =
+      let h = unused-some a (some k) c e in
+      zero-argument n s a rest c (h .0) (subst (Row n s 0 rest) (Option·some-injective k c (h .1)) r)
+
+  -- it takes none
+  none-used : (n : ℕ) (k : Call) → Row n 0 0 rest k → unused s (unused a (some k)) ≡ some c → Row n s a rest c
+  none-used n k r e =
+      let h = unused-some s (unused a (some k)) c e in
+      let g = unused-some a (some k) c (h .1) in
+      zero-subject n s a rest c (h .0) (zero-argument n 0 a rest c (g .0)
+      (subst (Row n 0 0 rest) (Option·some-injective k c (g .1)) r))
+
+  send-row :
+      (b m : ℕ) → (b < 2 ^ 28) × (rest ≡ badgeWord b ∷ drop 1 rest) →
+      (m < 2 ^ 28) × (drop 1 rest ≡ messageWord m ∷ drop 1 (drop 1 rest)) → Row 7 s 0 rest (Send s b m)
+  unfolding wordsOf wordsTaken
+  send-row b m fb fm = record {
+    fits = (hs, fb .0, fm .0);
+    words = ap (λ (l : List ℕ). callWord 7 s 0 ∷ take 2 l) (fb .1)
+        ∙ ap (λ (l : List ℕ). callWord 7 s 0 ∷ badgeWord b ∷ take 1 l) (fm .1);
+    taken = refl;
+  }
+
+  abort-row : (b : ℕ) → (b < 2 ^ 28) × (rest ≡ badgeWord b ∷ drop 1 rest) → Row 12 s a rest (Abort s a b)
+  unfolding wordsOf wordsTaken
+  abort-row b fb = record {
+    fits = (hs, ha, fb .0);
+    words = ap (λ (l : List ℕ). callWord 12 s a ∷ take 1 l) (fb .1);
+    taken = refl;
+  }
+
+  with-send : sendOf s rest ≡ some c → Row 7 s 0 rest c
+  with-send e =
+      let (b, eb, e₁) = given-some (numberIn 2 rest) (λ b. withMessage rest (λ m. some (Send s b m))) c e in
+      let (m, em, e₂) = given-some (numberIn 3 (drop 1 rest)) (λ m. some (Send s b m)) c e₁ in
+      subst (Row 7 s 0 rest) (Option·some-injective (Send s b m) c e₂)
+      (send-row b m (number-some 2 rest b eb) (number-some 3 (drop 1 rest) m em))
+
+  with-abort : abortOf s a rest ≡ some c → Row 12 s a rest c
+  with-abort e =
+      let (b, eb, e₁) = given-some (numberIn 2 rest) (λ b. some (Abort s a b)) c e in
+      subst (Row 12 s a rest) (Option·some-injective (Abort s a b) c e₁) (abort-row b (number-some 2 rest b eb))
+
+  pub row : (n : ℕ) → callOf n s a rest ≡ some c → Row n s a rest c
+  unfolding callOf wordsOf wordsTaken
+  row =
+      by-number (λ n. callOf n s a rest ≡ some c → Row n s a rest c)
+      (λ e. absurd (Option·none-ne-some c e))
+      (both-used 1 (CreateThread s a) (record { fits = (hs, ha); words = refl; taken = refl }))
+      (subject-used 2 (DestroyThread s) (record { fits = hs; words = refl; taken = refl }))
+      (both-used 3 (SetPriority s a) (record { fits = (hs, ha); words = refl; taken = refl }))
+      (subject-used 4 (CreateEndpoint s) (record { fits = hs; words = refl; taken = refl }))
+      (subject-used 5 (Interrupt s) (record { fits = hs; words = refl; taken = refl }))
+      (none-used 6 Tick (record { fits = tt; words = refl; taken = refl }))
+      (λ e.
+      let h = unused-some a (sendOf s rest) c e in
+      zero-argument 7 s a rest c (h .0) (with-send (h .1)))
+      (subject-used 8 (Receive s) (record { fits = hs; words = refl; taken = refl }))
+      (none-used 9 Yield (record { fits = tt; words = refl; taken = refl }))
+      (subject-used 10 (Wait s) (record { fits = hs; words = refl; taken = refl }))
+      (both-used 11 (Delete s a) (record { fits = (hs, ha); words = refl; taken = refl }))
+      with-abort
+      (λ k e. absurd (Option·none-ne-some c e))
+
+-- words that name a call are its words, and as many as the top byte says
+pub record Spelled (w : ℕ) (rest : List ℕ) (c : Call) : Type 0 where
+  pub fits : Fits c
+  pub words : take (length (wordsOf c)) (w ∷ rest) ≡ wordsOf c
+  pub taken : wordsTaken (topByte w) ≡ length (wordsOf c)
+
+pub spelled : (w : ℕ) (rest : List ℕ) (c : Call) → callAt w rest ≡ some c → Spelled w rest c
+unfolding callAt
+spelled w rest c e = go (eqb (topBits w) 1) refl e
+  where
+    go :
+        (b : Bool) → eqb (topBits w) 1 ≡ b →
+        pick b (callOf (callNumber w) (subject w) (argument w) rest) none ≡ some c → Spelled w rest c
+    go true t e′ =
+        let one = eqb-true (topBits w) 1 t in
+        let r = row (subject w) (argument w) (omega arith) (omega arith) rest c (callNumber w) e′ in
+        record {
+          fits = r .fits;
+          words = subst (λ (x : ℕ). take (length (wordsOf c)) (x ∷ rest) ≡ wordsOf c) (call-word w one) (r .words);
+          taken = ap wordsTaken (byte-of w one) ∙ r .taken;
+        }
+    go false t e′ = absurd (Option·none-ne-some c e′)

@@ -1,0 +1,31 @@
+-- `journal::abort` meets its contract: each arm is given what `number_in` answered.
+-- Assumes nothing.
+use Rattle.journal.proofs.Answers.{abort-nothing, abort-one, number-is, number-wrong}
+use mathlib.Core.Path.{sym, _∙_}
+use borrow.Author.Needs.{needs}
+use Rattle.journal.proofs.abort.Statement.{statement}
+use Rattle.journal.proofs.abort.Tie as tie
+
+number-in-requires : tie.Need-number-in-requires
+number-in-requires c κs = search needs
+
+enum-known-badge : tie.Need-enum-known-badge
+enum-known-badge c = search needs
+
+enum-told : tie.Need-enum-told
+enum-told c = search needs
+
+returns : tie.Need-returns
+returns c =
+    let a = c .before .before .before .before .args in
+    abort-nothing (a .endpoint) (a .allowance) (a .rest .now)
+    (number-wrong _ (sym (c .enum-told .given .1) ∙ c .before .before .number-in .ensures))
+
+returns-2 : tie.Need-returns-2
+returns-2 c =
+    let a = c .before .before .before .before .before .args in
+    abort-one (a .endpoint) (a .allowance) (a .rest .now) (c .before .badge .given .0 .0)
+    (number-is _ _ (sym (c .before .badge .given .1) ∙ c .before .before .before .number-in .ensures))
+
+pub abort-spec : {M : Type 1} → statement M
+abort-spec = tie.close (tie.spec number-in-requires enum-known-badge enum-told returns returns-2)

@@ -1,0 +1,14 @@
+-- `journal::one_word` meets its contract: the word is the callee's.
+-- Assumes nothing.
+use borrow.Author.Needs.{needs}
+use Rattle.journal.proofs.one_word.Statement.{statement}
+use Rattle.journal.proofs.one_word.Tie as tie
+
+call-word-requires : tie.Need-call-word-requires
+call-word-requires c κs = search needs
+
+returns : tie.Need-returns
+returns c = rw (c .call-word .ensures)
+
+pub one-word-spec : {M : Type 1} → statement M
+one-word-spec = tie.close (tie.spec call-word-requires returns)

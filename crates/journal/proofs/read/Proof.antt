@@ -1,0 +1,80 @@
+-- `journal::read` meets its contract. A word is below 2 ^ 32, so its top byte is in the table, and at most three words
+-- are taken, so the sum fits.
+-- Assumes nothing.
+use mathlib.Core.Path.{sym, _∙_}
+use native.Mathlib.Omega.{arith}
+use lib.ListN.{getD}
+use Rattle.journal.specs.Words.{topByte}
+use Rattle.journal.proofs.Numbers.{taken-most}
+use Rattle.journal.proofs.Refusals.{ends}
+use Rattle.journal.proofs.Answers.{read-word-at}
+use borrow.Author.Needs.{needs}
+use Rattle.journal.proofs.read.Statement.{statement}
+use Rattle.journal.proofs.read.Tie as tie
+
+returns : tie.Need-returns
+returns c = sym (ends _ _ (c .if1 .taken))
+
+mul-word : tie.Need-mul-word
+mul-word c = search needs
+
+shared-slice-read-word : tie.Need-shared-slice-read-word
+shared-slice-read-word c = search needs
+
+add-next : tie.Need-add-next
+add-next c = search needs
+
+mul-call-at : tie.Need-mul-call-at
+mul-call-at c = search needs
+
+sub-call-at : tie.Need-sub-call-at
+sub-call-at c = search needs
+
+part-call-at-start : tie.Need-part-call-at-start
+part-call-at-start c = search needs
+
+part-call-at-end : tie.Need-part-call-at-end
+part-call-at-end c = search needs
+
+call-at-requires : tie.Need-call-at-requires
+call-at-requires c κs = search needs
+
+words-taken-requires : tie.Need-words-taken-requires
+words-taken-requires c κs =
+    omega (arith, c .before .before .shared-slice-known2 .given (c .before .before .before .before .before .args .at))
+
+add-answer : tie.Need-add-answer
+add-answer c =
+    let start = c .before .before .before .before .before .before in
+    let word = getD (start .args .journal .now) (start .args .at) 0 in
+    let below = c .before .before .before .before .if1 .left in
+    omega (arith, c .words-taken .ensures, taken-most (topByte word), start .good)
+
+answer-requires : tie.Need-answer-requires
+answer-requires c κs = search needs
+
+returns-2 : tie.Need-returns-2
+returns-2 c =
+    let a = c .before .before .before .before .before .before .before .args in
+    c .answer .ensures
+    ∙ read-word-at (a .journal .now) (a .at) (c .before .words-taken .result) (c .before .before .call-at .result)
+    (c .before .before .before .before .before .if1 .left) (c .before .before .call-at .ensures)
+    (c .before .words-taken .ensures)
+
+pub read-spec : {M : Type 1} → statement M
+read-spec =
+    tie.close
+    (tie.spec
+    returns
+    mul-word
+    shared-slice-read-word
+    add-next
+    mul-call-at
+    sub-call-at
+    part-call-at-start
+    part-call-at-end
+    call-at-requires
+    words-taken-requires
+    add-answer
+    answer-requires
+    returns-2)

@@ -1,0 +1,246 @@
+// Journal words and calls: what the words at a place read as, and the words of a call.
+mod taken;
+pub mod types;
+
+use crate::taken::words_taken;
+use crate::types::Read;
+use crate::types::Written;
+use machine::Call;
+ghost use mathlib.Core.Path.{_≡_};
+ghost use mathlib.Core.Bool.{true};
+ghost use mathlib.Core.List.{_∷_, []};
+ghost use Prim.Native.Nat.{_<_};
+ghost use Rattle.machine.specs.Calls.{inRange};
+ghost use Rattle.journal.specs.Words.{numberIn, unused, sendOf, abortOf, callOf, callAt, judged, readAt};
+ghost use Rattle.journal.specs.Words.{callWord, badgeWord, messageWord, asWritten, wordsOf, written};
+ghost use Rattle.journal.specs.Steps.{named, nameOf, number};
+
+// The call that words name, if they name one.
+enum Named {
+    One(Call),
+    Nothing,
+}
+
+// The number in a word of the kind asked for, if it is one.
+enum Number {
+    Is(u32),
+    Wrong,
+}
+
+// The top bits of the words after a call word.
+const BADGE: u32 = 2;
+
+const MESSAGE: u32 = 3;
+
+// The number in the word that the rest of the journal begins with, if that has these top bits.
+fn number_in(rest: &[u32], top: u32) -> Number
+    ensures { λ r. ⌜ r ≡ number (numberIn top (now (rest .entry))) ⌝ }
+{
+    if rest.len() == 0 {
+        return Number::Wrong;
+    }
+    let word = rest[0];
+    if word >> 28 == top {
+        Number::Is(word % 0x1000_0000)
+    } else {
+        Number::Wrong
+    }
+}
+
+// An unused part is 0, or no call is named.
+fn if_unused(part: u32, call: Named) -> Named
+    ensures { λ r. ⌜ r ≡ named (unused part (nameOf call)) ⌝ }
+{
+    if part == 0 { call } else { Named::Nothing }
+}
+
+fn send(endpoint: u32, rest: &[u32]) -> Named
+    ensures { λ r. ⌜ r ≡ named (sendOf endpoint (now (rest .entry))) ⌝ }
+{
+    let Number::Is(badge) = number_in(rest, BADGE) else {
+        return Named::Nothing;
+    };
+    let Number::Is(message) = number_in(&rest[1..], MESSAGE) else {
+        return Named::Nothing;
+    };
+    Named::One(Call::Send {
+        endpoint,
+        badge,
+        message,
+    })
+}
+
+fn abort(endpoint: u32, allowance: u32, rest: &[u32]) -> Named
+    ensures { λ r. ⌜ r ≡ named (abortOf endpoint allowance (now (rest .entry))) ⌝ }
+{
+    let Number::Is(badge) = number_in(rest, BADGE) else {
+        return Named::Nothing;
+    };
+    Named::One(Call::Abort {
+        endpoint,
+        allowance,
+        badge,
+    })
+}
+
+// The call of the parts of a call word, with the words after it, which the rest of the journal begins with.
+fn call_of(number: u32, subject: u32, argument: u32, rest: &[u32]) -> Named
+    ensures { λ r. ⌜ r ≡ named (callOf number subject argument (now (rest .entry))) ⌝ }
+{
+    match number {
+        1 => Named::One(Call::CreateThread {
+            thread: subject,
+            priority: argument,
+        }),
+        2 => if_unused(
+            argument,
+            Named::One(Call::DestroyThread { thread: subject }),
+        ),
+        3 => Named::One(Call::SetPriority {
+            thread: subject,
+            priority: argument,
+        }),
+        4 => if_unused(
+            argument,
+            Named::One(Call::CreateEndpoint { endpoint: subject }),
+        ),
+        5 => if_unused(argument, Named::One(Call::Interrupt { line: subject })),
+        6 => if_unused(subject, if_unused(argument, Named::One(Call::Tick))),
+        7 => if_unused(argument, send(subject, rest)),
+        8 => if_unused(argument, Named::One(Call::Receive { endpoint: subject })),
+        9 => if_unused(subject, if_unused(argument, Named::One(Call::Yield))),
+        10 => if_unused(argument, Named::One(Call::Wait { line: subject })),
+        11 => Named::One(Call::Delete {
+            endpoint: subject,
+            allowance: argument,
+        }),
+        12 => abort(subject, argument, rest),
+        _ => Named::Nothing,
+    }
+}
+
+// The call that a word begins, with the words after it.
+fn call_at(word: u32, rest: &[u32]) -> Named
+    ensures { λ r. ⌜ r ≡ named (callAt word (now (rest .entry))) ⌝ }
+{
+    if words_taken(word >> 24) == 0 {
+        return Named::Nothing;
+    }
+    call_of((word >> 24) % 16, (word >> 16) % 256, word % 0x1_0000, rest)
+}
+
+// What is answered at a place where these words stand: 18 before 19.
+fn answer(words: Named, at: usize, next: usize) -> Read
+    ensures { λ r. ⌜ r ≡ judged at next (nameOf words) ⌝ }
+{
+    let Named::One(call) = words else {
+        return Read::Refused { code: 18, at };
+    };
+    if machine::in_range(call) {
+        Read::Found { call, next }
+    } else {
+        Read::Refused { code: 19, at }
+    }
+}
+
+// What the journal's words from number `at` on read as.
+pub fn read(journal: &[u32], at: usize) -> Read
+    ensures { λ r. ⌜ r ≡ readAt (now (journal .entry)) at ⌝ }
+{
+    if journal.len() <= at {
+        return Read::Ended;
+    }
+    let word = journal[at];
+    let next = at + 1;
+    let words = call_at(word, &journal[next..]);
+    answer(words, at, at + words_taken(word >> 24))
+}
+
+fn call_word(number: u32, subject: u32, argument: u32) -> u32
+    requires { ⌜ (number < 16) × (subject < 256) × (argument < 65536) ⌝ }
+    ensures { λ r. ⌜ r ≡ callWord number subject argument ⌝ }
+{
+    0x1000_0000 + number * 0x0100_0000 + subject * 0x1_0000 + argument
+}
+
+// A call that is its call word alone.
+fn one_word(number: u32, subject: u32, argument: u32) -> Written
+    requires { ⌜ (number < 16) × (subject < 256) × (argument < 65536) ⌝ }
+    ensures { λ r. ⌜ r ≡ asWritten (callWord number subject argument ∷ []) ⌝ }
+{
+    Written {
+        code: 0,
+        count: 1,
+        words: [call_word(number, subject, argument), 0, 0],
+    }
+}
+
+fn send_words(endpoint: u32, badge: u32, message: u32) -> Written
+    requires { ⌜ (endpoint < 256) × (badge < 0x10000000) × (message < 0x10000000) ⌝ }
+    ensures { λ r. ⌜ r ≡ asWritten (callWord 7 endpoint 0 ∷ badgeWord badge ∷ messageWord message ∷ []) ⌝ }
+{
+    let first = call_word(7, endpoint, 0);
+    Written {
+        code: 0,
+        count: 3,
+        words: [first, 0x2000_0000 + badge, 0x3000_0000 + message],
+    }
+}
+
+fn abort_words(endpoint: u32, allowance: u32, badge: u32) -> Written
+    requires { ⌜ (endpoint < 256) × (allowance < 65536) × (badge < 0x10000000) ⌝ }
+    ensures { λ r. ⌜ r ≡ asWritten (callWord 12 endpoint allowance ∷ badgeWord badge ∷ []) ⌝ }
+{
+    let first = call_word(12, endpoint, allowance);
+    Written {
+        code: 0,
+        count: 2,
+        words: [first, 0x2000_0000 + badge, 0],
+    }
+}
+
+fn words_of(call: Call) -> Written
+    requires { ⌜ inRange call ≡ true ⌝ }
+    ensures { λ r. ⌜ r ≡ asWritten (wordsOf call) ⌝ }
+{
+    match call {
+        Call::CreateThread { thread, priority } => one_word(1, thread, priority),
+        Call::DestroyThread { thread } => one_word(2, thread, 0),
+        Call::SetPriority { thread, priority } => one_word(3, thread, priority),
+        Call::CreateEndpoint { endpoint } => one_word(4, endpoint, 0),
+        Call::Interrupt { line } => one_word(5, line, 0),
+        Call::Tick => one_word(6, 0, 0),
+        Call::Send {
+            endpoint,
+            badge,
+            message,
+        } => send_words(endpoint, badge, message),
+        Call::Receive { endpoint } => one_word(8, endpoint, 0),
+        Call::Yield => one_word(9, 0, 0),
+        Call::Wait { line } => one_word(10, line, 0),
+        Call::Delete {
+            endpoint,
+            allowance,
+        } => one_word(11, endpoint, allowance),
+        Call::Abort {
+            endpoint,
+            allowance,
+            badge,
+        } => abort_words(endpoint, allowance, badge),
+    }
+}
+
+// The words of a call, if its numbers are in range.
+pub fn write(call: Call) -> Written
+    ensures { λ r. ⌜ r ≡ written call ⌝ }
+{
+    if machine::in_range(call) {
+        words_of(call)
+    } else {
+        Written {
+            code: 19,
+            count: 0,
+            words: [0, 0, 0],
+        }
+    }
+}

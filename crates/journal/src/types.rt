@@ -1,0 +1,19 @@
+// What reading and writing answer. A module of its own: `Read` and the function `read` could not stand in one.
+use machine::Call;
+
+// What the words at a place read as.
+pub enum Read {
+    // A call, and the number of the first word not yet read.
+    Found { call: Call, next: usize },
+    // 18 or 19, and the place, where the reader stays.
+    Refused { code: u32, at: usize },
+    // The place is at or past the last word.
+    Ended,
+}
+
+// A call as words: code 0, how many, and the words with spare words 0; or 19 and zeros.
+pub struct Written {
+    pub code: u32,
+    pub count: usize,
+    pub words: [u32; 3],
+}
