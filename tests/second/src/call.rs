@@ -1,0 +1,115 @@
+//! The twelve calls and the answer.
+
+pub const BADGE_LIMIT: u32 = 1 << 28;
+
+/// A call with its own numbers, any of which may be out of range.
+#[derive(Clone, Copy, Debug, PartialEq, Eq)]
+pub enum Call {
+    CreateThread { thread: u32, priority: u32 },
+    DestroyThread { thread: u32 },
+    SetPriority { thread: u32, priority: u32 },
+    CreateEndpoint { endpoint: u32 },
+    Interrupt { line: u32 },
+    Tick,
+    Send { endpoint: u32, badge: u32, message: u32 },
+    Receive { endpoint: u32 },
+    Yield,
+    Wait { line: u32 },
+    Delete { endpoint: u32, allowance: u32 },
+    Abort { endpoint: u32, allowance: u32, badge: u32 },
+}
+
+impl Call {
+    /// The call number, 1 to 12.
+    pub fn number(&self) -> u32 {
+        match self {
+            Call::CreateThread { .. } => 1,
+            Call::DestroyThread { .. } => 2,
+            Call::SetPriority { .. } => 3,
+            Call::CreateEndpoint { .. } => 4,
+            Call::Interrupt { .. } => 5,
+            Call::Tick => 6,
+            Call::Send { .. } => 7,
+            Call::Receive { .. } => 8,
+            Call::Yield => 9,
+            Call::Wait { .. } => 10,
+            Call::Delete { .. } => 11,
+            Call::Abort { .. } => 12,
+        }
+    }
+
+    /// The call's own numbers: subject, argument, words after.
+    pub fn numbers(&self) -> Vec<u32> {
+        match *self {
+            Call::CreateThread { thread, priority } => vec![thread, priority],
+            Call::DestroyThread { thread } => vec![thread],
+            Call::SetPriority { thread, priority } => vec![thread, priority],
+            Call::CreateEndpoint { endpoint } => vec![endpoint],
+            Call::Interrupt { line } => vec![line],
+            Call::Tick | Call::Yield => vec![],
+            Call::Send { endpoint, badge, message } => vec![endpoint, badge, message],
+            Call::Receive { endpoint } => vec![endpoint],
+            Call::Wait { line } => vec![line],
+            Call::Delete { endpoint, allowance } => vec![endpoint, allowance],
+            Call::Abort { endpoint, allowance, badge } => vec![endpoint, allowance, badge],
+        }
+    }
+
+    /// Made by the running thread rather than the host.
+    pub fn by_thread(&self) -> bool {
+        self.number() >= 7
+    }
+
+    /// False is the cause of 19.
+    pub fn in_range(&self) -> bool {
+        match *self {
+            Call::CreateThread { thread, priority } | Call::SetPriority { thread, priority } => {
+                thread < 256 && priority < 256
+            }
+            Call::DestroyThread { thread } => thread < 256,
+            Call::CreateEndpoint { endpoint } | Call::Receive { endpoint } => endpoint < 64,
+            Call::Interrupt { line } | Call::Wait { line } => line < 32,
+            Call::Tick | Call::Yield => true,
+            Call::Send { endpoint, badge, message } => {
+                endpoint < 64 && badge < BADGE_LIMIT && message < BADGE_LIMIT
+            }
+            Call::Delete { endpoint, allowance } => endpoint < 64 && allowed(allowance),
+            Call::Abort { endpoint, allowance, badge } => {
+                endpoint < 64 && allowed(allowance) && badge < BADGE_LIMIT
+            }
+        }
+    }
+}
+
+fn allowed(allowance: u32) -> bool {
+    (1..=65_535).contains(&allowance)
+}
+
+/// What a call gives back.
+#[derive(Clone, Copy, Debug, PartialEq, Eq)]
+pub struct Answer {
+    pub code: u32,
+    pub count: u32,
+    pub badge: u32,
+    pub message: u32,
+}
+
+impl Answer {
+    pub const DONE: Answer = Answer::code(0);
+    pub const BLOCKED: Answer = Answer::code(1);
+
+    /// A code and three zeros.
+    pub const fn code(code: u32) -> Answer {
+        Answer { code, count: 0, badge: 0, message: 0 }
+    }
+
+    /// A code with the waiters looked at or removed.
+    pub const fn counted(code: u32, count: u32) -> Answer {
+        Answer { code, count, badge: 0, message: 0 }
+    }
+
+    /// Codes 0, 1 and 2.
+    pub fn accepted(&self) -> bool {
+        self.code <= 2
+    }
+}

@@ -1,0 +1,23 @@
+//! A second kernel core for comparison: 256 threads, 64 endpoints,
+//! 256 priorities, 32 interrupt lines, twelve calls, the journal and
+//! its listing.
+
+mod abort;
+mod call;
+mod journal;
+mod listing;
+mod machine;
+mod queue;
+mod situation;
+mod sound;
+mod steer;
+mod tables;
+
+pub use call::{Answer, Call};
+pub use journal::{read, write, Read, Written, WORDS};
+pub use listing::{listing, HEADER};
+pub use machine::Machine;
+pub use queue::{Queue, Summary};
+pub use situation::{Log, Look, Situation, SITUATIONS};
+pub use steer::{Rng, Steer};
+pub use tables::{Abort, Bond, Endpoint, Line, Phase, Place, Thread};

@@ -1,0 +1,114 @@
+//! A log of the last call, beside the tables: looks and notable situations.
+
+/// A look of an abort: the waiter's thread, and whether it was removed.
+#[derive(Clone, Copy, Debug, PartialEq, Eq)]
+pub struct Look {
+    pub thread: u8,
+    pub removed: bool,
+}
+
+macro_rules! situations {
+    ($($name:ident = $text:expr,)*) => {
+        #[derive(Clone, Copy, Debug, PartialEq, Eq)]
+        pub enum Situation { $($name,)* }
+        /// Every situation with its description, in order.
+        pub const SITUATIONS: &[(Situation, &str)] = &[$((Situation::$name, $text),)*];
+    };
+}
+
+situations! {
+    AbortBegun = "abort begun",
+    AbortNoSender = "abort begun with nobody queued",
+    AbortReceivers = "abort begun with receivers queued",
+    AbortExact = "own abort finished exactly at the allowance",
+    AbortBroken = "abort broken off in the own abort",
+    OtherBroken = "abort broken off in another badge's",
+    OtherDone = "other badge's abort finished on the way, own begun",
+    OtherExact = "allowance used up exactly as the other finishes",
+    OtherExactEmpty = "same, with no sender left",
+    OtherNothing = "other badge's abort had nothing left",
+    OtherNoOwner = "worked on another badge's abort without owner",
+    LookedTwice = "one waiter looked at twice in one call",
+    OwnerGoesOn = "owner continues its abort",
+    JoinOwner = "joiner, abort has an owner",
+    JoinNoOwner = "joiner becomes owner",
+    JoinNothing = "joined with nothing left",
+    JoinerBroken = "joiner that is not owner broken off",
+    NoteByAbort = "note given by another's abort call",
+    NoteByDelete = "note given by delete",
+    EndNoOwner = "abort without owner ended",
+    NoteAnswered = "note answered",
+    NoteAbsent = "note answered, endpoint absent",
+    NoteClosing = "note answered, endpoint closing",
+    NoteStanding = "note answered, same badge under a new abort",
+    NoteOther = "note answered, another badge under abort",
+    NoteDropped = "note dropped by an other call",
+    NoteKilled = "note dropped by destruction",
+    OwnerDropped = "ownership dropped by an other call",
+    OwnerKilled = "ownership dropped by destruction",
+    OwnerAbortsOther = "owner aborts another badge at the same endpoint",
+    CursorTaken = "cursor waiter left by a receive",
+    CursorKilled = "cursor waiter left by destruction",
+    EndTaken = "end mark alone left by a receive (cannot be: the head is then the cursor too)",
+    EndKilled = "end mark waiter left by destruction",
+    BothTaken = "cursor and end mark at once left by a receive",
+    BothKilled = "cursor and end mark at once left by destruction",
+    AbortedTaken = "sender under the aborted badge taken by a receive",
+    SentBehind = "sender queues behind a standing end mark",
+    SentNothing = "sender queues under an abort with nothing left",
+    ReceiverUnder = "receiver queues under a standing abort",
+    RefusedOwner = "26 for the owner itself",
+    RefusedNothing = "26 with nothing left",
+    RefusedNoOwner = "26 without owner",
+    RefusedReceivers = "26 with receivers queued",
+    DeleteEmpty = "delete of an empty open endpoint",
+    DeleteExact = "delete finished exactly at the allowance",
+    DeleteBroken = "delete broken off",
+    DeleteReceivers = "delete removes receivers",
+    DeleteGoesOn = "delete continues a closing endpoint",
+    DeleteEndsAbort = "delete ends an abort",
+    DeleteByOwner = "delete by the abort's owner",
+    ClosingEmptied = "closing endpoint emptied by destruction",
+    ClosingEmptyGone = "closing and empty endpoint deleted",
+    ClosingEmptyKept = "24 at a closing and empty endpoint",
+    Displaced = "running thread displaced",
+    DisplacedBehind = "caller displaced behind threads it woke at its level",
+    TicksSpent = "ticks spent",
+    IdleTick = "tick with nobody running",
+    SamePriority = "same priority set",
+    ReadyMoved = "ready thread moved to another level",
+    RunningLowered = "running thread lowered and displaced",
+    BlockedPriority = "blocked thread's priority changed",
+    RunningKilled = "running thread destroyed",
+    ReadyKilled = "ready thread destroyed",
+    LineKilled = "waiter on a line destroyed",
+    LineFired = "waiter on a line woken",
+    PendingAgain = "interrupt on a pending line",
+    PendingTaken = "wait takes a pending line",
+}
+
+/// What the last call did, for printing and counting only.
+#[derive(Clone, Default)]
+pub struct Log {
+    pub looks: Vec<Look>,
+    pub seen: Vec<Situation>,
+    pub woken: Vec<u8>,
+}
+
+impl Log {
+    pub fn clear(&mut self) {
+        self.looks.clear();
+        self.seen.clear();
+        self.woken.clear();
+    }
+
+    pub fn saw(&mut self, situation: Situation) {
+        self.seen.push(situation);
+    }
+
+    pub fn saw_if(&mut self, holds: bool, situation: Situation) {
+        if holds {
+            self.seen.push(situation);
+        }
+    }
+}

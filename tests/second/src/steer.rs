@@ -1,0 +1,488 @@
+//! Random calls, steered by the machine's state towards deep states.
+
+use crate::call::Call;
+use crate::machine::Machine;
+use crate::tables::{Abort, Bond, Phase, Place};
+
+const LOW: u32 = (1 << 28) - 1;
+
+/// A small generator (splitmix), the same from the same seed.
+#[derive(Clone)]
+pub struct Rng(u64);
+
+impl Rng {
+    pub fn new(seed: u64) -> Rng {
+        Rng(seed)
+    }
+
+    pub fn draw(&mut self) -> u64 {
+        self.0 = self.0.wrapping_add(0x9E37_79B9_7F4A_7C15);
+        let mut z = self.0;
+        z = (z ^ (z >> 30)).wrapping_mul(0xBF58_476D_1CE4_E5B9);
+        z = (z ^ (z >> 27)).wrapping_mul(0x94D0_49BB_1331_11EB);
+        z ^ (z >> 31)
+    }
+
+    /// 0 to n - 1.
+    pub fn below(&mut self, n: usize) -> usize {
+        (self.draw() % n as u64) as usize
+    }
+
+    pub fn one_in(&mut self, n: usize) -> bool {
+        self.below(n) == 0
+    }
+
+    pub fn pick<T: Copy>(&mut self, from: &[T]) -> T {
+        from[self.below(from.len())]
+    }
+
+    /// An index, by weight.
+    pub fn weighted(&mut self, weights: &[usize]) -> usize {
+        let mut at = self.below(weights.iter().sum());
+        for (i, &w) in weights.iter().enumerate() {
+            if at < w {
+                return i;
+            }
+            at -= w;
+        }
+        unreachable!("below the sum")
+    }
+}
+
+/// The numbers that one list of calls draws on.
+pub struct Steer {
+    rng: Rng,
+    threads: Vec<u8>,
+    levels: Vec<u8>,
+    endpoints: Vec<u8>,
+    lines: Vec<u8>,
+    badges: Vec<u32>,
+    message: u32,
+    ticks: u32,
+}
+
+impl Steer {
+    pub fn new(seed: u64) -> Steer {
+        let mut steer = Steer {
+            rng: Rng::new(seed),
+            threads: Vec::new(),
+            levels: Vec::new(),
+            endpoints: Vec::new(),
+            lines: Vec::new(),
+            badges: Vec::new(),
+            message: 0,
+            ticks: 0,
+        };
+        steer.new_list();
+        steer
+    }
+
+    /// Draws anew the few numbers to use; now and then many.
+    pub fn new_list(&mut self) {
+        let wide = self.rng.one_in(24);
+        let (t, l, e, b) = if wide {
+            (40 + self.rng.below(217), 12, 8, 6)
+        } else {
+            let rng = &mut self.rng;
+            (3 + rng.below(8), 1 + rng.below(3), 1 + rng.below(2), 2 + rng.below(2))
+        };
+        self.threads = self.some(t, 255);
+        self.levels = self.some(l, 255);
+        self.endpoints = self.some(e, 63);
+        self.lines = self.some(2, 31);
+        self.ticks = 0;
+        let badges = [0, 1, 7, 8, LOW - 1, LOW];
+        let from = self.rng.below(badges.len());
+        self.badges = (0..b).map(|i| badges[(from + i) % badges.len()]).collect();
+    }
+
+    /// Some different numbers up to a top, which is often among them.
+    fn some(&mut self, count: usize, top: u8) -> Vec<u8> {
+        let mut out: Vec<u8> = Vec::new();
+        while out.len() < count {
+            let n = match self.rng.below(4) {
+                0 => top,
+                1 => 0,
+                2 => (out.len() % (top as usize + 1)) as u8,
+                _ => self.rng.below(top as usize + 1) as u8,
+            };
+            if !out.contains(&n) {
+                out.push(n);
+            }
+        }
+        out
+    }
+
+    /// The next call of the list.
+    pub fn next(&mut self, m: &Machine) -> Call {
+        if self.ticks > 0 {
+            self.ticks -= 1;
+            return Call::Tick;
+        }
+        if self.rng.one_in(14) {
+            return self.edge();
+        }
+        if m.running().is_none() && !self.rng.one_in(16) {
+            return self.idle(m);
+        }
+        let noted = self.threads.iter().any(|&t| matches!(m.thread(t).bond, Bond::Note { .. }));
+        if self.rng.one_in(if noted { 2 } else { 6 }) {
+            if let Some(call) = self.bonded(m) {
+                return call;
+            }
+        }
+        let e = self.focus(m);
+        let block = m.endpoint(e);
+        match (block.phase, block.abort) {
+            (Phase::Absent, _) => self.at_absent(m, e),
+            (Phase::Closing, _) => self.at_closing(m, e),
+            (Phase::Open, Some(abort)) => self.at_abort(m, e, &abort),
+            (Phase::Open, None) => self.at_open(m, e),
+        }
+    }
+}
+
+/// What to do in each state.
+impl Steer {
+    /// An endpoint, more likely one with much going on.
+    fn focus(&mut self, m: &Machine) -> u8 {
+        let weights: Vec<usize> = self
+            .endpoints
+            .iter()
+            .map(|&e| {
+                let block = m.endpoint(e);
+                let busy = block.abort.is_some() || block.phase == Phase::Closing;
+                1 + 4 * busy as usize + 2 * !block.queue.is_empty() as usize
+            })
+            .collect();
+        self.endpoints[self.rng.weighted(&weights)]
+    }
+
+    /// Nobody runs: the host has to bring someone.
+    fn idle(&mut self, m: &Machine) -> Call {
+        match self.rng.weighted(&[6, 3, 3, 1, 1]) {
+            0 => self.create_absent(m),
+            1 => {
+                let l = self.rng.pick(&self.lines);
+                Call::Interrupt { line: l as u32 }
+            }
+            2 => self.destroy(m),
+            3 => Call::Tick,
+            _ => self.priority(),
+        }
+    }
+
+    fn at_absent(&mut self, m: &Machine, e: u8) -> Call {
+        match self.rng.weighted(&[10, 3, 1]) {
+            0 => Call::CreateEndpoint { endpoint: e as u32 },
+            1 => self.create_absent(m),
+            _ => self.at_endpoint(m, e),
+        }
+    }
+
+    fn at_closing(&mut self, m: &Machine, e: u8) -> Call {
+        let endpoint = e as u32;
+        let waiters = m.waiters(e);
+        match self.rng.weighted(&[5, 6, 1, 2, 3, 2]) {
+            0 => Call::Delete { endpoint, allowance: self.small(waiters.len()) },
+            1 if !waiters.is_empty() => {
+                let thread = self.rng.pick(&waiters) as u32;
+                Call::DestroyThread { thread }
+            }
+            2 => Call::CreateEndpoint { endpoint },
+            3 => self.at_endpoint(m, e),
+            4 => self.create_absent(m),
+            _ => self.bustle(m),
+        }
+    }
+
+    fn at_open(&mut self, m: &Machine, e: u8) -> Call {
+        let endpoint = e as u32;
+        let waiters = m.waiters(e).len();
+        let senders = if m.first_sender(e).is_some() { waiters } else { 0 };
+        let lone = m.summary().top == 0 && !self.rng.one_in(6);
+        let begin = [1, 1, 2, 4, 8][senders.min(4)];
+        let send = if lone { 0 } else { 10 };
+        let receive = if lone { 0 } else { 1 + (waiters > 0) as usize };
+        let delete = if waiters > 2 { 2 } else { 1 };
+        let create = if lone { 12 } else { 4 };
+        match self.rng.weighted(&[begin, send, receive, delete, create, 3]) {
+            0 => {
+                let allowance = self.small(waiters);
+                Call::Abort { endpoint, allowance, badge: self.rng.pick(&self.badges) }
+            }
+            1 => self.send(endpoint, None),
+            2 => Call::Receive { endpoint },
+            3 => Call::Delete { endpoint, allowance: self.small(waiters) },
+            4 => self.create_absent(m),
+            _ => self.bustle(m),
+        }
+    }
+
+    fn at_abort(&mut self, m: &Machine, e: u8, abort: &Abort) -> Call {
+        let owns = abort.owner.is_some() && abort.owner == m.running();
+        if owns && m.summary().top != 0 && self.rng.one_in(2) {
+            return self.bring(m);
+        }
+        match self.rng.weighted(&[8, 5, 11, 1, 4, 5, 1]) {
+            0 => self.go_on(m, e, abort),
+            1 => self.remove_mark(m, abort),
+            2 => self.queue_under(m, e, abort),
+            3 => Call::Delete { endpoint: e as u32, allowance: self.small(m.waiters(e).len()) },
+            4 => self.bring(m),
+            5 => self.create_absent(m),
+            _ => self.bustle(m),
+        }
+    }
+
+    /// An abort call of the same or another badge.
+    fn go_on(&mut self, m: &Machine, e: u8, abort: &Abort) -> Call {
+        let endpoint = e as u32;
+        let left = self.left(m, abort);
+        if self.rng.one_in(2) {
+            return Call::Abort { endpoint, allowance: self.small(left), badge: abort.badge };
+        }
+        let allowance = self.near(left, m.waiters(e).len());
+        Call::Abort { endpoint, allowance, badge: self.other_badge(abort.badge) }
+    }
+
+    /// Destroys the waiter at a mark, or the owner.
+    fn remove_mark(&mut self, m: &Machine, abort: &Abort) -> Call {
+        let thread = match (self.rng.below(5), abort.span, abort.owner) {
+            (0 | 1, Some((cursor, _)), _) => cursor,
+            (2 | 3, Some((_, end)), _) => end,
+            (4, _, Some(owner)) => owner,
+            _ => return self.bring(m),
+        };
+        Call::DestroyThread { thread: thread as u32 }
+    }
+
+    /// A send or receive at an endpoint under abort.
+    fn queue_under(&mut self, m: &Machine, e: u8, abort: &Abort) -> Call {
+        let endpoint = e as u32;
+        let receive = if m.endpoint(e).queue.is_empty() { 6 } else { 2 };
+        let send = if m.first_receiver(e).is_some() { 1 } else { 7 };
+        match self.rng.weighted(&[receive, send, 2]) {
+            0 => Call::Receive { endpoint },
+            1 => {
+                let badge = self.other_badge(abort.badge);
+                self.send(endpoint, Some(badge))
+            }
+            _ => self.send(endpoint, Some(abort.badge)),
+        }
+    }
+
+    /// A thread has a note or owns an abort: let it run, answer or be lost.
+    fn bonded(&mut self, m: &Machine) -> Option<Call> {
+        let bonds: Vec<u8> =
+            self.threads.iter().copied().filter(|&t| m.thread(t).bond != Bond::None).collect();
+        if bonds.is_empty() {
+            return None;
+        }
+        let t = self.rng.pick(&bonds);
+        let (Bond::Owner { endpoint, badge } | Bond::Note { endpoint, badge }) = m.thread(t).bond
+        else {
+            return None;
+        };
+        if m.running() != Some(t) {
+            return Some(self.around(m, t, endpoint, badge));
+        }
+        let e = endpoint as u32;
+        Some(match self.rng.weighted(&[6, 1, 2, 1]) {
+            0 => Call::Abort { endpoint: e, allowance: self.small(2), badge },
+            1 => Call::Abort { endpoint: e, allowance: 0, badge },
+            2 => self.at_endpoint(m, endpoint),
+            _ => self.bustle(m),
+        })
+    }
+
+    /// Others' calls while a thread has an ownership or a note.
+    fn around(&mut self, m: &Machine, t: u8, e: u8, badge: u32) -> Call {
+        let endpoint = e as u32;
+        match self.rng.weighted(&[6, 4, 1, 2, 2, 1, 3]) {
+            0 => self.lift(m, t),
+            1 => Call::Abort { endpoint, allowance: 1, badge },
+            2 => Call::DestroyThread { thread: t as u32 },
+            3 => Call::Delete { endpoint, allowance: self.small(1) },
+            4 => Call::CreateEndpoint { endpoint },
+            5 => self.at_endpoint(m, e),
+            _ => self.send(endpoint, Some(badge)),
+        }
+    }
+}
+
+/// Single calls.
+impl Steer {
+    /// One or two at most times, else up to a little more than there are.
+    fn small(&mut self, there: usize) -> u32 {
+        match self.rng.below(8) {
+            0..=3 => 1,
+            4 => 2,
+            5 => there.max(1) as u32,
+            6 => 1 + self.rng.below(there + 2) as u32,
+            _ => self.rng.pick(&[1, 2, 65_535]),
+        }
+    }
+
+    /// About as many as are left, or as are left and queued then.
+    fn near(&mut self, left: usize, waiters: usize) -> u32 {
+        let n = match self.rng.below(7) {
+            0 => 1,
+            6 => 1 + self.rng.below(left.max(1)),
+            1 | 2 => left,
+            3 => left + 1,
+            4 => left + self.rng.below(waiters + 1),
+            _ => left + waiters,
+        };
+        n.max(1) as u32
+    }
+
+    fn left(&self, m: &Machine, abort: &Abort) -> usize {
+        let Some((mut at, end)) = abort.span else {
+            return 0;
+        };
+        let mut n = 1;
+        while at != end {
+            at = m.next(at).expect("the end mark is behind");
+            n += 1;
+        }
+        n
+    }
+
+    fn other_badge(&mut self, badge: u32) -> u32 {
+        let others: Vec<u32> = self.badges.iter().copied().filter(|&b| b != badge).collect();
+        if others.is_empty() {
+            return badge;
+        }
+        self.rng.pick(&others)
+    }
+
+    fn send(&mut self, endpoint: u32, badge: Option<u32>) -> Call {
+        let badge = badge.unwrap_or_else(|| self.rng.pick(&self.badges));
+        self.message = (self.message + 1) & LOW;
+        let message = match self.rng.below(30) {
+            0 => 0,
+            1 => LOW,
+            _ => self.message,
+        };
+        Call::Send { endpoint, badge, message }
+    }
+
+    /// Any call at an endpoint.
+    fn at_endpoint(&mut self, m: &Machine, e: u8) -> Call {
+        let endpoint = e as u32;
+        let waiters = m.waiters(e).len();
+        match self.rng.below(4) {
+            0 => self.send(endpoint, None),
+            1 => Call::Receive { endpoint },
+            2 => Call::Delete { endpoint, allowance: self.small(waiters) },
+            _ => {
+                let allowance = self.small(waiters);
+                Call::Abort { endpoint, allowance, badge: self.rng.pick(&self.badges) }
+            }
+        }
+    }
+
+    fn create_absent(&mut self, m: &Machine) -> Call {
+        let absent: Vec<u8> =
+            self.threads.iter().copied().filter(|&t| !m.thread(t).present()).collect();
+        if absent.is_empty() {
+            return self.bustle(m);
+        }
+        let (thread, priority) = (self.rng.pick(&absent), self.rng.pick(&self.levels));
+        Call::CreateThread { thread: thread as u32, priority: priority as u32 }
+    }
+
+    fn destroy(&mut self, m: &Machine) -> Call {
+        let there: Vec<u8> =
+            self.threads.iter().copied().filter(|&t| m.thread(t).present()).collect();
+        let thread = if there.is_empty() { 0 } else { self.rng.pick(&there) };
+        Call::DestroyThread { thread: thread as u32 }
+    }
+
+    fn priority(&mut self) -> Call {
+        let (thread, priority) = (self.rng.pick(&self.threads), self.rng.pick(&self.levels));
+        Call::SetPriority { thread: thread as u32, priority: priority as u32 }
+    }
+
+    /// Lets some ready thread run without a call of the running one.
+    fn bring(&mut self, m: &Machine) -> Call {
+        let ready: Vec<u8> =
+            self.threads.iter().copied().filter(|&t| m.thread(t).place == Place::Ready).collect();
+        if ready.is_empty() || self.rng.one_in(3) {
+            return Call::Tick;
+        }
+        let t = self.rng.pick(&ready);
+        self.lift(m, t)
+    }
+
+    /// Sets a thread above the running one, or lowers the running one.
+    fn lift(&mut self, m: &Machine, t: u8) -> Call {
+        let own = m.running().map_or(0, |r| m.thread(r).priority);
+        match m.running() {
+            Some(r) if own == 255 || own > 0 && self.rng.one_in(2) => {
+                let priority = m.thread(t).priority.min(own) as u32;
+                Call::SetPriority { thread: r as u32, priority: priority.saturating_sub(1) }
+            }
+            _ => Call::SetPriority { thread: t as u32, priority: own.saturating_add(1) as u32 },
+        }
+    }
+
+    /// Ticks, yields, lines, priorities.
+    fn bustle(&mut self, m: &Machine) -> Call {
+        let line = self.rng.pick(&self.lines) as u32;
+        match self.rng.weighted(&[4, 3, 2, 2, 3, 1]) {
+            0 => {
+                self.ticks = self.rng.pick(&[0, 0, 0, 1, 4]);
+                Call::Tick
+            }
+            1 => Call::Yield,
+            2 => Call::Interrupt { line },
+            3 => Call::Wait { line },
+            4 => self.priority(),
+            _ => self.destroy(m),
+        }
+    }
+}
+
+/// Range edges.
+impl Steer {
+    fn edge_of(&mut self, own: &[u8], edges: &[u32]) -> u32 {
+        match self.rng.below(3) {
+            0 => self.rng.pick(edges),
+            _ => self.rng.pick(own) as u32,
+        }
+    }
+
+    fn edge_badge(&mut self) -> u32 {
+        match self.rng.below(3) {
+            0 => self.rng.pick(&[0, LOW, LOW + 1, u32::MAX]),
+            _ => self.rng.pick(&self.badges),
+        }
+    }
+
+    fn edge(&mut self) -> Call {
+        let (threads, levels) = (self.threads.clone(), self.levels.clone());
+        let thread = self.edge_of(&threads, &[0, 255, 256, u32::MAX]);
+        let priority = self.edge_of(&levels, &[0, 31, 32, 255, 256, 65_536]);
+        let (endpoints, lines) = (self.endpoints.clone(), self.lines.clone());
+        let endpoint = self.edge_of(&endpoints, &[0, 63, 64, 256]);
+        let line = self.edge_of(&lines, &[0, 31, 32, 256]);
+        let (badge, message) = (self.edge_badge(), self.edge_badge());
+        let allowance = self.rng.pick(&[0, 1, 1, 2, 2, 3, 65_535, 65_536, u32::MAX]);
+        match self.rng.below(12) {
+            0 => Call::CreateThread { thread, priority },
+            1 => Call::DestroyThread { thread },
+            2 => Call::SetPriority { thread, priority },
+            3 => Call::CreateEndpoint { endpoint },
+            4 => Call::Interrupt { line },
+            5 => Call::Tick,
+            6 => Call::Send { endpoint, badge, message },
+            7 => Call::Receive { endpoint },
+            8 => Call::Yield,
+            9 => Call::Wait { line },
+            10 => Call::Delete { endpoint, allowance },
+            _ => Call::Abort { endpoint, allowance, badge },
+        }
+    }
+}
