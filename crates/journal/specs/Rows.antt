@@ -1,5 +1,5 @@
--- The rows of the listing of a journal: each call that reads is made in turn from fresh tables; a word that does not read as a
--- call stops the listing with a last row.
+-- The rows of the listing of a journal: each call that reads is made in turn from fresh tables; a word that does
+-- not read as a call stops the listing with a last row.
 use Prim.Native.Nat.{ℕ, zero, suc}
 use mathlib.Core.Option.{Option}
 use mathlib.Core.List.{List, [], _∷_}

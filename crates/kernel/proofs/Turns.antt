@@ -34,11 +34,6 @@ unfolding called
 called-image s scratch c S n =
     rw (eq-eqb (length (image s)) 4096 (length-image s), eq-eqb (length scratch) 256 n, state-image s S)
 
--- The answers of a run are appended to those before.
-answers-more : (f : State) (c : Call) (h : History) → told c f (step f c) h .answers ≡ h .answers ++ (step f c .answer ∷ [])
-unfolding told recorded
-answers-more f c h = refl
-
 -- From the memory of a run's state, calls made in turn go on as the machine's run does.
 pub record Same (calls : List Call) (x : Run) (scratch : List ℕ) : Type 0 where
   pub answers :
@@ -70,9 +65,9 @@ turns-same (c ∷ l) x scratch S n =
     one-more c l x scratch S n
     (turns-same l (next x c) zeros (step-sound (x .state) c S) (length-replicate {A = ℕ} 256 0))
 
--- "Its first call gets fresh tables, each later one the tables that the one before it left": from the tables that making
--- fresh leaves, the answers that the entry gives are those of the list's history, of which demand 3 speaks, and the tables
--- are the memory of the machine's state.
+-- "Its first call gets fresh tables, each later one the tables that the one before it left": from the tables that
+-- making fresh leaves, the answers that the entry gives are those of the list's history, of which demand 3 speaks,
+-- and the tables are the memory of the machine's state.
 pub fresh-turns :
     (m scratch : List ℕ) (calls : List Call) → length m ≡ 4096 → length scratch ≡ 256
     → (turns calls (freshened m .tables) scratch .answers ≡ historyOf calls .answers)

@@ -21,8 +21,8 @@ pub record Called : Type 0 where
   pub tables : List ℕ
   pub scratch : List ℕ
 
--- Tables that show no sound state: 17, and they stay as they are. Else the machine's answer, and the memory of its state; a
--- refusal leaves the state, and so the tables. The scratch is all zero.
+-- Tables that show no sound state: 17, and they stay as they are. Else the machine's answer, and the memory of its
+-- state; a refusal leaves the state, and so the tables. The scratch is all zero.
 abbrev pub taken : Option State → List ℕ → Call → Called
 taken none m c = record { answer = plain 17; tables = m; scratch = zeros }
 taken (some s) m c = record { answer = step s c .answer; tables = image (step s c .state); scratch = zeros }

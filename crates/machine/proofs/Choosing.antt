@@ -11,7 +11,8 @@ use lib.Dec.{ltb}
 use borrow.Author.Tests.{ltb-true, ltb-false}
 use Rattle.machine.specs.Lists.{pick, put, Mem}
 use Rattle.machine.specs.State.{State}
-use Rattle.machine.specs.Scheduling.{enqueue, standDown, occupied, highestBelow, highest, dispatchHead, dispatchAt, dispatch, above, displace, chooseFor, choose}
+use Rattle.machine.specs.Scheduling.{enqueue, standDown, occupied, highestBelow, highest, dispatchHead}
+use Rattle.machine.specs.Scheduling.{dispatchAt, dispatch, above, displace, chooseFor, choose}
 use Rattle.machine.specs.Sound.{Sound, Chosen, Ready}
 use Rattle.machine.proofs.Lists.{clash, put-same, same, other, same?}
 use Rattle.machine.proofs.Mid.{Mid, sound-mid}

@@ -1,12 +1,13 @@
--- Histories as the checker computes them, compared with tables worked out from document 01: the answers, the aborts that
--- ended, what was handed over and what each call 12 reports. Assumes nothing.
+-- Histories as the checker computes them, compared with tables worked out from document 01: the answers, the aborts
+-- that ended, what was handed over and what each call 12 reports. Assumes nothing.
 use Prim.Native.Nat.{ℕ}
 use mathlib.Core.Path.{_≡_, refl}
 use mathlib.Core.Option.{Option, none, some}
 use mathlib.Core.List.{List, [], _∷_}
 use Rattle.machine.specs.declared.Answer.{Answer}
 use Rattle.machine.specs.declared.Call.{Call}
-use Rattle.machine.specs.declared.Call.the-variants.{CreateThread, DestroyThread, SetPriority, CreateEndpoint, Interrupt, Tick, Send, Receive, Yield, Wait, Delete, Abort}
+use Rattle.machine.specs.declared.Call.the-variants.{CreateThread, DestroyThread, SetPriority, CreateEndpoint}
+use Rattle.machine.specs.declared.Call.the-variants.{Interrupt, Tick, Send, Receive, Yield, Wait, Delete, Abort}
 use Rattle.machine.specs.History.{History, Aborting, Ended, Delivery, AbortCall, Reported, historyOf}
 use Rattle.machine.proofs.Computed.{computed}
 
@@ -56,8 +57,8 @@ hands place e b m queue handed =
 reports : ℕ → ℕ → ℕ → Option Reported
 reports e b began = some (record { endpoint = e; badge = b; began = began })
 
--- The example of document 01. Thread 1's abort of badge 7, broken off in call 6, ends in call 9, which thread 3 makes; call 11
--- is answered from thread 1's note.
+-- The example of document 01. Thread 1's abort of badge 7, broken off in call 6, ends in call 9, which thread 3
+-- makes; call 11 is answered from thread 1's note.
 example : List Call
 example =
     CreateThread 1 10 ∷ CreateThread 2 10 ∷ CreateThread 3 20 ∷ CreateEndpoint 0 ∷ Send 0 7 100 ∷ Send 0 8 200
@@ -77,8 +78,8 @@ example-history :
 unfolding tableOf reportsOf example computed answer done blocked abort ends hands reports
 example-history = refl
 
--- Another badge's abort, broken off in call 8, is finished on the way in call 9, whose own begins on the one it kept: that
--- waiter is looked at twice, by two aborts.
+-- Another badge's abort, broken off in call 8, is finished on the way in call 9, whose own begins on the one it
+-- kept: that waiter is looked at twice, by two aborts.
 other-badge : List Call
 other-badge =
     CreateThread 1 10 ∷ CreateThread 2 20 ∷ CreateEndpoint 0 ∷ Send 0 7 100 ∷ CreateThread 3 20 ∷ Send 0 8 200
@@ -98,8 +99,8 @@ other-badge-history :
 unfolding tableOf reportsOf other-badge computed answer done blocked abort ends hands reports
 other-badge-history = refl
 
--- Thread 1 is broken off in call 6; thread 6 joins and finishes in call 8; thread 1's call 10 is answered from its note,
--- and reports the abort that it owned.
+-- Thread 1 is broken off in call 6; thread 6 joins and finishes in call 8; thread 1's call 10 is answered from its
+-- note, and reports the abort that it owned.
 joined : List Call
 joined =
     CreateThread 2 5 ∷ CreateEndpoint 0 ∷ Send 0 7 100 ∷ CreateThread 3 5 ∷ Send 0 7 101 ∷ CreateThread 1 10
@@ -137,9 +138,9 @@ made-anew-history :
 unfolding tableOf reportsOf made-anew computed answer done blocked abort ends hands reports
 made-anew-history = refl
 
--- The incident of release 6: the abort of badge 7 is broken off in call 8, and the waiter at its cursor leaves in call 9.
--- The badge's new holder is refused until the abort has ended, in call 13, which removes the old lookup of call 6; what is
--- received in call 16 is the new holder's own.
+-- The incident of release 6: the abort of badge 7 is broken off in call 8, and the waiter at its cursor leaves in
+-- call 9. The badge's new holder is refused until the abort has ended, in call 13, which removes the old lookup of
+-- call 6; what is received in call 16 is the new holder's own.
 incident : List Call
 incident =
     CreateThread 2 5 ∷ CreateEndpoint 0 ∷ Send 0 7 100 ∷ CreateThread 3 5 ∷ Send 0 8 200 ∷ CreateThread 4 5

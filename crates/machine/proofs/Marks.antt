@@ -14,7 +14,8 @@ use Rattle.machine.specs.Scheduling.{enqueue, wake}
 use Rattle.machine.specs.Endpoints.{pendingOf, passing, setAbort, leaveEndpoint, wakeFrom}
 use Rattle.machine.specs.Aborts.{hits, lookAt, look, pendingAt}
 use Rattle.machine.specs.Work.{last, cursorAt, endMarkAt}
-use Rattle.machine.proofs.Lists.{Same, same, other, same?, put-same, without-hit, without-miss, without-nil, without-none, without-append, without-first, mem-without, distinct-apart}
+use Rattle.machine.proofs.Lists.{Same, same, other, same?, put-same, without-hit, without-miss, without-nil}
+use Rattle.machine.proofs.Lists.{without-none, without-append, without-first, mem-without, distinct-apart}
 
 -- Lists: the first and the last when one leaves
 

@@ -6,7 +6,8 @@ use mathlib.Core.Logic.{_⊎_, _↔_}
 use mathlib.Core.Option.{Option, none, some}
 use mathlib.Core.List.{List, [], _++_}
 use Rattle.machine.specs.Lists.{Mem, Distinct}
-use Rattle.machine.specs.State.{State, Thread, Place, absent, able, sending, receiving, waiting, owns, Abort, Endpoint, missing, live, Line, quiet, awaited, absentThread, missingEndpoint}
+use Rattle.machine.specs.State.{State, Thread, Place, absent, able, sending, receiving, waiting, owns, Abort}
+use Rattle.machine.specs.State.{Endpoint, missing, live, Line, quiet, awaited, absentThread, missingEndpoint}
 use Rattle.machine.specs.Endpoints.{ownerOf}
 use Rattle.machine.specs.Sound.{Stores, Numbers}
 use Rattle.machine.proofs.Mid.{Mid}

@@ -8,7 +8,8 @@ use mathlib.Core.List.{List, [], _∷_, _++_}
 use native.Mathlib.Omega.{arith}
 use Rattle.machine.specs.Lists.{put, without, Mem, Distinct}
 use Rattle.machine.specs.State.{Thread, able}
-use Rattle.machine.proofs.Lists.{Same, same, other, same?, put-same, put-other, put-all, mem-last, mem-left, mem-snoc, mem-without, mem-keep, distinct-snoc, distinct-without}
+use Rattle.machine.proofs.Lists.{Same, same, other, same?, put-same, put-other, put-all, mem-last, mem-left}
+use Rattle.machine.proofs.Lists.{mem-snoc, mem-without, mem-keep, distinct-snoc, distinct-without}
 use Rattle.machine.proofs.Parts.{Levels, Idle}
 
 -- The two tables agree but at t.

@@ -12,7 +12,8 @@ use lib.ListN.{length, length-append}
 use borrow.Author.Tests.{ltb-true, ltb-false}
 use Rattle.machine.specs.Lists.{Mem}
 use Rattle.machine.specs.State.{State, setRuns, setLevel}
-use Rattle.machine.specs.Scheduling.{enqueue, standDown, highest, dispatchHead, dispatchAt, dispatch, above, displace, chooseFor, choose}
+use Rattle.machine.specs.Scheduling.{enqueue, standDown, highest, dispatchHead, dispatchAt, dispatch, above}
+use Rattle.machine.specs.Scheduling.{displace, chooseFor, choose}
 use Rattle.machine.proofs.Lists.{put-same, put-other}
 use Rattle.machine.proofs.Choosing.{Highest, highest-is}
 

@@ -13,16 +13,24 @@ use lib.ListN.{length, length-append}
 use borrow.Author.Tests.{leb-true}
 use Rattle.machine.specs.declared.Answer.{Answer}
 use Rattle.machine.specs.declared.Call.{Call}
-use Rattle.machine.specs.declared.Call.the-variants.{CreateThread, DestroyThread, SetPriority, CreateEndpoint, Interrupt, Tick, Send, Receive, Yield, Wait, Delete, Abort}
+use Rattle.machine.specs.declared.Call.the-variants.{CreateThread, DestroyThread, SetPriority, CreateEndpoint}
+use Rattle.machine.specs.declared.Call.the-variants.{Interrupt, Tick, Send, Receive, Yield, Wait, Delete, Abort}
 use Rattle.machine.specs.Calls.{numberOf, inRange, isEndpoint, isAllowance, isBadge}
 use Rattle.machine.specs.Lists.{Mem, Distinct}
 use Rattle.machine.specs.State as State
-use Rattle.machine.specs.State.{State, Debt, nothing, owns, noted, Status, missing, live, closing, Line, quiet, pending, awaited, Endpoint, missingEndpoint, setEndpoint}
+use Rattle.machine.specs.State.{State, Debt, nothing, owns, noted, Status, missing, live, closing, Line, quiet}
+use Rattle.machine.specs.State.{pending, awaited, Endpoint, missingEndpoint, setEndpoint}
 use Rattle.machine.specs.Scheduling.{choose}
 use Rattle.machine.specs.Endpoints.{underAbort, pendingOf, withOwner, dropped, dropDebt, endAbort}
 use Rattle.machine.specs.Results.{Look, Result, plain, counted, refuse, accept}
-use Rattle.machine.specs.Aborts.{Removal, removeUpTo, deleted, deleteFrom, deleteAt, delete, Looked, pendingAt, lookUpTo, begin, join, ended, lookedOwn, workOwn, beginAfter, finished, lookedOther, workOther, underBadge, abortFrom, dropUnless, dropOther, abortOpen, abortAt, abortUnless, abort}
-use Rattle.machine.specs.Machine.{createIf, createThread, destroyIf, destroyThread, priorityIf, setPriority, createAt, createEndpoint, interrupt, tick, sendTo, sendUnless, sendAt, send, receiveFrom, receiveAt, receive, yield, waitAt, wait, byCaller, perform, performIf, step}
+use Rattle.machine.specs.Aborts.{Removal, removeUpTo, deleted, deleteFrom, deleteAt, delete, Looked, pendingAt}
+use Rattle.machine.specs.Aborts.{lookUpTo, begin, join, ended, lookedOwn, workOwn, beginAfter, finished}
+use Rattle.machine.specs.Aborts.{lookedOther, workOther, underBadge, abortFrom, dropUnless, dropOther}
+use Rattle.machine.specs.Aborts.{abortOpen, abortAt, abortUnless, abort}
+use Rattle.machine.specs.Machine.{createIf, createThread, destroyIf, destroyThread, priorityIf, setPriority}
+use Rattle.machine.specs.Machine.{createAt, createEndpoint, interrupt, tick, sendTo, sendUnless, sendAt, send}
+use Rattle.machine.specs.Machine.{receiveFrom, receiveAt, receive, yield, waitAt, wait, byCaller, perform}
+use Rattle.machine.specs.Machine.{performIf, step}
 use Rattle.machine.specs.Work.{allowanceOf, WorkLeft, to-remove, to-look, not-begun}
 use Rattle.machine.proofs.Lists.{Same, same, other, same?, clash, put-same, put-all}
 use Rattle.machine.proofs.Running.{choose-keeps}

@@ -10,9 +10,11 @@ use native.Mathlib.Omega.{arith}
 use lib.Dec.{eqb}
 use borrow.Author.Tests.{eq-eqb}
 use Rattle.machine.specs.Lists.{without, Mem}
-use Rattle.machine.specs.State.{Thread, Place, absent, able, sending, receiving, waiting, Abort, missing, live, Endpoint, Line, quiet, pending, awaited, missingEndpoint}
+use Rattle.machine.specs.State.{Thread, Place, absent, able, sending, receiving, waiting, Abort, missing, live}
+use Rattle.machine.specs.State.{Endpoint, Line, quiet, pending, awaited, missingEndpoint}
 use Rattle.machine.specs.Endpoints.{underAbort, ownerOf, passing}
-use Rattle.machine.proofs.Lists.{Same, same, other, same?, clash, mem-last, mem-left, mem-snoc, mem-without, mem-keep, distinct-snoc, distinct-without, without-append}
+use Rattle.machine.proofs.Lists.{Same, same, other, same?, clash, mem-last, mem-left, mem-snoc, mem-without}
+use Rattle.machine.proofs.Lists.{mem-keep, distinct-snoc, distinct-without, without-append}
 use Rattle.machine.proofs.Parts.{At, Marked, Site, Lines, Owned}
 use Rattle.machine.proofs.Ready.{Else}
 

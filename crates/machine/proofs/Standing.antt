@@ -20,7 +20,8 @@ use Rattle.machine.specs.Results.{plain}
 use Rattle.machine.specs.History.{Aborting, Ended}
 use Rattle.machine.specs.Claim.{In, isSendOf, isOld}
 use Rattle.machine.proofs.Ready.{none-some}
-use Rattle.machine.proofs.Sublists.{Sub, sub-trans, sub-distinct, sub-length, sub-mem, sub-left, only-agree, entry-keep}
+use Rattle.machine.proofs.Sublists.{Sub, sub-trans, sub-distinct, sub-length, sub-mem, sub-left, only-agree}
+use Rattle.machine.proofs.Sublists.{entry-keep}
 use Rattle.machine.proofs.Sublists.{entry-grow}
 
 -- The call that a waiter made, by its place, badge and message.

@@ -10,16 +10,22 @@ use native.Mathlib.Omega.{arith}
 use lib.Dec.{eqb}
 use borrow.Author.Tests.{eqb-true, eqb-false}
 use Rattle.machine.specs.Lists.{put, without}
-use Rattle.machine.specs.State.{State, Thread, Place, absent, able, sending, receiving, waiting, nothing, Endpoint, Line, quiet, absentThread, setThread, setLine, withPriority, withTicks}
+use Rattle.machine.specs.State.{State, Thread, Place, absent, able, sending, receiving, waiting, nothing}
+use Rattle.machine.specs.State.{Endpoint, Line, quiet, absentThread, setThread, setLine, withPriority}
+use Rattle.machine.specs.State.{withTicks}
 use Rattle.machine.specs.Scheduling.{enqueue, unqueue, standDown}
 use Rattle.machine.specs.Endpoints.{ownerOf, leaveEndpoint, dropDebt}
-use Rattle.machine.specs.Machine.{isAbsent, isAble, isRunning, createIf, createThread, leaveReady, leave, destroyIf, destroyThread, moveReady, changeUnless, priorityIf, setPriority, leaveTicks, tickFor, tick, yield}
+use Rattle.machine.specs.Machine.{isAbsent, isAble, isRunning, createIf, createThread, leaveReady, leave}
+use Rattle.machine.specs.Machine.{destroyIf, destroyThread, moveReady, changeUnless, priorityIf, setPriority}
+use Rattle.machine.specs.Machine.{leaveTicks, tickFor, tick, yield}
 use Rattle.machine.specs.Sound.{Sound}
 use Rattle.machine.proofs.Lists.{clash, put-same, put-other, put-all}
 use Rattle.machine.proofs.Mid.{Mid, sound-mid}
 use Rattle.machine.proofs.Parts.{At, Entry, Levels, Site, Lines, parts, whole}
-use Rattle.machine.proofs.Ready.{Else, put-else, put-keeps, put-place, none-some, some-one, levels-aside, levels-runs, levels-stop, levels-join, levels-leave}
-use Rattle.machine.proofs.Sites.{differ, not-at, at-one, left, left-owner, site-aside, site-leave, site-same, lines-aside, lines-leave, lines-same, owned-same}
+use Rattle.machine.proofs.Ready.{Else, put-else, put-keeps, put-place, none-some, some-one, levels-aside}
+use Rattle.machine.proofs.Ready.{levels-runs, levels-stop, levels-join, levels-leave}
+use Rattle.machine.proofs.Sites.{differ, not-at, at-one, left, left-owner, site-aside, site-leave, site-same}
+use Rattle.machine.proofs.Sites.{lines-aside, lines-leave, lines-same, owned-same}
 use Rattle.machine.proofs.Waking.{mid-standDown}
 use Rattle.machine.proofs.Choosing.{choose-sound}
 use Rattle.machine.proofs.Keeping.{keeps-place}

@@ -6,16 +6,27 @@ use mathlib.Core.Bool.{Bool, true, false}
 use mathlib.Core.Option.{Option, none, some}
 use mathlib.Core.List.{List, [], _∷_}
 use Rattle.machine.specs.declared.Call.{Call}
-use Rattle.machine.specs.declared.Call.the-variants.{CreateThread, DestroyThread, SetPriority, CreateEndpoint, Interrupt, Tick, Send, Receive, Yield, Wait, Delete, Abort}
+use Rattle.machine.specs.declared.Call.the-variants.{CreateThread, DestroyThread, SetPriority, CreateEndpoint}
+use Rattle.machine.specs.declared.Call.the-variants.{Interrupt, Tick, Send, Receive, Yield, Wait, Delete, Abort}
 use Rattle.machine.specs.Calls.{numberOf, inRange}
 use Rattle.machine.specs.Lists.{put}
 use Rattle.machine.specs.State as State
-use Rattle.machine.specs.State.{State, Thread, Place, absent, able, sending, receiving, waiting, Debt, nothing, owns, noted, Status, missing, live, closing, Line, quiet, pending, awaited, absentThread, setThread}
+use Rattle.machine.specs.State.{State, Thread, Place, absent, able, sending, receiving, waiting, Debt, nothing}
+use Rattle.machine.specs.State.{owns, noted, Status, missing, live, closing, Line, quiet, pending, awaited}
+use Rattle.machine.specs.State.{absentThread, setThread}
 use Rattle.machine.specs.Scheduling.{enqueue, unqueue, standDown, wake, block, choose}
-use Rattle.machine.specs.Endpoints.{joinEndpoint, leaveEndpoint, wakeFrom, dropped, dropDebt, noteTo, note, endAbort}
+use Rattle.machine.specs.Endpoints.{joinEndpoint, leaveEndpoint, wakeFrom, dropped, dropDebt, noteTo, note}
+use Rattle.machine.specs.Endpoints.{endAbort}
 use Rattle.machine.specs.Results.{Result, Look}
-use Rattle.machine.specs.Aborts.{Removal, Looked, oneMore, after, lookedOwn, lookedOther, removeUpTo, deleted, deleteFrom, deleteAt, delete, hits, lookAt, look, lookUpTo, begin, joinAs, join, ended, workOwn, beginAfter, finished, workOther, underBadge, abortFrom, dropUnless, dropOther, abortOpen, abortAt, abortUnless, abort, pendingAt}
-use Rattle.machine.specs.Machine.{createIf, createThread, destroyIf, destroyThread, leave, leaveReady, isAbsent, isRunning, changeUnless, moveReady, priorityIf, setPriority, createAt, createEndpoint, fire, interrupt, sendTo, sendUnless, sendAt, send, receiveFrom, receiveAt, receive, yield, waitAt, wait, byCaller, perform, performIf, step}
+use Rattle.machine.specs.Aborts.{Removal, Looked, oneMore, after, lookedOwn, lookedOther, removeUpTo, deleted}
+use Rattle.machine.specs.Aborts.{deleteFrom, deleteAt, delete, hits, lookAt, look, lookUpTo, begin, joinAs}
+use Rattle.machine.specs.Aborts.{join, ended, workOwn, beginAfter, finished, workOther, underBadge, abortFrom}
+use Rattle.machine.specs.Aborts.{dropUnless, dropOther, abortOpen, abortAt, abortUnless, abort, pendingAt}
+use Rattle.machine.specs.Machine.{createIf, createThread, destroyIf, destroyThread, leave, leaveReady, isAbsent}
+use Rattle.machine.specs.Machine.{isRunning, changeUnless, moveReady, priorityIf, setPriority, createAt}
+use Rattle.machine.specs.Machine.{createEndpoint, fire, interrupt, sendTo, sendUnless, sendAt, send}
+use Rattle.machine.specs.Machine.{receiveFrom, receiveAt, receive, yield, waitAt, wait, byCaller, perform}
+use Rattle.machine.specs.Machine.{performIf, step}
 use Rattle.machine.specs.Sound.{Present}
 use Rattle.machine.proofs.Lists.{clash, put-same, put-other, put-all}
 use Rattle.machine.proofs.Running.{choose-keeps}

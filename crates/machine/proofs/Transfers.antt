@@ -8,10 +8,13 @@ use mathlib.Core.Option.{Option, none, some}
 use mathlib.Core.List.{List, [], _∷_}
 use native.Mathlib.Omega.{arith}
 use Rattle.machine.specs.Lists.{put, only, first, Mem}
-use Rattle.machine.specs.State.{State, Place, sending, receiving, Abort, Status, missing, live, closing, Endpoint, setEndpoint}
+use Rattle.machine.specs.State.{State, Place, sending, receiving, Abort, Status, missing, live, closing}
+use Rattle.machine.specs.State.{Endpoint, setEndpoint}
 use Rattle.machine.specs.Scheduling.{block}
-use Rattle.machine.specs.Endpoints.{isSending, isReceiving, senders, receivers, underAbort, ownerOf, withOwner, joinEndpoint, wakeFrom, dropDebt}
-use Rattle.machine.specs.Machine.{createAt, createEndpoint, sendTo, sendUnless, sendAt, send, receiveFrom, receiveAt, receive}
+use Rattle.machine.specs.Endpoints.{isSending, isReceiving, senders, receivers, underAbort, ownerOf, withOwner}
+use Rattle.machine.specs.Endpoints.{joinEndpoint, wakeFrom, dropDebt}
+use Rattle.machine.specs.Machine.{createAt, createEndpoint, sendTo, sendUnless, sendAt, send, receiveFrom}
+use Rattle.machine.specs.Machine.{receiveAt, receive}
 use Rattle.machine.specs.Sound.{Sound, Queued}
 use Rattle.machine.proofs.Lists.{put-all, mem-only, only-keep}
 use Rattle.machine.proofs.Mid.{Mid, sound-mid}

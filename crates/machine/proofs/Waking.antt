@@ -8,7 +8,8 @@ use mathlib.Core.Option.{Option, some}
 use mathlib.Core.List.{List, [], _∷_, _++_}
 use native.Mathlib.Omega.{arith}
 use Rattle.machine.specs.Lists.{put}
-use Rattle.machine.specs.State.{State, Thread, Place, absent, able, sending, receiving, waiting, live, quiet, awaited, absentThread, withPlace, setLine}
+use Rattle.machine.specs.State.{State, Thread, Place, absent, able, sending, receiving, waiting, live, quiet}
+use Rattle.machine.specs.State.{awaited, absentThread, withPlace, setLine}
 use Rattle.machine.specs.Scheduling.{enqueue, standDown, wake, block}
 use Rattle.machine.specs.Endpoints.{underAbort, ownerOf, joinEndpoint, leaveEndpoint, wakeFrom}
 use Rattle.machine.specs.Sound.{Queued, Numbers, Stores}
@@ -16,7 +17,8 @@ use Rattle.machine.proofs.Lists.{put-same, put-other, put-all}
 use Rattle.machine.proofs.Mid.{Mid}
 use Rattle.machine.proofs.Parts.{At, Entry, Levels, Site, parts, whole}
 use Rattle.machine.proofs.Ready.{Else, put-else, put-keeps, put-place, levels-stop, levels-join}
-use Rattle.machine.proofs.Sites.{differ, not-at, at-one, left, left-owner, joined, not-awaited, site-aside, site-leave, site-join, lines-aside, lines-leave, lines-join, owned-same}
+use Rattle.machine.proofs.Sites.{differ, not-at, at-one, left, left-owner, joined, not-awaited, site-aside}
+use Rattle.machine.proofs.Sites.{site-leave, site-join, lines-aside, lines-leave, lines-join, owned-same}
 
 -- The threads with t at another place, with another outcome, badge and message.
 abbrev moved : (ℕ → Thread) → ℕ → Place → ℕ → ℕ → ℕ → ℕ → Thread

@@ -5,12 +5,14 @@ use mathlib.Core.Option.{Option, none, some}
 use mathlib.Core.List.{List, [], _∷_, _++_}
 use lib.Dec.{eqb}
 use lib.ListN.{length}
-use Rattle.machine.specs.State.{State, Debt, nothing, owns, noted, Abort, Status, missing, live, closing, missingEndpoint, setThread, setEndpoint, withDebt}
-use Rattle.machine.specs.Endpoints.{senders, underAbort, pendingOf, ownerOf, passing, withOwner, setAbort, wakeFrom, dropDebt, endAbort}
+use Rattle.machine.specs.State.{State, Debt, nothing, owns, noted, Abort, Status, missing, live, closing}
+use Rattle.machine.specs.State.{missingEndpoint, setThread, setEndpoint, withDebt}
+use Rattle.machine.specs.Endpoints.{senders, underAbort, pendingOf, ownerOf, passing, withOwner, setAbort}
+use Rattle.machine.specs.Endpoints.{wakeFrom, dropDebt, endAbort}
 use Rattle.machine.specs.Results.{Look, Result, counted, accept, done, refuse}
 
--- 11. Waiters are removed from the head with outcome 4, as many as the allowance lets: the first argument; the second is the
--- queue as it is.
+-- 11. Waiters are removed from the head with outcome 4, as many as the allowance lets: the first argument; the
+-- second is the queue as it is.
 pub record Removal : Type 0 where
   pub state : State
   pub count : ℕ
@@ -34,7 +36,8 @@ deleteFrom e a s =
     deleted (removeUpTo a (s .endpoints e .waiters) e s .state .endpoints e .waiters) e
     (removeUpTo a (s .endpoints e .waiters) e s)
 
--- Delete marks the endpoint closing and ends its abort, then removes waiters. Whoever calls loses ownership and note first.
+-- Delete marks the endpoint closing and ends its abort, then removes waiters. Whoever calls loses ownership and
+-- note first.
 unfoldable pub deleteAt : Status → ℕ → ℕ → ℕ → State → Result
 deleteAt missing t e a s = refuse 23 s
 deleteAt live t e a s = deleteFrom e a (endAbort closing e (dropDebt t s))
@@ -88,8 +91,8 @@ joinAs (some u) t e s = s
 unfoldable pub join : ℕ → ℕ → State → State
 join t e s = joinAs (ownerOf (s .endpoints e .abort)) t e s
 
--- The call's own abort, after looks made earlier in the call: with nothing left it ends, code 0, and its owner, if another
--- than the caller t, gets a note; else it is broken off, code 2.
+-- The call's own abort, after looks made earlier in the call: with nothing left it ends, code 0, and its owner, if
+-- another than the caller t, gets a note; else it is broken off, code 2.
 unfoldable pub ended : List ℕ → ℕ → ℕ → List Look → State → Result
 ended [] t e looks s = accept (counted 0 (length looks)) looks (endAbort live e (dropDebt t s))
 ended (w ∷ l) t e looks s = accept (counted 2 (length looks)) looks s
@@ -124,8 +127,8 @@ unfoldable pub abortFrom : Option Abort → ℕ → ℕ → ℕ → ℕ → Stat
 abortFrom none t e a b s = workOwn t e a [] (begin t e b s)
 abortFrom (some x) t e a b s = underBadge (eqb (x .badge) b) t e a b s
 
--- The debt is the ownership of the abort of badge b at e, the first argument: the caller continues its own abort. In any
--- other case the call drops ownership and note.
+-- The debt is the ownership of the abort of badge b at e, the first argument: the caller continues its own abort.
+-- In any other case the call drops ownership and note.
 abbrev pub ownsThis : Option Abort → ℕ → ℕ → Debt → Bool
 ownsThis x e b nothing = false
 ownsThis x e b (owns f) = eqb f e && underAbort b x

@@ -1,5 +1,5 @@
--- Demand 3: one claim about a whole list of calls and its history. The endpoint and badge of a queued message are read off
--- the given list, at the message's place.
+-- Demand 3: one claim about a whole list of calls and its history. The endpoint and badge of a queued message are
+-- read off the given list, at the message's place.
 use Prim.Native.Nat.{ℕ, suc, _≤_, _<_}
 use mathlib.Core.Path.{_≡_}
 use mathlib.Core.Logic.{_⊎_}
@@ -10,10 +10,12 @@ use lib.Dec.{eqb, ltb}
 use lib.ListN.{length, getElem?}
 use Rattle.machine.specs.declared.Answer.{Answer}
 use Rattle.machine.specs.declared.Call.{Call}
-use Rattle.machine.specs.declared.Call.the-variants.{CreateThread, DestroyThread, SetPriority, CreateEndpoint, Interrupt, Tick, Send, Receive, Yield, Wait, Delete, Abort}
+use Rattle.machine.specs.declared.Call.the-variants.{CreateThread, DestroyThread, SetPriority, CreateEndpoint}
+use Rattle.machine.specs.declared.Call.the-variants.{Interrupt, Tick, Send, Receive, Yield, Wait, Delete, Abort}
 use Rattle.machine.specs.Lists.{pick, only, Mem, Distinct}
 use Rattle.machine.specs.Results.{plain}
-use Rattle.machine.specs.History.{History, Aborting, Ended, Delivery, AbortCall, NamedLook, Reported, reportOf, isIn}
+use Rattle.machine.specs.History.{History, Aborting, Ended, Delivery, AbortCall, NamedLook, Reported, reportOf}
+use Rattle.machine.specs.History.{isIn}
 
 -- x stands in the list.
 abbrev pub In : {A : Type 0} → A → List A → Type 0
@@ -69,8 +71,8 @@ pub record Reports (h : History) (y : AbortCall) : Type 0 where
   pub of-badge : reported .badge ≡ y .badge
   pub ended : EndedBy h reported (y .place)
 
--- A call 8 answered 0 hands over the message queued longest at its endpoint, and answers that badge and message, which are
--- those of the call 7 that queued it.
+-- A call 8 answered 0 hands over the message queued longest at its endpoint, and answers that badge and message,
+-- which are those of the call 7 that queued it.
 pub record Hands (calls : List Call) (h : History) (d : Delivery) : Type 0 where
   pub message : ℕ
   pub handed : d .handed ≡ message ∷ []
@@ -95,14 +97,15 @@ abbrev pub WaitsOn : ℕ → Call → Type 0
 WaitsOn l c = c ≡ Wait l
 
 pub record Claim (calls : List Call) (h : History) : Type 0 where
-  -- No call made after an abort had ended has handed a receiver a message queued at that endpoint under that badge before
-  -- the abort began.
+  -- No call made after an abort had ended has handed a receiver a message queued at that endpoint under that badge
+  -- before the abort began.
   pub no-old-message :
       (z : Ended) → In z (h .aborts .ended) → (d : Delivery) → In d (h .deliveries) → z .by < d .place
       → (w : ℕ) → Mem w (d .handed) → isOld calls (z .abort) w ≡ false
   -- No call 12 was answered 0 unless the abort it reports ended in it or earlier.
   pub reported-ended : (y : AbortCall) → In y (h .abortCalls) → y .code ≡ 0 → Reports h y
-  -- Every abort has removed exactly those of the waiters it looked at that were queued there under its badge before it began.
+  -- Every abort has removed exactly those of the waiters it looked at that were queued there under its badge before
+  -- it began.
   pub removed-exactly : (x : Aborting) → IsAbort h x → x .removed ≡ only (isOld calls x) (x .looked)
   -- No call 12 has removed any other waiter or changed the order of those who stay.
   pub others-stay :
@@ -131,7 +134,8 @@ pub record Claim (calls : List Call) (h : History) : Type 0 where
   pub all-answered : length (h .answers) ≡ length calls
   pub every-abort-call :
       (i e a b : ℕ) → getElem? calls i ≡ some (Abort e a b)
-      → (y : AbortCall) × In y (h .abortCalls) × (y .place ≡ i) × (y .endpoint ≡ e) × (y .allowance ≡ a) × (y .badge ≡ b)
+      → (y : AbortCall) × In y (h .abortCalls) × (y .place ≡ i) × (y .endpoint ≡ e) × (y .allowance ≡ a)
+      × (y .badge ≡ b)
   pub abort-call-answer :
       (y : AbortCall) → In y (h .abortCalls)
       → getElem? (h .answers) (y .place) ≡ some (record { code = y .code; count = y .count; badge = 0; message = 0 })

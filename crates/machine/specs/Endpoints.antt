@@ -5,7 +5,8 @@ use mathlib.Core.Option.{Option, none, some}
 use mathlib.Core.List.{List, [], _∷_, _++_}
 use lib.Dec.{eqb}
 use Rattle.machine.specs.Lists.{without, only}
-use Rattle.machine.specs.State.{State, Thread, Place, absent, able, sending, receiving, waiting, Debt, nothing, owns, noted, Abort, Status, Endpoint, setThread, setEndpoint, withDebt}
+use Rattle.machine.specs.State.{State, Thread, Place, absent, able, sending, receiving, waiting, Debt, nothing}
+use Rattle.machine.specs.State.{owns, noted, Abort, Status, Endpoint, setThread, setEndpoint, withDebt}
 use Rattle.machine.specs.Scheduling.{wake}
 
 abbrev pub isSending : Place → Bool
@@ -101,7 +102,8 @@ unfoldable pub note : Option Abort → ℕ → State → State
 note none e s = s
 note (some a) e s = noteTo (a .owner) e (a .badge) s
 
--- The abort at e, if one stands, ends, and the endpoint has the status given: one step, since a closing endpoint has no abort.
+-- The abort at e, if one stands, ends, and the endpoint has the status given: one step, since a closing endpoint
+-- has no abort.
 unfoldable pub endAbort : Status → ℕ → State → State
 endAbort status e s =
     setEndpoint e (record { status = status; waiters = s .endpoints e .waiters; abort = none })

@@ -1,6 +1,6 @@
--- Lists of calls: what has come of a list of calls made in turn from fresh tables, told in the terms of the section of that
--- name. Of the machine it reads the answers, the queues and who sends in them, the log of looks, ownership and notes; it
--- reads neither an abort's pending waiters nor its badge.
+-- Lists of calls: what has come of a list of calls made in turn from fresh tables, told in the terms of the section
+-- of that name. Of the machine it reads the answers, the queues and who sends in them, the log of looks, ownership
+-- and notes; it reads neither an abort's pending waiters nor its badge.
 use Prim.Native.Nat.{ℕ, zero, suc, _-_}
 use mathlib.Core.Bool.{Bool, true, false, _&&_, _||_, not}
 use mathlib.Core.Option.{Option, none, some}
@@ -8,7 +8,8 @@ use mathlib.Core.List.{List, [], _∷_, _++_, map}
 use lib.Dec.{eqb, leb}
 use Rattle.machine.specs.declared.Answer.{Answer}
 use Rattle.machine.specs.declared.Call.{Call}
-use Rattle.machine.specs.declared.Call.the-variants.{CreateThread, DestroyThread, SetPriority, CreateEndpoint, Interrupt, Tick, Send, Receive, Yield, Wait, Delete, Abort}
+use Rattle.machine.specs.declared.Call.the-variants.{CreateThread, DestroyThread, SetPriority, CreateEndpoint}
+use Rattle.machine.specs.declared.Call.the-variants.{Interrupt, Tick, Send, Receive, Yield, Wait, Delete, Abort}
 use Rattle.machine.specs.Lists.{pick, put, without, only}
 use Rattle.machine.specs.State.{State, Line, quiet, pending, awaited, Debt, freshState}
 use Rattle.machine.specs.Endpoints.{senders, ownerOf}
@@ -16,10 +17,11 @@ use Rattle.machine.specs.Results.{Look, Result}
 use Rattle.machine.specs.Aborts.{hasNote}
 use Rattle.machine.specs.Machine.{step}
 
--- A waiter's name is the place in the list of its call 7, 8 or 10 answered 1, counted from 0. A message is named as its waiter.
+-- A waiter's name is the place in the list of its call 7, 8 or 10 answered 1, counted from 0. A message is named as
+-- its waiter.
 
--- An abort of an endpoint and badge: the place of the call that it began in, the senders queued there at that moment, those
--- that it has looked at and those that it has removed, each in order.
+-- An abort of an endpoint and badge: the place of the call that it began in, the senders queued there at that
+-- moment, those that it has looked at and those that it has removed, each in order.
 pub record Aborting : Type 0 where
   pub endpoint : ℕ
   pub badge : ℕ
@@ -28,8 +30,8 @@ pub record Aborting : Type 0 where
   pub looked : List ℕ
   pub removed : List ℕ
 
--- An abort that has ended, the call that it ended in, and the thread that owned it when that call was made, which is none
--- where it began in that call.
+-- An abort that has ended, the call that it ended in, and the thread that owned it when that call was made, which
+-- is none where it began in that call.
 pub record Ended : Type 0 where
   pub abort : Aborting
   pub by : ℕ
@@ -41,8 +43,8 @@ pub record Reported : Type 0 where
   pub badge : ℕ
   pub began : ℕ
 
--- A call 8 answered 0: its place and endpoint, the badge and message of its answer, the names of those queued there before
--- it, and of those of them that are no longer queued after it.
+-- A call 8 answered 0: its place and endpoint, the badge and message of its answer, the names of those queued there
+-- before it, and of those of them that are no longer queued after it.
 pub record Delivery : Type 0 where
   pub place : ℕ
   pub endpoint : ℕ
@@ -61,8 +63,9 @@ pub record Waiting : Type 0 where
   pub queues : ℕ → List ℕ
   pub lines : ℕ → Option ℕ
 
--- A call 12, refused or not: its place and numbers, code and count of its answer, its looks, the abort that it began, found
--- under its badge or was noted of, which it reports if it was answered 0, and who was waiting before and after it.
+-- A call 12, refused or not: its place and numbers, code and count of its answer, its looks, the abort that it
+-- began, found under its badge or was noted of, which it reports if it was answered 0, and who was waiting before
+-- and after it.
 pub record AbortCall : Type 0 where
   pub place : ℕ
   pub endpoint : ℕ
@@ -75,8 +78,8 @@ pub record AbortCall : Type 0 where
   pub before : Waiting
   pub behind : Waiting
 
--- The aborts of a list: the one that stands at each endpoint, those that have ended, the latest first, and the looks that
--- were made where none stood.
+-- The aborts of a list: the one that stands at each endpoint, those that have ended, the latest first, and the
+-- looks that were made where none stood.
 pub record Aborts : Type 0 where
   pub standing : ℕ → Option Aborting
   pub ended : List Ended

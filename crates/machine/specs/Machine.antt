@@ -5,12 +5,16 @@ use mathlib.Core.Option.{Option, none, some}
 use mathlib.Core.List.{List, [], _∷_}
 use lib.Dec.{eqb}
 use Rattle.machine.specs.declared.Call.{Call}
-use Rattle.machine.specs.declared.Call.the-variants.{CreateThread, DestroyThread, SetPriority, CreateEndpoint, Interrupt, Tick, Send, Receive, Yield, Wait, Delete, Abort}
+use Rattle.machine.specs.declared.Call.the-variants.{CreateThread, DestroyThread, SetPriority, CreateEndpoint}
+use Rattle.machine.specs.declared.Call.the-variants.{Interrupt, Tick, Send, Receive, Yield, Wait, Delete, Abort}
 use Rattle.machine.specs.Calls.{inRange}
 use Rattle.machine.specs.Lists.{first}
-use Rattle.machine.specs.State.{State, Place, absent, able, sending, receiving, waiting, nothing, Status, missing, live, closing, Line, quiet, pending, awaited, absentThread, setThread, setRuns, setEndpoint, setLine, withPriority, withTicks}
+use Rattle.machine.specs.State.{State, Place, absent, able, sending, receiving, waiting, nothing, Status}
+use Rattle.machine.specs.State.{missing, live, closing, Line, quiet, pending, awaited, absentThread, setThread}
+use Rattle.machine.specs.State.{setRuns, setEndpoint, setLine, withPriority, withTicks}
 use Rattle.machine.specs.Scheduling.{enqueue, unqueue, standDown, wake, block}
-use Rattle.machine.specs.Endpoints.{senders, receivers, underAbort, joinEndpoint, leaveEndpoint, wakeFrom, dropDebt}
+use Rattle.machine.specs.Endpoints.{senders, receivers, underAbort, joinEndpoint, leaveEndpoint, wakeFrom}
+use Rattle.machine.specs.Endpoints.{dropDebt}
 use Rattle.machine.specs.Results.{Result, accept, done, blocked, refuse}
 use Rattle.machine.specs.Aborts.{delete, abort}
 

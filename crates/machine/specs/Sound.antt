@@ -1,12 +1,14 @@
--- Sound tables, clause by clause, said of the machine's state. That links agree both ways and that the summary shows the
--- occupied levels is said of the memory, where links and summary stand.
+-- Sound tables, clause by clause, said of the machine's state. That links agree both ways and that the summary
+-- shows the occupied levels is said of the memory, where links and summary stand.
 use Prim.Native.Nat.{ℕ, _≤_, _<_, _^_}
 use mathlib.Core.Path.{_≡_}
 use mathlib.Core.Logic.{_⊎_, _↔_}
 use mathlib.Core.Option.{Option, none, some}
 use mathlib.Core.List.{List, [], _∷_, _++_}
 use Rattle.machine.specs.Lists.{Mem, Distinct}
-use Rattle.machine.specs.State.{State, Thread, Place, absent, able, sending, receiving, waiting, Debt, nothing, owns, noted, Abort, Status, missing, live, closing, Line, quiet, awaited, absentThread, missingEndpoint}
+use Rattle.machine.specs.State.{State, Thread, Place, absent, able, sending, receiving, waiting, Debt, nothing}
+use Rattle.machine.specs.State.{owns, noted, Abort, Status, missing, live, closing, Line, quiet, awaited}
+use Rattle.machine.specs.State.{absentThread, missingEndpoint}
 use Rattle.machine.specs.Endpoints.{ownerOf}
 
 -- A thread is present.
@@ -85,7 +87,8 @@ pub record Statuses (s : State) : Type 0 where
   pub empty : (e : ℕ) → s .endpoints e .status ≡ missing → s .endpoints e .waiters ≡ []
   pub no-abort : (e : ℕ) → (s .endpoints e .status ≡ live → ⊥) → s .endpoints e .abort ≡ none
 
--- Cursor and end are both none, or senders of that queue in order; no sender under the aborted badge stands outside them.
+-- Cursor and end are both none, or senders of that queue in order; no sender under the aborted badge stands outside
+-- them.
 pub record Marks (s : State) : Type 0 where
   pub part : (e : ℕ) (a : Abort) → s .endpoints e .abort ≡ some a → Part s e (a .pending)
   pub none-outside :

@@ -1,4 +1,5 @@
-// The twelve calls and their answer. What the calls do, the queue machine, stands in specs/; the theorems about it stand in proofs/.
+// The twelve calls and their answer. What the calls do, the queue machine, stands in specs/; the theorems about it
+// stand in proofs/.
 ghost use mathlib.Core.Path.{_≡_};
 ghost use Rattle.machine.specs.Calls.{numberOf, isAllowance, inRange};
 

@@ -15,7 +15,8 @@ pub record Freshened : Type 0 where
   pub code : ℕ
   pub tables : List ℕ
 
--- Tables of 4,096 words become those of the fresh state, 0; of another length they are refused by 16 and stay as they are.
+-- Tables of 4,096 words become those of the fresh state, 0; of another length they are refused by 16 and stay as
+-- they are.
 unfoldable pub freshened : List ℕ → Freshened
 freshened m =
     pick (eqb (length m) 4096) (record { code = 0; tables = image freshState }) (record { code = 16; tables = m })
@@ -36,4 +37,5 @@ verdict (some s) = record { code = 0; scratch = zeros }
 -- Tables not of 4,096 words, or a scratch not of 256: 16, and the scratch as it was.
 unfoldable pub checked : List ℕ → List ℕ → Checked
 checked m scratch =
-    pick (eqb (length m) 4096 && eqb (length scratch) 256) (verdict (stateOf m)) (record { code = 16; scratch = scratch })
+    pick (eqb (length m) 4096 && eqb (length scratch) 256) (verdict (stateOf m))
+    (record { code = 16; scratch = scratch })

@@ -1,9 +1,11 @@
-// The addresses of the lent words, and the two functions that read and write one. The arithmetic of the layout stands here and in
-// specs/Addresses of crate layout, and nowhere else.
+// The addresses of the lent words, and the two functions that read and write one. The arithmetic of the layout
+// stands here and in specs/Addresses of crate layout, and nowhere else.
 ghost use mathlib.Core.Path.{_≡_};
 ghost use Prim.Native.Nat.{_≤_, _<_};
 ghost use lib.ListN.{length, set};
-ghost use Rattle.layout.specs.Addresses.{at, linkAt, word, afterAt, beforeAt, ofThread, ofEndpoint, ofLine, summary, top, running, unused, place, priority, ticks, outcome, badge, message, owes, note, status, aborting, aborted, owner, cursor, end, next, prev, head, tail};
+ghost use Rattle.layout.specs.Addresses.{at, linkAt, word, afterAt, beforeAt, ofThread, ofEndpoint, ofLine, summary};
+ghost use Rattle.layout.specs.Addresses.{top, running, unused, place, priority, ticks, outcome, badge, message, owes};
+ghost use Rattle.layout.specs.Addresses.{note, status, aborting, aborted, owner, cursor, end, next, prev, head, tail};
 ghost use Rattle.words.specs.Access.{Address};
 
 // The word at an address.

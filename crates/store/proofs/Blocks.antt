@@ -1,0 +1,155 @@
+-- The block of a thread: after stores to some of its words the memory shows the state with another thread there.
+-- Assumes nothing.
+use Prim.Native.Nat.{ℕ, _+_, _*_, _≤_}
+use mathlib.Core.Path.{_≡_, refl, sym, _∙_, ap}
+use mathlib.Core.List.{List}
+use lib.ListN.{set}
+use Rattle.machine.specs.Lists.{put}
+use Rattle.machine.specs.State.{State, Thread, Place, Debt, setThread, withPlace, withPriority, withTicks, withDebt}
+use Rattle.machine.proofs.Lists.{Same, same, other, same?, put-same, put-other}
+use Rattle.layout.specs.Addresses.{Field, place, priority, ticks, outcome, badge, message, owes, note, Slot, ofThread}
+use Rattle.layout.specs.Addresses.{ofEndpoint, ofLine, summary, top, running, unused, ValidSlot, column, at, word}
+use Rattle.layout.specs.Words.{placeCode, debtCode, noteCode, threadWord, content, queuesOf}
+use Rattle.layout.specs.Shows.{Shows}
+use Rattle.layout.proofs.Stores.{at-injective}
+use Rattle.words.specs.Access.{Address}
+use Rattle.store.specs.Steps.{Does}
+use Rattle.store.specs.Store.{IsThread, placing, prioritising, ticking, owing, Places, Owes}
+use Rattle.store.proofs.Rows.{Row, change, IsRow, row-store, row-start, row-shows}
+
+-- The slots that are not of thread t.
+abbrev OffBlock : ℕ → Slot → Type 0
+OffBlock t (ofThread f u) = u ≡ t → ⊥
+OffBlock t (ofEndpoint p e) = Unit {0}
+OffBlock t (ofLine l) = Unit {0}
+OffBlock t (summary w) = Unit {0}
+OffBlock t top = Unit {0}
+OffBlock t running = Unit {0}
+OffBlock t (unused i) = Unit {0}
+
+abbrev blockRow : ℕ → Field → Slot
+blockRow t f = ofThread f t
+
+abbrev Block : ℕ → List ℕ → List ℕ → (Field → ℕ) → Type 0
+Block t m n w = Row (blockRow t) (OffBlock t) m n w
+
+-- A word for each field, where eight are right.
+fields :
+    (w : Field → ℕ) (x : Thread) → w place ≡ placeCode (x .place) → w priority ≡ x .priority → w ticks ≡ x .ticks
+    → w outcome ≡ x .outcome → w badge ≡ x .badge → w message ≡ x .message → w owes ≡ debtCode (x .debt)
+    → w note ≡ noteCode (x .debt) → (f : Field) → w f ≡ threadWord x f
+fields w x a b c d e f g h place = a
+fields w x a b c d e f g h priority = b
+fields w x a b c d e f g h ticks = c
+fields w x a b c d e f g h outcome = d
+fields w x a b c d e f g h badge = e
+fields w x a b c d e f g h message = f
+fields w x a b c d e f g h owes = g
+fields w x a b c d e f g h note = h
+
+module _ (t : ℕ) (small : t ≤ 255) where
+  same-column : (f g : Field) → column f ≡ column g → blockRow t f ≡ blockRow t g
+  unfolding at
+  same-column f g e = at-injective (blockRow t f) (blockRow t g) small small (ap (λ k. 10 * t + k) e)
+
+  is-block : IsRow (blockRow t) (OffBlock t) column
+  is-block =
+      record {
+        valid = λ f. small;
+        to = same-column;
+        from = λ f g e. let k : f ≡ g = cc in ap column k;
+        off = λ a f o e. (rw e at o) refl;
+      }
+
+  -- Block t becomes x.
+  block-shows :
+      (m n : List ℕ) (w : Field → ℕ) (s : State) (x : Thread) → Shows m s → Block t m n w
+      → ((f : Field) → w f ≡ threadWord x f) → Shows n (setThread t x s)
+  unfolding queuesOf
+  block-shows m n w s x M B e = row-shows (blockRow t) (OffBlock t) m n w s (setThread t x s) M B slots (λ q h. refl)
+    where
+      in-block : (f : Field) (u : ℕ) → u ≤ 255 → Same u t
+          → word n (at (ofThread f u)) ≡ threadWord (put (s .threads) t x u) f
+      in-block f u h (same k _) = rw (k, put-same (s .threads) t x) (B .here f ∙ e f)
+      in-block f u h (other d _) =
+          rw (put-other (s .threads) t u x d) (B .slots (ofThread f u) h d ∙ M .slots (ofThread f u) h)
+
+      slots : (a : Slot) → ValidSlot a → word n (at a) ≡ content (setThread t x s) a
+      slots (ofThread f u) h = in-block f u h (same? u t)
+      slots (ofEndpoint p k) h = B .slots (ofEndpoint p k) h tt ∙ M .slots (ofEndpoint p k) h
+      slots (ofLine l) h = B .slots (ofLine l) h tt ∙ M .slots (ofLine l) h
+      slots (summary k) h = B .slots (summary k) h tt ∙ M .slots (summary k) h
+      slots top h = B .slots top h tt ∙ M .slots top h
+      slots running h = B .slots running h tt ∙ M .slots running h
+      slots (unused i) h = B .slots (unused i) h tt ∙ M .slots (unused i) h
+
+  block-store :
+      (m n n′ : List ℕ) (w : Field → ℕ) (f : Field) (i v : ℕ) → Address i (at (ofThread f t)) → n′ ≡ set n i v
+      → Block t m n w → Block t m n′ (change column f v w)
+  block-store = row-store (blockRow t) (OffBlock t) column is-block
+
+  block-start : (m : List ℕ) (s : State) → Shows m s → Block t m m (threadWord (s .threads t))
+  block-start = row-start (blockRow t) (OffBlock t) column is-block
+
+-- The steps on a thread, from the stores that they are.
+
+module _ (t : ℕ) {m n₁ : List ℕ} {i₁ : ℕ} where
+  pub priority-does :
+      (p : ℕ) → Address i₁ (at (ofThread priority t)) → n₁ ≡ set m i₁ p → Does m n₁ (IsThread t) (prioritising t p)
+  unfolding column
+  priority-does p a₁ e₁ =
+      record {
+        shows = λ s M h.
+            block-shows t h m n₁ _ s (withPriority p (s .threads t)) M
+            (block-store t h m m n₁ _ priority i₁ p a₁ e₁ (block-start t h m s M))
+            (fields _ _ refl refl refl refl refl refl refl refl);
+      }
+
+  pub ticks-does :
+      (n : ℕ) → Address i₁ (at (ofThread ticks t)) → n₁ ≡ set m i₁ n → Does m n₁ (IsThread t) (ticking t n)
+  unfolding column
+  ticks-does n a₁ e₁ =
+      record {
+        shows = λ s M h.
+            block-shows t h m n₁ _ s (withTicks n (s .threads t)) M
+            (block-store t h m m n₁ _ ticks i₁ n a₁ e₁ (block-start t h m s M))
+            (fields _ _ refl refl refl refl refl refl refl refl);
+      }
+
+  module _ {n₂ : List ℕ} {i₂ : ℕ} where
+    pub owes-does :
+        (code b : ℕ) → Address i₁ (at (ofThread owes t)) → n₁ ≡ set m i₁ code
+        → Address i₂ (at (ofThread note t)) → n₂ ≡ set n₁ i₂ b → Owes m t code b n₂
+    unfolding column
+    owes-does code b a₁ e₁ a₂ e₂ =
+        record {
+          does = λ d k j.
+              record {
+                shows = λ s M h.
+                    block-shows t h m n₂ _ s (withDebt d (s .threads t)) M
+                    (block-store t h m n₁ n₂ _ note i₂ b a₂ e₂
+                    (block-store t h m m n₁ _ owes i₁ code a₁ e₁ (block-start t h m s M)))
+                    (fields _ _ refl refl refl refl refl refl (sym k) (sym j));
+              };
+        }
+
+    module _ {n₃ n₄ : List ℕ} {i₃ i₄ : ℕ} where
+      pub place-does :
+          (code o b x : ℕ) → Address i₁ (at (ofThread place t)) → n₁ ≡ set m i₁ code
+          → Address i₂ (at (ofThread outcome t)) → n₂ ≡ set n₁ i₂ o
+          → Address i₃ (at (ofThread badge t)) → n₃ ≡ set n₂ i₃ b
+          → Address i₄ (at (ofThread message t)) → n₄ ≡ set n₃ i₄ x → Places m t code o b x n₄
+      unfolding column
+      place-does code o b x a₁ e₁ a₂ e₂ a₃ e₃ a₄ e₄ =
+          record {
+            does = λ p k.
+                record {
+                  shows = λ s M h.
+                      block-shows t h m n₄ _ s (withPlace p o b x (s .threads t)) M
+                      (block-store t h m n₃ n₄ _ message i₄ x a₄ e₄
+                      (block-store t h m n₂ n₃ _ badge i₃ b a₃ e₃
+                      (block-store t h m n₁ n₂ _ outcome i₂ o a₂ e₂
+                      (block-store t h m m n₁ _ place i₁ code a₁ e₁ (block-start t h m s M)))))
+                      (fields _ _ (sym k) refl refl refl refl refl refl refl);
+                };
+          }

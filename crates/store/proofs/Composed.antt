@@ -1,0 +1,75 @@
+-- Steps one after the other: what a step leaves for the next to ask, and steps on one thread as one.
+-- Assumes nothing.
+use Prim.Native.Nat.{ℕ}
+use mathlib.Core.Path.{_≡_, refl, sym, _∙_, ap, subst}
+use mathlib.Core.List.{List}
+use Rattle.machine.specs.Lists.{put}
+use Rattle.machine.specs.State.{State, Thread, Place, Debt, setThread, withPlace, withPriority, withTicks, withDebt}
+use Rattle.machine.proofs.Lists.{Same, same, other, same?, put-same, put-other}
+use Rattle.layout.specs.Shows.{Shows}
+use Rattle.store.specs.Steps.{Shown, Does}
+use Rattle.store.specs.Store.{IsThread, placing, prioritising, ticking, owing}
+
+-- After a step the memory shows the state that the step makes.
+pub shown-after :
+    {m n : List ℕ} {P Q : State → Type 0} {op : State → State} → Shown m P → Does m n P op
+    → ((s : State) → P s → Q (op s)) → Shown n Q
+shown-after {op = op} S D q =
+    record {
+      state = op (S .state);
+      shows = D .shows (S .state) (S .shows) (S .holds);
+      holds = q (S .state) (S .holds);
+    }
+
+-- Thread t goes through g.
+abbrev pub altering : ℕ → (Thread → Thread) → State → State
+altering t g s = setThread t (g (s .threads t)) s
+
+put-twice : (f : ℕ → Thread) (t : ℕ) (x y : Thread) → put (put f t x) t y ≡ put f t y
+put-twice f t x y = λ i k. go k (same? k t) i
+  where
+    go : (k : ℕ) → Same k t → put (put f t x) t y k ≡ put f t y k
+    go k (same e _) = rw (e, put-same (put f t x) t y, put-same f t y)
+    go k (other d _) = rw (put-other (put f t x) t k y d, put-other f t k x d, put-other f t k y d)
+
+altered-twice :
+    (t : ℕ) (g h : Thread → Thread) (s : State) → altering t h (altering t g s) ≡ altering t (λ x. h (g x)) s
+altered-twice t g h s =
+    let k : put (put (s .threads) t (g (s .threads t))) t (h (put (s .threads) t (g (s .threads t)) t))
+    ≡ put (s .threads) t (h (g (s .threads t))) =
+    put-twice (s .threads) t (g (s .threads t)) (h (put (s .threads) t (g (s .threads t)) t))
+    ∙ ap (λ x. put (s .threads) t (h x)) (put-same (s .threads) t (g (s .threads t))) in
+    ap (λ f. record {
+      threads = f;
+      runs = s .runs;
+      levels = s .levels;
+      endpoints = s .endpoints;
+      lines = s .lines;
+    }) k
+
+pub altered :
+    (t : ℕ) {m n o : List ℕ} (g h : Thread → Thread) → Does m n (IsThread t) (altering t g)
+    → Does n o (IsThread t) (altering t h) → Does m o (IsThread t) (altering t (λ x. h (g x)))
+altered t {o = o} g h D E =
+    record {
+      shows = λ s M k.
+          subst (λ z. Shows o z) (altered-twice t g h s) (E .shows (altering t g s) (D .shows s M k) k);
+    }
+
+-- A step leaves what does not depend on the state as it is: that a thread is in range.
+pub still :
+    {t : ℕ} {m n : List ℕ} (op : State → State) → Does m n (IsThread t) op → Shown m (IsThread t)
+    → Shown n (IsThread t)
+still op D S = shown-after S D (λ s h. h)
+
+-- The four steps that make a thread anew.
+pub remade :
+    (t : ℕ) {m n₁ n₂ n₃ n₄ : List ℕ} (place : Place) (o b x p n : ℕ) (d : Debt)
+    → Does m n₁ (IsThread t) (placing t place o b x) → Does n₁ n₂ (IsThread t) (prioritising t p)
+    → Does n₂ n₃ (IsThread t) (ticking t n) → Does n₃ n₄ (IsThread t) (owing t d)
+    → Does m n₄ (IsThread t)
+    (altering t (λ y. withDebt d (withTicks n (withPriority p (withPlace place o b x y)))))
+remade t place o b x p n d A B C D =
+    altered t (λ y. withTicks n (withPriority p (withPlace place o b x y))) (withDebt d)
+    (altered t (λ y. withPriority p (withPlace place o b x y)) (withTicks n)
+    (altered t (withPlace place o b x) (withPriority p) A B) C) D

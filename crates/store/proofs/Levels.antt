@@ -1,0 +1,136 @@
+-- The words of the summary: reading them one by one, storing the two that a mark changes, and what a mark does.
+-- Assumes nothing.
+use Prim.Native.Nat.{ℕ, _+_, _*_, _/_, _≤_, _<_}
+use mathlib.Core.Path.{_≡_, refl, sym, _∙_, ap}
+use mathlib.Core.Bool.{Bool}
+use mathlib.Core.List.{List}
+use native.Mathlib.Omega.{arith}
+use lib.ListN.{length, getD, set, length-set}
+use lib.Seq.{getD-set-same, getD-set-other}
+use Rattle.machine.specs.Lists.{put}
+use Rattle.machine.specs.State.{State, setLevel}
+use Rattle.machine.specs.Scheduling.{occupied}
+use Rattle.machine.proofs.Lists.{Same, same, other, same?, put-same, put-other}
+use Rattle.summary.specs.declared.Summary.{Summary}
+use Rattle.summary.specs.Levels.{wordOf, topOf, summaryOf, Marks}
+use Rattle.summary.proofs.Words.{words-at, words-are, summary-is, summary-words, summary-top, word-agree}
+use Rattle.layout.specs.Addresses.{Slot, ofThread, ofEndpoint, ofLine, summary, top, running, unused, ValidSlot, at}
+use Rattle.layout.specs.Addresses.{word}
+use Rattle.layout.specs.Words.{occupiedIn, content, queuesOf}
+use Rattle.layout.specs.Shows.{Linked, Shows}
+use Rattle.words.specs.Access.{Address}
+use Rattle.store.specs.Marks.{SummaryWords, Loads, NoMark, Writes, MarksIn}
+use Rattle.store.proofs.Words.{Stored, stored}
+
+-- The summary's words of a memory that shows a state are those of its occupied levels.
+pub shown-words : (m : List ℕ) (s : State) → Shows m s → SummaryWords m (occupiedIn s)
+shown-words m s M = record { words = λ w h. M .slots (summary w) h; top = M .slots top tt }
+
+-- The first w words of the summary are read.
+pub record ReadTo (m row : List ℕ) (w : ℕ) : Type 0 where
+  pub long : length row ≡ 8
+  pub small : w ≤ 8
+  pub words : (k : ℕ) → k < w → getD row k 0 ≡ word m (at (summary k))
+
+pub read-none : (m row : List ℕ) → length row ≡ 8 → ReadTo m row 0
+read-none m row l = record { long = l; small = omega arith; words = λ k h. absurd (omega arith) }
+
+pub read-more :
+    (m row : List ℕ) (w i v : ℕ) → ReadTo m row w → w < 8 → Address i (at (summary w)) → v ≡ word m i
+    → ReadTo m (set row w v) (w + 1)
+read-more m row w i v R h a e =
+    record { long = length-set row w v ∙ R .long; small = omega arith; words = λ k g. go k g (same? k w) }
+  where
+    go : (k : ℕ) → k < w + 1 → Same k w → getD (set row w v) k 0 ≡ word m (at (summary k))
+    go k g (same j _) = rw j (getD-set-same row w v 0 (omega (arith, R .long)) ∙ e ∙ ap (word m) (a .is))
+    go k g (other d _) = getD-set-other row w k v 0 d ∙ R .words k (omega arith)
+
+pub loads :
+    (m row : List ℕ) (w i v : ℕ) → ReadTo m row w → 8 ≤ w → Address i (at top) → v ≡ word m i
+    → Loads m (record { words = row; top = v })
+loads m row w i v R h a e = record { loaded = is; shown = λ s M. is (occupiedIn s) (shown-words m s M) }
+  where
+    is : (f : ℕ → Bool) → SummaryWords m f → _≡_ {A = Summary} (record { words = row; top = v }) (summaryOf f)
+    is f S =
+        summary-is (record { words = row; top = v }) f
+        (words-are f row (R .long) (λ k g. R .words k (omega arith) ∙ S .words k (omega arith)))
+        (e ∙ ap (word m) (a .is) ∙ S .top)
+
+-- The two stores of a mark.
+no-top : (w : ℕ) → summary w ≡ top → ⊥
+no-top w e = let z : _≡_ {A = ℕ} 0 1 = cc in omega arith
+
+pub writes :
+    (m n₁ n₂ : List ℕ) (sm : Summary) (p i₁ i₂ : ℕ) → length m ≡ 4096 → p < 256
+    → Address i₁ (at (summary (p / 32))) → n₁ ≡ set m i₁ (getD (sm .words) (p / 32) 0)
+    → Address i₂ (at top) → n₂ ≡ set n₁ i₂ (sm .top) → Writes m sm p n₂
+writes m n₁ n₂ sm p i₁ i₂ size small a₁ e₁ a₂ e₂ =
+    let A : Stored m n₁ (summary (p / 32)) (getD (sm .words) (p / 32) 0) =
+    stored m n₁ (summary (p / 32)) i₁ (getD (sm .words) (p / 32) 0) size (omega arith) a₁ e₁ in
+    let B : Stored n₁ n₂ top (sm .top) = stored n₁ n₂ top i₂ (sm .top) (A .size ∙ size) tt a₂ e₂ in
+    record {
+      size = B .size ∙ A .size;
+      word-is = B .slots (summary (p / 32)) (omega arith) (no-top (p / 32)) ∙ A .here;
+      others = λ w h d. B .slots (summary w) h (no-top w) ∙ A .slots (summary w) h (λ e. d (same-word w e));
+      top = B .here;
+      slots = λ b h o. B .slots b h (λ e. rw e at o) ∙ A .slots b h (λ e. rw e at o);
+      links = λ k h. B .links k h ∙ A .links k h;
+    }
+  where
+    same-word : (w : ℕ) → summary w ≡ summary (p / 32) → w ≡ p / 32
+    same-word w e = cc
+
+-- A mark, from the summary that was loaded and the two stores of the marked one.
+module _ (m n : List ℕ) (sm r : Summary) (p : ℕ) (x : Bool) (small : p < 256) (W : Writes m r p n) where
+  marked-words :
+      (f : ℕ → Bool) → SummaryWords m f → r ≡ summaryOf (put f p x) → SummaryWords n (put f p x)
+  marked-words f S e =
+      record {
+        words = λ w h. go w h (same? w (p / 32));
+        top = W .top ∙ ap (λ (y : Summary). y .top) e ∙ summary-top (put f p x);
+      }
+    where
+      go : (w : ℕ) → w ≤ 7 → Same w (p / 32) → word n (at (summary w)) ≡ wordOf (put f p x) w
+      go w h (same k _) =
+          rw k
+          (W .word-is ∙ ap (λ (y : Summary). getD (y .words) (p / 32) 0) e
+          ∙ ap (λ (l : List ℕ). getD l (p / 32) 0) (summary-words (put f p x))
+          ∙ words-at (put f p x) (p / 32) (omega arith))
+      go w h (other d _) =
+          W .others w h d ∙ S .words w h
+          ∙ word-agree f (put f p x) w (λ k b. sym (put-other f p (32 * w + k) x (λ j. d (omega arith))))
+
+  pub marks-in : Loads m sm → Marks sm p x r → MarksIn m p x n
+  marks-in L K =
+      record {
+        size = W .size;
+        marked = λ f S. marked-words f S (K .marked f (L .loaded f S));
+        slots = W .slots;
+        links = W .links;
+      }
+
+-- A level's queue changed and its mark set: with the links of the new queues the memory shows the new state.
+
+occupied-put :
+    (s : State) (p : ℕ) (q : List ℕ) → put (occupiedIn s) p (occupied q) ≡ occupiedIn (setLevel p q s)
+occupied-put s p q = λ i k. go k (same? k p) i
+  where
+    go : (k : ℕ) → Same k p → put (occupiedIn s) p (occupied q) k ≡ occupied (put (s .levels) p q k)
+    go k (same e _) = rw (e, put-same (occupiedIn s) p (occupied q), put-same (s .levels) p q)
+    go k (other d _) = rw (put-other (occupiedIn s) p k (occupied q) d, put-other (s .levels) p k q d)
+
+pub level-shows :
+    (m n : List ℕ) (s : State) (p : ℕ) (q : List ℕ) → Shows m s → length n ≡ length m
+    → ((a : Slot) → ValidSlot a → NoMark a → word n (at a) ≡ word m (at a))
+    → SummaryWords n (put (occupiedIn s) p (occupied q)) → Linked n (queuesOf (setLevel p q s))
+    → Shows n (setLevel p q s)
+level-shows m n s p q M size keep S L = record { size = size ∙ M .size; links = L; slots = slots }
+  where
+    slots : (a : Slot) → ValidSlot a → word n (at a) ≡ content (setLevel p q s) a
+    slots (ofThread f t) h = keep (ofThread f t) h tt ∙ M .slots (ofThread f t) h
+    slots (ofEndpoint j e) h = keep (ofEndpoint j e) h tt ∙ M .slots (ofEndpoint j e) h
+    slots (ofLine l) h = keep (ofLine l) h tt ∙ M .slots (ofLine l) h
+    slots (summary w) h = S .words w h ∙ ap (λ (f : ℕ → Bool). wordOf f w) (occupied-put s p q)
+    slots top h = S .top ∙ ap topOf (occupied-put s p q)
+    slots running h = keep running h tt ∙ M .slots running h
+    slots (unused i) h = keep (unused i) h tt ∙ M .slots (unused i) h

@@ -1,0 +1,65 @@
+-- The line, and the thread that runs: after a store the memory shows the state with another there.
+-- Assumes nothing.
+use Prim.Native.Nat.{ℕ, _≤_}
+use mathlib.Core.Path.{_≡_, refl, sym, ap}
+use mathlib.Core.Option.{Option}
+use mathlib.Core.List.{List}
+use lib.ListN.{set}
+use Rattle.machine.specs.Lists.{put}
+use Rattle.machine.specs.State.{State, Line, setRuns, setLine}
+use Rattle.machine.proofs.Lists.{Same, same, other, same?, put-same, put-other}
+use Rattle.layout.specs.Addresses.{Slot, ofThread, ofEndpoint, ofLine, summary, top, running, unused, ValidSlot, at}
+use Rattle.layout.specs.Words.{lineCode, content, queuesOf}
+use Rattle.layout.specs.Shows.{Shows}
+use Rattle.words.specs.Access.{Address}
+use Rattle.store.specs.Steps.{Does}
+use Rattle.store.specs.Store.{IsLine, Any, Runs, Lines}
+use Rattle.store.proofs.Words.{stored-shows}
+
+pub line-does :
+    (l : ℕ) {m n : List ℕ} {i : ℕ} (code : ℕ) → Address i (at (ofLine l)) → n ≡ set m i code → Lines m l code n
+unfolding queuesOf
+line-does l {m} {n} {i} code a e =
+    record {
+      does = λ x k.
+          record {
+            shows = λ s M h.
+                stored-shows (ofLine l) m n i code s (setLine l x s) h M a e (rw (put-same (s .lines) l x) k)
+                (λ b g d. rest s x b d) (λ q g. refl);
+          };
+    }
+  where
+    other-line : (s : State) (x : Line) (j : ℕ) → (ofLine j ≡ ofLine l → ⊥) → Same j l
+        → lineCode (put (s .lines) l x j) ≡ lineCode (s .lines j)
+    other-line s x j d (same k _) = absurd (d (ap ofLine k))
+    other-line s x j d (other k _) = rw (put-other (s .lines) l j x k)
+
+    rest : (s : State) (x : Line) (b : Slot) → (b ≡ ofLine l → ⊥) → content (setLine l x s) b ≡ content s b
+    rest s x (ofThread f t) d = refl
+    rest s x (ofEndpoint p j) d = refl
+    rest s x (ofLine j) d = other-line s x j d (same? j l)
+    rest s x (summary w) d = refl
+    rest s x top d = refl
+    rest s x running d = refl
+    rest s x (unused j) d = refl
+
+pub running-does :
+    {m n : List ℕ} {i : ℕ} (code : ℕ) → Address i (at running) → n ≡ set m i code → Runs m code n
+unfolding queuesOf
+running-does {m} {n} {i} code a e =
+    record {
+      does = λ r k.
+          record {
+            shows = λ s M h.
+                stored-shows running m n i code s (setRuns r s) tt M a e k (λ b g d. rest s r b d) (λ q g. refl);
+          };
+    }
+  where
+    rest : (s : State) (r : Option ℕ) (b : Slot) → (b ≡ running → ⊥) → content (setRuns r s) b ≡ content s b
+    rest s r (ofThread f t) d = refl
+    rest s r (ofEndpoint p j) d = refl
+    rest s r (ofLine j) d = refl
+    rest s r (summary w) d = refl
+    rest s r top d = refl
+    rest s r running d = absurd (d refl)
+    rest s r (unused j) d = refl

@@ -1,0 +1,173 @@
+-- The words of an endpoint: after stores to some of them the memory shows the state with another endpoint there, which
+-- has the same waiters. Assumes nothing.
+use Prim.Native.Nat.{ℕ, _+_, _*_, _-_, _≤_}
+use mathlib.Core.Path.{_≡_, refl, sym, _∙_, ap}
+use mathlib.Core.Option.{Option, none, some}
+use mathlib.Core.List.{List}
+use lib.Dec.{ltb}
+use lib.ListN.{set}
+use Rattle.machine.specs.Lists.{pick, put}
+use Rattle.machine.specs.State.{State, Abort, Status, Endpoint, setEndpoint}
+use Rattle.machine.specs.Endpoints.{ownerOf, pendingOf, withOwner}
+use Rattle.machine.proofs.Lists.{Same, same, other, same?, put-same, put-other}
+use Rattle.layout.specs.Addresses.{Part, status, aborting, aborted, owner, cursor, end, Slot, ofThread, ofEndpoint}
+use Rattle.layout.specs.Addresses.{ofLine, summary, top, running, unused, ValidSlot, offset, at, word}
+use Rattle.layout.specs.Words.{statusCode, abortCode, badgeCode, linkOf, firstOf, lastOf, endpointWord, content}
+use Rattle.layout.specs.Words.{queuesOf}
+use Rattle.layout.specs.Shows.{Shows}
+use Rattle.layout.proofs.Stores.{at-injective}
+use Rattle.words.specs.Access.{Address}
+use Rattle.store.specs.Steps.{Does}
+use Rattle.store.specs.Store.{IsEndpoint, HasAbort, standing, owned, Stands, Aborts, Owners}
+use Rattle.store.proofs.Rows.{Row, change, IsRow, row-store, row-start, row-shows}
+
+-- The slots that are not of endpoint e.
+abbrev OffSite : ℕ → Slot → Type 0
+OffSite e (ofThread f t) = Unit {0}
+OffSite e (ofEndpoint p k) = k ≡ e → ⊥
+OffSite e (ofLine l) = Unit {0}
+OffSite e (summary w) = Unit {0}
+OffSite e top = Unit {0}
+OffSite e running = Unit {0}
+OffSite e (unused i) = Unit {0}
+
+abbrev siteRow : ℕ → Part → Slot
+siteRow e p = ofEndpoint p e
+
+abbrev Site : ℕ → List ℕ → List ℕ → (Part → ℕ) → Type 0
+Site e m n w = Row (siteRow e) (OffSite e) m n w
+
+-- A word for each part, where six are right.
+parts :
+    (w : Part → ℕ) (x : Endpoint) → w status ≡ statusCode (x .status) → w aborting ≡ abortCode (x .abort)
+    → w aborted ≡ badgeCode (x .abort) → w owner ≡ linkOf (ownerOf (x .abort))
+    → w cursor ≡ firstOf (pendingOf (x .abort)) → w end ≡ lastOf 0 (pendingOf (x .abort))
+    → (p : Part) → w p ≡ endpointWord x p
+parts w x a b c d e f status = a
+parts w x a b c d e f aborting = b
+parts w x a b c d e f aborted = c
+parts w x a b c d e f owner = d
+parts w x a b c d e f cursor = e
+parts w x a b c d e f end = f
+
+module _ (e : ℕ) (small : e ≤ 63) where
+  same-offset : (p q : Part) → offset p ≡ offset q → siteRow e p ≡ siteRow e q
+  unfolding at
+  same-offset p q k = at-injective (siteRow e p) (siteRow e q) small small (ap (λ j. 3200 + 6 * e + j) k)
+
+  is-site : IsRow (siteRow e) (OffSite e) offset
+  is-site =
+      record {
+        valid = λ p. small;
+        to = same-offset;
+        from = λ p q k. let j : p ≡ q = cc in ap offset j;
+        off = λ a p o k. (rw k at o) refl;
+      }
+
+  waiters-keep :
+      (f : ℕ → Endpoint) (x : Endpoint) → x .waiters ≡ f e .waiters → (k : ℕ) → put f e x k .waiters ≡ f k .waiters
+  waiters-keep f x l k = go (same? k e)
+    where
+      go : Same k e → put f e x k .waiters ≡ f k .waiters
+      go (same j _) = rw (j, put-same f e x) l
+      go (other d _) = rw (put-other f e k x d)
+
+  queues-keep :
+      (s : State) (x : Endpoint) → x .waiters ≡ s .endpoints e .waiters → (q : ℕ)
+      → queuesOf (setEndpoint e x s) q ≡ queuesOf s q
+  unfolding queuesOf
+  queues-keep s x l q = ap (pick (ltb q 256) (s .levels q)) (waiters-keep (s .endpoints) x l (q - 256))
+
+  -- Endpoint e becomes x, with the same waiters.
+  pub site-shows :
+      (m n : List ℕ) (w : Part → ℕ) (s : State) (x : Endpoint) → Shows m s → Site e m n w
+      → x .waiters ≡ s .endpoints e .waiters → ((p : Part) → w p ≡ endpointWord x p) → Shows n (setEndpoint e x s)
+  site-shows m n w s x M B l k =
+      row-shows (siteRow e) (OffSite e) m n w s (setEndpoint e x s) M B slots (λ q h. queues-keep s x l q)
+    where
+      in-site : (p : Part) (u : ℕ) → u ≤ 63 → Same u e
+          → word n (at (ofEndpoint p u)) ≡ endpointWord (put (s .endpoints) e x u) p
+      in-site p u h (same j _) = rw (j, put-same (s .endpoints) e x) (B .here p ∙ k p)
+      in-site p u h (other d _) =
+          rw (put-other (s .endpoints) e u x d) (B .slots (ofEndpoint p u) h d ∙ M .slots (ofEndpoint p u) h)
+
+      slots : (a : Slot) → ValidSlot a → word n (at a) ≡ content (setEndpoint e x s) a
+      slots (ofThread f t) h = B .slots (ofThread f t) h tt ∙ M .slots (ofThread f t) h
+      slots (ofEndpoint p u) h = in-site p u h (same? u e)
+      slots (ofLine j) h = B .slots (ofLine j) h tt ∙ M .slots (ofLine j) h
+      slots (summary j) h = B .slots (summary j) h tt ∙ M .slots (summary j) h
+      slots top h = B .slots top h tt ∙ M .slots top h
+      slots running h = B .slots running h tt ∙ M .slots running h
+      slots (unused i) h = B .slots (unused i) h tt ∙ M .slots (unused i) h
+
+  pub site-store :
+      (m n n′ : List ℕ) (w : Part → ℕ) (p : Part) (i v : ℕ) → Address i (at (ofEndpoint p e)) → n′ ≡ set n i v
+      → Site e m n w → Site e m n′ (change offset p v w)
+  site-store = row-store (siteRow e) (OffSite e) offset is-site
+
+  pub site-start : (m : List ℕ) (s : State) → Shows m s → Site e m m (endpointWord (s .endpoints e))
+  site-start = row-start (siteRow e) (OffSite e) offset is-site
+
+-- The steps on an endpoint, from the stores that they are.
+
+module _ (e : ℕ) {m n₁ : List ℕ} {i₁ : ℕ} where
+  pub status-does : (code : ℕ) → Address i₁ (at (ofEndpoint status e)) → n₁ ≡ set m i₁ code → Stands m e code n₁
+  unfolding offset
+  status-does code a₁ e₁ =
+      record {
+        does = λ x k.
+            record {
+              shows = λ s M h.
+                  site-shows e h m n₁ _ s _ M
+                  (site-store e h m m n₁ _ status i₁ code a₁ e₁ (site-start e h m s M)) refl
+                  (parts _ _ (sym k) refl refl refl refl refl);
+            };
+      }
+
+  pub owner-does : (code : ℕ) → Address i₁ (at (ofEndpoint owner e)) → n₁ ≡ set m i₁ code → Owners m e code n₁
+  unfolding offset
+  owner-does code a₁ e₁ =
+      record {
+        does = λ o k.
+            record {
+              shows = λ s M h.
+                  let z : s .endpoints e .abort ≡ some (h .1 .0) = h .1 .1 in
+                  site-shows e (h .0) m n₁ _ s _ M
+                  (site-store e (h .0) m m n₁ _ owner i₁ code a₁ e₁ (site-start e (h .0) m s M)) refl
+                  (parts _ _ refl (rw z) (rw z) (rw z (sym k)) (rw z) (rw z));
+            };
+      }
+
+  module _ {n₂ n₃ n₄ n₅ : List ℕ} {i₂ i₃ i₄ i₅ : ℕ} where
+    pub abort-does :
+        (here badge own first last : ℕ) → Address i₁ (at (ofEndpoint aborting e)) → n₁ ≡ set m i₁ here
+        → Address i₂ (at (ofEndpoint aborted e)) → n₂ ≡ set n₁ i₂ badge
+        → Address i₃ (at (ofEndpoint owner e)) → n₃ ≡ set n₂ i₃ own
+        → Address i₄ (at (ofEndpoint cursor e)) → n₄ ≡ set n₃ i₄ first
+        → Address i₅ (at (ofEndpoint end e)) → n₅ ≡ set n₄ i₅ last → Aborts m e here badge own first last n₅
+    unfolding offset
+    abort-does here badge own first last a₁ e₁ a₂ e₂ a₃ e₃ a₄ e₄ a₅ e₅ =
+        record {
+          none = λ h₁ h₂ h₃ h₄ h₅.
+              record {
+                shows = λ s M h.
+                    site-shows e h m n₅ _ s _ M (stores s M h) refl (parts _ _ refl h₁ h₂ h₃ h₄ h₅);
+              };
+          some = λ a h₁ h₂ h₃ h₄ h₅.
+              record {
+                shows = λ s M h.
+                    site-shows e h m n₅ _ s _ M (stores s M h) refl (parts _ _ refl h₁ h₂ h₃ h₄ h₅);
+              };
+        }
+      where
+        stores : (s : State) → Shows m s → (h : e ≤ 63) → Site e m n₅
+            (change offset end last
+            (change offset cursor first
+            (change offset owner own
+            (change offset aborted badge (change offset aborting here (endpointWord (s .endpoints e)))))))
+        stores s M h =
+            site-store e h m n₄ n₅ _ end i₅ last a₅ e₅
+            (site-store e h m n₃ n₄ _ cursor i₄ first a₄ e₄
+            (site-store e h m n₂ n₃ _ owner i₃ own a₃ e₃
+            (site-store e h m n₁ n₂ _ aborted i₂ badge a₂ e₂
+            (site-store e h m m n₁ _ aborting i₁ here a₁ e₁ (site-start e h m s M)))))

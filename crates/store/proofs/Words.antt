@@ -1,0 +1,47 @@
+-- One word: what it tells of each state that the memory shows, and what a store to a slot does.
+-- Assumes nothing.
+use Prim.Native.Nat.{ℕ, _≤_}
+use mathlib.Core.Path.{_≡_, sym, _∙_, ap, subst}
+use mathlib.Core.List.{List}
+use lib.ListN.{length, set, length-set}
+use Rattle.machine.specs.State.{State}
+use Rattle.layout.specs.Addresses.{Slot, Link, ValidSlot, ValidLink, at, linkAt, word}
+use Rattle.layout.specs.Words.{content, queuesOf}
+use Rattle.layout.specs.Shows.{Shows}
+use Rattle.layout.proofs.Stores.{store-shows, slot-same, slot-other, slot-link}
+use Rattle.words.specs.Access.{Address}
+use Rattle.store.specs.Steps.{Tells}
+
+module _ (a : Slot) {P : State → Type 0} (valid : (s : State) → P s → ValidSlot a) (m : List ℕ) (i : ℕ) where
+  pub word-tells : (r : ℕ) → Address i (at a) → r ≡ word m i → Tells m P r (λ s. content s a)
+  word-tells r h e = record { tells = λ s M p. e ∙ ap (word m) (h .is) ∙ M .slots a (valid s p) }
+
+-- A memory in which one slot has a new word shows the state that differs there alone.
+pub stored-shows :
+    (a : Slot) (m n : List ℕ) (i v : ℕ) (s z : State) → ValidSlot a → Shows m s → Address i (at a) → n ≡ set m i v
+    → content z a ≡ v
+    → ((b : Slot) → ValidSlot b → (b ≡ a → ⊥) → content z b ≡ content s b)
+    → ((q : ℕ) → q ≤ 319 → queuesOf z q ≡ queuesOf s q) → Shows n z
+stored-shows a m n i v s z h M A e c same-content same-queues =
+    let k : n ≡ set m (at a) (content z a) = e ∙ ap (λ j. set m j v) (A .is) ∙ ap (set m (at a)) (sym c) in
+    subst (λ l. Shows l z) (sym k) (store-shows m s z a h M same-content same-queues)
+
+-- The words after one store to a slot.
+pub record Stored (m n : List ℕ) (a : Slot) (v : ℕ) : Type 0 where
+  pub size : length n ≡ length m
+  pub here : word n (at a) ≡ v
+  pub slots : (b : Slot) → ValidSlot b → (b ≡ a → ⊥) → word n (at b) ≡ word m (at b)
+  pub links : (k : Link) → ValidLink k → word n (linkAt k) ≡ word m (linkAt k)
+
+pub stored :
+    (m n : List ℕ) (a : Slot) (i v : ℕ) → length m ≡ 4096 → ValidSlot a → Address i (at a) → n ≡ set m i v
+    → Stored m n a v
+stored m n a i v size h A e =
+    let k : n ≡ set m (at a) v = e ∙ ap (λ j. set m j v) (A .is) in
+    subst (λ l. Stored m l a v) (sym k)
+    (record {
+      size = length-set m (at a) v;
+      here = slot-same m size v a h;
+      slots = slot-other m size v a h;
+      links = slot-link m size v a h;
+    })

@@ -1,0 +1,25 @@
+-- The summary is loaded, marked, and stored where it changed. Assumes nothing.
+use borrow.Author.Needs.{needs}
+use Rattle.store.proofs.Levels.{marks-in}
+use Rattle.store.proofs.mark_occupied.Statement.{statement}
+use Rattle.store.proofs.mark_occupied.Tie as tie
+
+load-summary-requires : tie.Need-load-summary-requires
+load-summary-requires c κs = search needs
+
+occupied-requires : tie.Need-occupied-requires
+occupied-requires c κs = search needs
+
+store-mark-requires : tie.Need-store-mark-requires
+store-mark-requires c κs = search needs
+
+same-length : tie.Need-same-length
+same-length c = search needs
+
+returns : tie.Need-returns
+returns c = search marks-in depth 9
+
+pub mark-occupied-spec : {M : Type 1} → statement M
+mark-occupied-spec =
+    tie.close
+    (tie.spec load-summary-requires occupied-requires store-mark-requires same-length returns)

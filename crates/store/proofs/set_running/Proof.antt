@@ -1,0 +1,20 @@
+-- The store sets who runs. Assumes nothing.
+use borrow.Author.Needs.{needs}
+use Rattle.store.proofs.Singles.{running-does}
+use Rattle.store.proofs.set_running.Statement.{statement}
+use Rattle.store.proofs.set_running.Tie as tie
+
+running-at-requires : tie.Need-running-at-requires
+running-at-requires c κs = search needs
+
+put-requires : tie.Need-put-requires
+put-requires c κs = search needs
+
+same-length : tie.Need-same-length
+same-length c = search needs
+
+returns : tie.Need-returns
+returns c = running-does _ (c .before .before .before .running-at .ensures) (c .before .before .put .ensures)
+
+pub set-running-spec : {M : Type 1} → statement M
+set-running-spec = tie.close (tie.spec running-at-requires put-requires same-length returns)

@@ -1,0 +1,5 @@
+-- The contracts of the steps on single entries, in the order to read them.
+pub mod Steps
+pub mod Store
+pub mod Readings
+pub mod Marks

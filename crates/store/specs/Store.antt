@@ -1,0 +1,86 @@
+-- The steps on single entries of the state, and what each asks: a number in range.
+use Prim.Native.Nat.{ℕ, _≤_}
+use mathlib.Core.Path.{_≡_}
+use mathlib.Core.Option.{Option}
+use mathlib.Core.List.{List}
+use Rattle.machine.specs.State.{State, Thread, Place, able, Debt, nothing, Abort, Status, Line, absentThread, setThread}
+use Rattle.machine.specs.State.{setRuns, setEndpoint, setLine, withPriority, withTicks, withDebt, withPlace}
+use Rattle.machine.specs.Endpoints.{setAbort, withOwner}
+use Rattle.layout.specs.Words.{placeCode, debtCode, noteCode, statusCode, lineCode, linkOf, firstOf, lastOf}
+use Rattle.store.specs.Steps.{Does}
+
+-- The thread, endpoint or line is in range.
+abbrev pub IsThread : ℕ → State → Type 0
+IsThread t s = t ≤ 255
+
+abbrev pub IsEndpoint : ℕ → State → Type 0
+IsEndpoint e s = e ≤ 63
+
+abbrev pub IsLine : ℕ → State → Type 0
+IsLine l s = l ≤ 31
+
+abbrev pub Any : State → Type 0
+Any s = Unit {0}
+
+-- One entry changed.
+abbrev pub placing : ℕ → Place → ℕ → ℕ → ℕ → State → State
+placing t p o b m s = setThread t (withPlace p o b m (s .threads t)) s
+
+abbrev pub prioritising : ℕ → ℕ → State → State
+prioritising t p s = setThread t (withPriority p (s .threads t)) s
+
+abbrev pub ticking : ℕ → ℕ → State → State
+ticking t n s = setThread t (withTicks n (s .threads t)) s
+
+abbrev pub owing : ℕ → Debt → State → State
+owing t d s = setThread t (withDebt d (s .threads t)) s
+
+-- A thread just created, and a thread that goes.
+abbrev pub newThread : ℕ → Thread
+newThread p =
+    record { place = able; priority = p; ticks = 5; outcome = 0; badge = 0; message = 0; debt = nothing }
+
+abbrev pub creating : ℕ → ℕ → State → State
+creating t p s = setThread t (newThread p) s
+
+abbrev pub clearing : ℕ → State → State
+clearing t s = setThread t absentThread s
+
+abbrev pub owned : ℕ → Option ℕ → State → State
+owned e o s = setAbort e (withOwner o (s .endpoints e .abort)) s
+
+abbrev pub standing : ℕ → Status → State → State
+standing e x s =
+    setEndpoint e
+    (record { status = x; waiters = s .endpoints e .waiters; abort = s .endpoints e .abort }) s
+
+-- A place, debt, status, line or thread enters the code as its number; the step is done for whatever has that number.
+pub record Places (m : List ℕ) (t code o b x : ℕ) (m′ : List ℕ) : Type 0 where
+  pub does : (p : Place) → placeCode p ≡ code → Does m m′ (IsThread t) (placing t p o b x)
+
+pub record Owes (m : List ℕ) (t code badge : ℕ) (m′ : List ℕ) : Type 0 where
+  pub does : (d : Debt) → debtCode d ≡ code → noteCode d ≡ badge → Does m m′ (IsThread t) (owing t d)
+
+pub record Runs (m : List ℕ) (link : ℕ) (m′ : List ℕ) : Type 0 where
+  pub does : (r : Option ℕ) → linkOf r ≡ link → Does m m′ Any (setRuns r)
+
+pub record Lines (m : List ℕ) (l code : ℕ) (m′ : List ℕ) : Type 0 where
+  pub does : (x : Line) → lineCode x ≡ code → Does m m′ (IsLine l) (setLine l x)
+
+pub record Stands (m : List ℕ) (e code : ℕ) (m′ : List ℕ) : Type 0 where
+  pub does : (x : Status) → statusCode x ≡ code → Does m m′ (IsEndpoint e) (standing e x)
+
+-- An abort that stands, or none: its badge, its owner's link, and the links of the first and the last pending.
+pub record Aborts (m : List ℕ) (e here badge owner cursor end : ℕ) (m′ : List ℕ) : Type 0 where
+  pub none : here ≡ 0 → badge ≡ 0 → owner ≡ 0 → cursor ≡ 0 → end ≡ 0
+      → Does m m′ (IsEndpoint e) (setAbort e Option.none)
+  pub some : (a : Abort) → here ≡ 1 → badge ≡ a .badge → owner ≡ linkOf (a .owner) → cursor ≡ firstOf (a .pending)
+      → end ≡ lastOf 0 (a .pending) → Does m m′ (IsEndpoint e) (setAbort e (Option.some a))
+
+-- An abort stands at the endpoint.
+abbrev pub HasAbort : ℕ → State → Type 0
+HasAbort e s = (e ≤ 63) × ((a : Abort) × (s .endpoints e .abort ≡ Option.some a))
+
+-- The owner of an abort that stands.
+pub record Owners (m : List ℕ) (e link : ℕ) (m′ : List ℕ) : Type 0 where
+  pub does : (o : Option ℕ) → linkOf o ≡ link → Does m m′ (HasAbort e) (owned e o)

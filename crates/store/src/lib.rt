@@ -1,0 +1,300 @@
+// The steps on single entries of the lent tables: reading a word by its name, changing an entry, and the summary.
+// Each is a few stores, and does to whatever state the words show what its name says of the machine's state.
+ghost use mathlib.Core.Path.{_≡_};
+ghost use mathlib.Core.Bool.{true, false};
+ghost use Prim.Native.Nat.{_≤_, _<_};
+ghost use lib.ListN.{length};
+ghost use Rattle.store.specs.Steps.{Shown, Does, Tells};
+ghost use Rattle.store.specs.Store.{IsThread, IsEndpoint, IsLine, Any, HasAbort};
+ghost use Rattle.store.specs.Store.{prioritising, ticking, creating, clearing};
+ghost use Rattle.store.specs.Store.{Places, Owes, Runs, Lines, Stands, Aborts, Owners};
+ghost use Rattle.store.specs.Readings.{placeIn, priorityIn, ticksIn, outcomeIn, badgeIn, messageIn};
+ghost use Rattle.store.specs.Readings.{owesIn, noteIn, statusIn, abortingIn, abortedIn, ownerIn, cursorIn};
+ghost use Rattle.store.specs.Readings.{endIn, lineIn, runningIn};
+ghost use Rattle.store.specs.Marks.{Loads, MarksIn, Writes};
+use summary::Summary;
+
+// Where thread t is, as a number.
+pub fn place(tables: &[u32], t: usize) -> u32
+    requires { ⌜ Shown (now tables) (IsThread t) ⌝ }
+    ensures { λ r. ⌜ Tells (now (tables .entry)) (IsThread t) r (placeIn t) ⌝ }
+{
+    words::get(tables, words::place_at(t))
+}
+
+// The priority of thread t.
+pub fn priority(tables: &[u32], t: usize) -> u32
+    requires { ⌜ Shown (now tables) (IsThread t) ⌝ }
+    ensures { λ r. ⌜ Tells (now (tables .entry)) (IsThread t) r (priorityIn t) ⌝ }
+{
+    words::get(tables, words::priority_at(t))
+}
+
+// The ticks left to thread t.
+pub fn ticks(tables: &[u32], t: usize) -> u32
+    requires { ⌜ Shown (now tables) (IsThread t) ⌝ }
+    ensures { λ r. ⌜ Tells (now (tables .entry)) (IsThread t) r (ticksIn t) ⌝ }
+{
+    words::get(tables, words::ticks_at(t))
+}
+
+// The outcome of thread t's last wait.
+pub fn outcome(tables: &[u32], t: usize) -> u32
+    requires { ⌜ Shown (now tables) (IsThread t) ⌝ }
+    ensures { λ r. ⌜ Tells (now (tables .entry)) (IsThread t) r (outcomeIn t) ⌝ }
+{
+    words::get(tables, words::outcome_at(t))
+}
+
+// The badge that thread t stores.
+pub fn badge(tables: &[u32], t: usize) -> u32
+    requires { ⌜ Shown (now tables) (IsThread t) ⌝ }
+    ensures { λ r. ⌜ Tells (now (tables .entry)) (IsThread t) r (badgeIn t) ⌝ }
+{
+    words::get(tables, words::badge_at(t))
+}
+
+// The message that thread t stores.
+pub fn message(tables: &[u32], t: usize) -> u32
+    requires { ⌜ Shown (now tables) (IsThread t) ⌝ }
+    ensures { λ r. ⌜ Tells (now (tables .entry)) (IsThread t) r (messageIn t) ⌝ }
+{
+    words::get(tables, words::message_at(t))
+}
+
+// What thread t has to do with aborts, as a number.
+pub fn owes(tables: &[u32], t: usize) -> u32
+    requires { ⌜ Shown (now tables) (IsThread t) ⌝ }
+    ensures { λ r. ⌜ Tells (now (tables .entry)) (IsThread t) r (owesIn t) ⌝ }
+{
+    words::get(tables, words::owes_at(t))
+}
+
+// The badge of thread t's note.
+pub fn note(tables: &[u32], t: usize) -> u32
+    requires { ⌜ Shown (now tables) (IsThread t) ⌝ }
+    ensures { λ r. ⌜ Tells (now (tables .entry)) (IsThread t) r (noteIn t) ⌝ }
+{
+    words::get(tables, words::note_at(t))
+}
+
+// The status of endpoint e, as a number.
+pub fn status(tables: &[u32], e: usize) -> u32
+    requires { ⌜ Shown (now tables) (IsEndpoint e) ⌝ }
+    ensures { λ r. ⌜ Tells (now (tables .entry)) (IsEndpoint e) r (statusIn e) ⌝ }
+{
+    words::get(tables, words::status_at(e))
+}
+
+// 1 if an abort stands at endpoint e, otherwise 0.
+pub fn aborting(tables: &[u32], e: usize) -> u32
+    requires { ⌜ Shown (now tables) (IsEndpoint e) ⌝ }
+    ensures { λ r. ⌜ Tells (now (tables .entry)) (IsEndpoint e) r (abortingIn e) ⌝ }
+{
+    words::get(tables, words::aborting_at(e))
+}
+
+// The badge of the abort at endpoint e.
+pub fn aborted(tables: &[u32], e: usize) -> u32
+    requires { ⌜ Shown (now tables) (IsEndpoint e) ⌝ }
+    ensures { λ r. ⌜ Tells (now (tables .entry)) (IsEndpoint e) r (abortedIn e) ⌝ }
+{
+    words::get(tables, words::aborted_at(e))
+}
+
+// The link to the owner of the abort at endpoint e.
+pub fn owner(tables: &[u32], e: usize) -> u32
+    requires { ⌜ Shown (now tables) (IsEndpoint e) ⌝ }
+    ensures { λ r. ⌜ Tells (now (tables .entry)) (IsEndpoint e) r (ownerIn e) ⌝ }
+{
+    words::get(tables, words::owner_at(e))
+}
+
+// The link to the first waiter that the abort at endpoint e has to look at.
+pub fn cursor(tables: &[u32], e: usize) -> u32
+    requires { ⌜ Shown (now tables) (IsEndpoint e) ⌝ }
+    ensures { λ r. ⌜ Tells (now (tables .entry)) (IsEndpoint e) r (cursorIn e) ⌝ }
+{
+    words::get(tables, words::cursor_at(e))
+}
+
+// The link to the last waiter that the abort at endpoint e has to look at.
+pub fn end(tables: &[u32], e: usize) -> u32
+    requires { ⌜ Shown (now tables) (IsEndpoint e) ⌝ }
+    ensures { λ r. ⌜ Tells (now (tables .entry)) (IsEndpoint e) r (endIn e) ⌝ }
+{
+    words::get(tables, words::end_at(e))
+}
+
+// What line l holds, as a number.
+pub fn line(tables: &[u32], l: usize) -> u32
+    requires { ⌜ Shown (now tables) (IsLine l) ⌝ }
+    ensures { λ r. ⌜ Tells (now (tables .entry)) (IsLine l) r (lineIn l) ⌝ }
+{
+    words::get(tables, words::line_at(l))
+}
+
+// The link to the running thread.
+pub fn running(tables: &[u32]) -> u32
+    requires { ⌜ Shown (now tables) Any ⌝ }
+    ensures { λ r. ⌜ Tells (now (tables .entry)) Any r runningIn ⌝ }
+{
+    words::get(tables, words::running_at())
+}
+
+// Thread t is at a place, with the outcome, badge and message that it has there.
+pub fn set_place(tables: &mut [u32], t: usize, place: u32, outcome: u32, badge: u32, message: u32)
+    requires { ⌜ Shown (now tables) (IsThread t) ⌝ }
+    ensures { λ _. ⌜ Places (now (tables .entry)) t place outcome badge message (now (tables .exit)) ⌝ }
+{
+    words::put(tables, words::place_at(t), place);
+    words::put(tables, words::outcome_at(t), outcome);
+    words::put(tables, words::badge_at(t), badge);
+    words::put(tables, words::message_at(t), message);
+}
+
+// Thread t has priority p.
+pub fn set_priority(tables: &mut [u32], t: usize, p: u32)
+    requires { ⌜ Shown (now tables) (IsThread t) ⌝ }
+    ensures { λ _. ⌜ Does (now (tables .entry)) (now (tables .exit)) (IsThread t) (prioritising t p) ⌝ }
+{
+    words::put(tables, words::priority_at(t), p);
+}
+
+// Thread t has n ticks left.
+pub fn set_ticks(tables: &mut [u32], t: usize, n: u32)
+    requires { ⌜ Shown (now tables) (IsThread t) ⌝ }
+    ensures { λ _. ⌜ Does (now (tables .entry)) (now (tables .exit)) (IsThread t) (ticking t n) ⌝ }
+{
+    words::put(tables, words::ticks_at(t), n);
+}
+
+// What thread t has to do with aborts, and the badge of its note.
+pub fn set_owes(tables: &mut [u32], t: usize, code: u32, badge: u32)
+    requires { ⌜ Shown (now tables) (IsThread t) ⌝ }
+    ensures { λ _. ⌜ Owes (now (tables .entry)) t code badge (now (tables .exit)) ⌝ }
+{
+    words::put(tables, words::owes_at(t), code);
+    words::put(tables, words::note_at(t), badge);
+}
+
+// Thread t is new: able, of priority p, with all its ticks.
+pub fn new_thread(tables: &mut [u32], t: usize, p: u32)
+    requires { ⌜ Shown (now tables) (IsThread t) ⌝ }
+    ensures { λ _. ⌜ Does (now (tables .entry)) (now (tables .exit)) (IsThread t) (creating t p) ⌝ }
+{
+    set_place(tables, t, 1, 0, 0, 0);
+    set_priority(tables, t, p);
+    set_ticks(tables, t, 5);
+    set_owes(tables, t, 0, 0);
+}
+
+// Thread t is absent.
+pub fn clear_thread(tables: &mut [u32], t: usize)
+    requires { ⌜ Shown (now tables) (IsThread t) ⌝ }
+    ensures { λ _. ⌜ Does (now (tables .entry)) (now (tables .exit)) (IsThread t) (clearing t) ⌝ }
+{
+    set_place(tables, t, 0, 0, 0, 0);
+    set_priority(tables, t, 0);
+    set_ticks(tables, t, 0);
+    set_owes(tables, t, 0, 0);
+}
+
+// The thread of a link runs, none for 0.
+pub fn set_running(tables: &mut [u32], link: u32)
+    requires { ⌜ Shown (now tables) Any ⌝ }
+    ensures { λ _. ⌜ Runs (now (tables .entry)) link (now (tables .exit)) ⌝ }
+{
+    words::put(tables, words::running_at(), link);
+}
+
+// Line l is quiet, pending or awaited.
+pub fn set_line(tables: &mut [u32], l: usize, code: u32)
+    requires { ⌜ Shown (now tables) (IsLine l) ⌝ }
+    ensures { λ _. ⌜ Lines (now (tables .entry)) l code (now (tables .exit)) ⌝ }
+{
+    words::put(tables, words::line_at(l), code);
+}
+
+// Endpoint e is missing, live or closing.
+pub fn set_status(tables: &mut [u32], e: usize, code: u32)
+    requires { ⌜ Shown (now tables) (IsEndpoint e) ⌝ }
+    ensures { λ _. ⌜ Stands (now (tables .entry)) e code (now (tables .exit)) ⌝ }
+{
+    words::put(tables, words::status_at(e), code);
+}
+
+// The abort at endpoint e: whether one stands, its badge and owner, and the first and the last waiter to look at.
+pub fn set_abort(
+    tables: &mut [u32],
+    e: usize,
+    here: u32,
+    badge: u32,
+    owner: u32,
+    cursor: u32,
+    end: u32,
+)
+    requires { ⌜ Shown (now tables) (IsEndpoint e) ⌝ }
+    ensures { λ _. ⌜ Aborts (now (tables .entry)) e here badge owner cursor end (now (tables .exit)) ⌝ }
+{
+    words::put(tables, words::aborting_at(e), here);
+    words::put(tables, words::aborted_at(e), badge);
+    words::put(tables, words::owner_at(e), owner);
+    words::put(tables, words::cursor_at(e), cursor);
+    words::put(tables, words::end_at(e), end);
+}
+
+// The owner of the abort that stands at endpoint e, none for link 0.
+pub fn set_owner(tables: &mut [u32], e: usize, link: u32)
+    requires { ⌜ Shown (now tables) (HasAbort e) ⌝ }
+    ensures { λ _. ⌜ Owners (now (tables .entry)) e link (now (tables .exit)) ⌝ }
+{
+    words::put(tables, words::owner_at(e), link);
+}
+
+// The summary that stands in the tables.
+pub fn load_summary(tables: &[u32]) -> Summary
+    requires { ⌜ length (now tables) ≡ 4096 ⌝ }
+    ensures { λ r. ⌜ Loads (now (tables .entry)) r ⌝ }
+{
+    let mut row = [0u32; 8];
+    let mut w = 0;
+    while w < 8 {
+        row[w] = words::get(tables, words::summary_at(w));
+        w += 1;
+    }
+    let top = words::get(tables, words::top_at());
+    Summary {
+        words: row,
+        top: top,
+    }
+}
+
+// The word of level p and the top word become those of the summary.
+fn store_mark(tables: &mut [u32], sm: Summary, p: u32)
+    requires { ⌜ (length (now tables) ≡ 4096) × (p < 256) ⌝ }
+    ensures { λ _. ⌜ Writes (now (tables .entry)) sm p (now (tables .exit)) ⌝ }
+{
+    let w = (p / 32) as usize;
+    let word = sm.words[w];
+    words::put(tables, words::summary_at(w), word);
+    words::put(tables, words::top_at(), sm.top);
+}
+
+// Level p is occupied in the summary.
+pub fn mark_occupied(tables: &mut [u32], p: u32)
+    requires { ⌜ (length (now tables) ≡ 4096) × (p < 256) ⌝ }
+    ensures { λ _. ⌜ MarksIn (now (tables .entry)) p true (now (tables .exit)) ⌝ }
+{
+    let sm = load_summary(tables);
+    store_mark(tables, sm.occupied(p), p);
+}
+
+// Level p is empty in the summary.
+pub fn mark_empty(tables: &mut [u32], p: u32)
+    requires { ⌜ (length (now tables) ≡ 4096) × (p < 256) ⌝ }
+    ensures { λ _. ⌜ MarksIn (now (tables .entry)) p false (now (tables .exit)) ⌝ }
+{
+    let sm = load_summary(tables);
+    store_mark(tables, sm.emptied(p), p);
+}
