@@ -22,7 +22,7 @@ use Rattle.layout.proofs.Tests.{Tells, tells-true, tells-false, tells-map, tell
 use Rattle.layout.proofs.Tests.{tells-owns}
 use Rattle.tables.specs.Checks.{threadIn, endpointIn, ownerTest, abortTest, statusTest}
 use Rattle.tables.proofs.Tests.{tells-ltb, told}
-use Rattle.tables.proofs.Marks.{Marked}
+use Rattle.tables.proofs.Cursors.{Marked}
 use Rattle.tables.proofs.Reading.{Reads, end-joined}
 
 -- What the tests say of an endpoint's words.

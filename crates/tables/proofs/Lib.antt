@@ -1,6 +1,6 @@
 pub mod Tests
 pub mod Walks
-pub mod Marks
+pub mod Cursors
 pub mod Reading
 pub mod Blocks
 pub mod Ends
@@ -11,3 +11,13 @@ pub mod Tried
 pub mod Shown
 pub mod Soundness
 pub mod Good
+pub mod Every
+pub mod Marking
+pub mod Numbers
+pub mod Walking
+pub mod Queues
+pub mod Aborting
+pub mod Waiting
+pub mod Summing
+pub mod Running
+pub mod Verdict

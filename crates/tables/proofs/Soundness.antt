@@ -20,7 +20,7 @@ use Rattle.layout.proofs.Standing.{queue-small, queue-distinct, queue-apart}
 use Rattle.layout.proofs.Neat.{Neat}
 use Rattle.tables.proofs.Tests.{told}
 use Rattle.tables.proofs.Walks.{chain-distinct}
-use Rattle.tables.proofs.Marks.{part-in}
+use Rattle.tables.proofs.Cursors.{part-in}
 use Rattle.tables.proofs.Reading.{Reads, level-joined, end-joined, seated, seat-small}
 use Rattle.tables.proofs.Waiters.{Alike}
 use Rattle.tables.proofs.Lines.{Highest}

@@ -23,7 +23,7 @@ use Rattle.layout.proofs.Tests.{Tells, tells-map, tells-and, tells-or, tells-eq
 use Rattle.tables.specs.Checks.{threadIn, endpointIn, ahead, waitersFrom, kindOf, bannedOf, waitersTest}
 use Rattle.tables.proofs.Tests.{tells-itself, every, tells-every, told}
 use Rattle.tables.proofs.Walks.{phased, waiters-split, walk-found, walk-along, chain-distinct}
-use Rattle.tables.proofs.Marks.{Marked, tells-marked}
+use Rattle.tables.proofs.Cursors.{Marked, tells-marked}
 use Rattle.tables.proofs.Ends.{first-none}
 use Rattle.tables.proofs.Reading.{Reads, end-joined, tells-seat}
 

@@ -1,6 +1,5 @@
--- What the check tries of the words, test by test, as it goes through them. Nothing here has to be believed: that
--- all tests hold exactly where the memory shows a sound state is a theorem, and the check's promise speaks of that
--- alone.
+-- What the check tries of the words, test by test, as it goes through them. Nothing here has to be believed: that all
+-- tests hold exactly where the memory shows a sound state is a theorem, and the check's promise speaks of that alone.
 use Prim.Native.Nat.{ℕ, zero, suc, _+_, _-_, _^_}
 use mathlib.Core.Bool.{Bool, true, false, not, _&&_, _||_}
 use mathlib.Core.Option.{Option, none, some}
@@ -8,9 +7,10 @@ use mathlib.Core.List.{List, [], _∷_}
 use lib.Dec.{eqb, leb, ltb}
 use Rattle.machine.specs.Lists.{pick}
 use Rattle.summary.specs.Levels.{wordOf, topOf}
-use Rattle.layout.specs.Addresses.{Field, place, priority, ticks, outcome, badge, message, owes, note, Part, status}
-use Rattle.layout.specs.Addresses.{aborting, aborted, owner, cursor, end, ofThread, ofEndpoint, ofLine, summary, top}
-use Rattle.layout.specs.Addresses.{running, unused, next, prev, head, at, linkAt, word, afterAt, beforeAt}
+use Rattle.layout.specs.Addresses.{Field, place, priority, ticks, outcome, badge, message, owes, note, ofThread}
+use Rattle.layout.specs.Addresses.{Part, status, aborting, aborted, owner, cursor, end, ofEndpoint}
+use Rattle.layout.specs.Addresses.{ofLine, summary, top, running, unused, next, prev, head, at, linkAt, word}
+use Rattle.layout.specs.Addresses.{afterAt, beforeAt}
 use Rattle.layout.specs.Tables.{all, member, same}
 
 -- The words by name.
@@ -110,8 +110,8 @@ complete ahead c = eqb c 0
 complete inside c = false
 complete past c = true
 
--- The queue q of an endpoint from link x on, whose threads have place k: with the phase behind x, the marks c and
--- d, and the badge b that may not stand outside them.
+-- The queue q of an endpoint from link x on, whose threads have place k: with the phase behind x, the marks c and d,
+-- and the badge b that may not stand outside them.
 unfoldable pub waitersFrom : ℕ → ℕ → Phase → List ℕ → ℕ → ℕ → ℕ → ℕ → ℕ → ℕ → Bool
 waitersFrom zero y f m q k c d b x = false
 waitersFrom (suc n) zero f m q k c d b x = eqb (word m (beforeAt q 0)) x && complete f c

@@ -15,8 +15,7 @@ pub record Freshened : Type 0 where
   pub code : ℕ
   pub tables : List ℕ
 
--- Tables of 4,096 words become those of the fresh state, 0; of another length they are refused by 16 and stay as
--- they are.
+-- Tables of 4,096 words become those of the fresh state, 0; of another length they are refused by 16 and stay.
 unfoldable pub freshened : List ℕ → Freshened
 freshened m =
     pick (eqb (length m) 4096) (record { code = 0; tables = image freshState }) (record { code = 16; tables = m })

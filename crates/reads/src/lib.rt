@@ -1,0 +1,193 @@
+// The lent words by name, as numbers of the machine's width: what the check reads. Each function is the address of its
+// word and a read of it, so that code above has no address and no cast.
+ghost use mathlib.Core.Path.{_≡_};
+ghost use Prim.Native.Nat.{_≤_};
+ghost use lib.ListN.{length};
+ghost use Rattle.layout.specs.Addresses.{at, linkAt, word, next, prev, head, tail};
+ghost use Rattle.layout.specs.Addresses.{ofThread, place, priority, ticks, outcome, badge, message, owes, note};
+ghost use Rattle.layout.specs.Addresses.{ofEndpoint, status, aborting, aborted, owner, cursor, end};
+ghost use Rattle.layout.specs.Addresses.{ofLine, summary, top, running, unused};
+
+// The place of thread t.
+pub fn place(tables: &[u32], t: usize) -> usize
+    requires { ⌜ (length (now tables) ≡ 4096) × (t ≤ 255) ⌝ }
+    ensures { λ r. ⌜ r ≡ word (now (tables .entry)) (at (ofThread place t)) ⌝ }
+{
+    words::get(tables, words::place_at(t)) as usize
+}
+
+// The priority of thread t.
+pub fn priority(tables: &[u32], t: usize) -> usize
+    requires { ⌜ (length (now tables) ≡ 4096) × (t ≤ 255) ⌝ }
+    ensures { λ r. ⌜ r ≡ word (now (tables .entry)) (at (ofThread priority t)) ⌝ }
+{
+    words::get(tables, words::priority_at(t)) as usize
+}
+
+// The ticks of thread t.
+pub fn ticks(tables: &[u32], t: usize) -> usize
+    requires { ⌜ (length (now tables) ≡ 4096) × (t ≤ 255) ⌝ }
+    ensures { λ r. ⌜ r ≡ word (now (tables .entry)) (at (ofThread ticks t)) ⌝ }
+{
+    words::get(tables, words::ticks_at(t)) as usize
+}
+
+// The outcome of thread t.
+pub fn outcome(tables: &[u32], t: usize) -> usize
+    requires { ⌜ (length (now tables) ≡ 4096) × (t ≤ 255) ⌝ }
+    ensures { λ r. ⌜ r ≡ word (now (tables .entry)) (at (ofThread outcome t)) ⌝ }
+{
+    words::get(tables, words::outcome_at(t)) as usize
+}
+
+// The badge of thread t.
+pub fn badge(tables: &[u32], t: usize) -> usize
+    requires { ⌜ (length (now tables) ≡ 4096) × (t ≤ 255) ⌝ }
+    ensures { λ r. ⌜ r ≡ word (now (tables .entry)) (at (ofThread badge t)) ⌝ }
+{
+    words::get(tables, words::badge_at(t)) as usize
+}
+
+// The message of thread t.
+pub fn message(tables: &[u32], t: usize) -> usize
+    requires { ⌜ (length (now tables) ≡ 4096) × (t ≤ 255) ⌝ }
+    ensures { λ r. ⌜ r ≡ word (now (tables .entry)) (at (ofThread message t)) ⌝ }
+{
+    words::get(tables, words::message_at(t)) as usize
+}
+
+// What thread t owes.
+pub fn owes(tables: &[u32], t: usize) -> usize
+    requires { ⌜ (length (now tables) ≡ 4096) × (t ≤ 255) ⌝ }
+    ensures { λ r. ⌜ r ≡ word (now (tables .entry)) (at (ofThread owes t)) ⌝ }
+{
+    words::get(tables, words::owes_at(t)) as usize
+}
+
+// The badge of thread t's note.
+pub fn note(tables: &[u32], t: usize) -> usize
+    requires { ⌜ (length (now tables) ≡ 4096) × (t ≤ 255) ⌝ }
+    ensures { λ r. ⌜ r ≡ word (now (tables .entry)) (at (ofThread note t)) ⌝ }
+{
+    words::get(tables, words::note_at(t)) as usize
+}
+
+// The status of endpoint e.
+pub fn status(tables: &[u32], e: usize) -> usize
+    requires { ⌜ (length (now tables) ≡ 4096) × (e ≤ 63) ⌝ }
+    ensures { λ r. ⌜ r ≡ word (now (tables .entry)) (at (ofEndpoint status e)) ⌝ }
+{
+    words::get(tables, words::status_at(e)) as usize
+}
+
+// Whether an abort stands at endpoint e.
+pub fn aborting(tables: &[u32], e: usize) -> usize
+    requires { ⌜ (length (now tables) ≡ 4096) × (e ≤ 63) ⌝ }
+    ensures { λ r. ⌜ r ≡ word (now (tables .entry)) (at (ofEndpoint aborting e)) ⌝ }
+{
+    words::get(tables, words::aborting_at(e)) as usize
+}
+
+// The badge of the abort at endpoint e.
+pub fn aborted(tables: &[u32], e: usize) -> usize
+    requires { ⌜ (length (now tables) ≡ 4096) × (e ≤ 63) ⌝ }
+    ensures { λ r. ⌜ r ≡ word (now (tables .entry)) (at (ofEndpoint aborted e)) ⌝ }
+{
+    words::get(tables, words::aborted_at(e)) as usize
+}
+
+// The link to the owner of the abort at endpoint e.
+pub fn owner(tables: &[u32], e: usize) -> usize
+    requires { ⌜ (length (now tables) ≡ 4096) × (e ≤ 63) ⌝ }
+    ensures { λ r. ⌜ r ≡ word (now (tables .entry)) (at (ofEndpoint owner e)) ⌝ }
+{
+    words::get(tables, words::owner_at(e)) as usize
+}
+
+// The link to the first that the abort at endpoint e has still to look at.
+pub fn cursor(tables: &[u32], e: usize) -> usize
+    requires { ⌜ (length (now tables) ≡ 4096) × (e ≤ 63) ⌝ }
+    ensures { λ r. ⌜ r ≡ word (now (tables .entry)) (at (ofEndpoint cursor e)) ⌝ }
+{
+    words::get(tables, words::cursor_at(e)) as usize
+}
+
+// The link to the last that the abort at endpoint e has still to look at.
+pub fn end(tables: &[u32], e: usize) -> usize
+    requires { ⌜ (length (now tables) ≡ 4096) × (e ≤ 63) ⌝ }
+    ensures { λ r. ⌜ r ≡ word (now (tables .entry)) (at (ofEndpoint end e)) ⌝ }
+{
+    words::get(tables, words::end_at(e)) as usize
+}
+
+// Line l.
+pub fn line(tables: &[u32], l: usize) -> usize
+    requires { ⌜ (length (now tables) ≡ 4096) × (l ≤ 31) ⌝ }
+    ensures { λ r. ⌜ r ≡ word (now (tables .entry)) (at (ofLine l)) ⌝ }
+{
+    words::get(tables, words::line_at(l)) as usize
+}
+
+// Word w of the summary.
+pub fn summary(tables: &[u32], w: usize) -> usize
+    requires { ⌜ (length (now tables) ≡ 4096) × (w ≤ 7) ⌝ }
+    ensures { λ r. ⌜ r ≡ word (now (tables .entry)) (at (summary w)) ⌝ }
+{
+    words::get(tables, words::summary_at(w)) as usize
+}
+
+// The top word of the summary.
+pub fn top(tables: &[u32]) -> usize
+    requires { ⌜ length (now tables) ≡ 4096 ⌝ }
+    ensures { λ r. ⌜ r ≡ word (now (tables .entry)) (at top) ⌝ }
+{
+    words::get(tables, words::top_at()) as usize
+}
+
+// The link to the running thread.
+pub fn running(tables: &[u32]) -> usize
+    requires { ⌜ length (now tables) ≡ 4096 ⌝ }
+    ensures { λ r. ⌜ r ≡ word (now (tables .entry)) (at running) ⌝ }
+{
+    words::get(tables, words::running_at()) as usize
+}
+
+// Unused word i.
+pub fn unused(tables: &[u32], i: usize) -> usize
+    requires { ⌜ (length (now tables) ≡ 4096) × (i ≤ 469) ⌝ }
+    ensures { λ r. ⌜ r ≡ word (now (tables .entry)) (at (unused i)) ⌝ }
+{
+    words::get(tables, words::unused_at(i)) as usize
+}
+
+// The link of thread t to the next in its queue.
+pub fn next(tables: &[u32], t: usize) -> usize
+    requires { ⌜ (length (now tables) ≡ 4096) × (t ≤ 255) ⌝ }
+    ensures { λ r. ⌜ r ≡ word (now (tables .entry)) (linkAt (next t)) ⌝ }
+{
+    words::get(tables, words::next_at(t)) as usize
+}
+
+// The link of thread t to the one before it in its queue.
+pub fn prev(tables: &[u32], t: usize) -> usize
+    requires { ⌜ (length (now tables) ≡ 4096) × (t ≤ 255) ⌝ }
+    ensures { λ r. ⌜ r ≡ word (now (tables .entry)) (linkAt (prev t)) ⌝ }
+{
+    words::get(tables, words::prev_at(t)) as usize
+}
+
+// The link to the first of queue q.
+pub fn head(tables: &[u32], q: usize) -> usize
+    requires { ⌜ (length (now tables) ≡ 4096) × (q ≤ 319) ⌝ }
+    ensures { λ r. ⌜ r ≡ word (now (tables .entry)) (linkAt (head q)) ⌝ }
+{
+    words::get(tables, words::head_at(q)) as usize
+}
+
+// The link to the last of queue q.
+pub fn tail(tables: &[u32], q: usize) -> usize
+    requires { ⌜ (length (now tables) ≡ 4096) × (q ≤ 319) ⌝ }
+    ensures { λ r. ⌜ r ≡ word (now (tables .entry)) (linkAt (tail q)) ⌝ }
+{
+    words::get(tables, words::tail_at(q)) as usize
+}
