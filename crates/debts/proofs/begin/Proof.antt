@@ -1,0 +1,56 @@
+-- The abort that stands has the senders to look at, and it and its owner name each other.
+-- Assumes nothing.
+use borrow.Author.Needs.{needs}
+use Rattle.debts.proofs.Beginning.{beginner-asked, begins}
+use Rattle.debts.proofs.begin.Statement.{statement}
+use Rattle.debts.proofs.begin.Tie as tie
+
+first-sender-requires : tie.Need-first-sender-requires
+first-sender-requires c κs = search needs
+
+last-sender-requires : tie.Need-last-sender-requires
+last-sender-requires c κs = search needs
+
+add-set-abort : tie.Need-add-set-abort
+add-set-abort c = search needs
+
+cast-set-abort : tie.Need-cast-set-abort
+cast-set-abort c = search needs
+
+set-abort-requires : tie.Need-set-abort-requires
+set-abort-requires c κs = search needs
+
+add-set-owes : tie.Need-add-set-owes
+add-set-owes c = search needs
+
+cast-set-owes : tie.Need-cast-set-owes
+cast-set-owes c = search needs
+
+set-owes-requires : tie.Need-set-owes-requires
+set-owes-requires c κs =
+    let a = c .before .before .before in
+    let l = a .before .before in
+    let f = l .before .before in
+    beginner-asked (f .first-sender .ensures) (l .last-sender .ensures) (a .set-abort .ensures)
+    (f .before .before .before .pre)
+
+same-length : tie.Need-same-length
+same-length c = search needs
+
+returns : tie.Need-returns
+returns c = search begins depth 9
+
+pub begin-spec : {M : Type 1} → statement M
+begin-spec =
+    tie.close
+    (tie.spec
+    first-sender-requires
+    last-sender-requires
+    add-set-abort
+    cast-set-abort
+    set-abort-requires
+    add-set-owes
+    cast-set-owes
+    set-owes-requires
+    same-length
+    returns)

@@ -1,0 +1,51 @@
+-- The first waiter's place tells whether all send, or none does.
+-- Assumes nothing.
+use borrow.Author.Needs.{needs}
+use Rattle.debts.proofs.Beginning.{first-empty, place-asked, first-receives, first-sends}
+use Rattle.debts.proofs.first_sender.Statement.{statement}
+use Rattle.debts.proofs.first_sender.Tie as tie
+
+add-first : tie.Need-add-first
+add-first c = search needs
+
+first-requires : tie.Need-first-requires
+first-requires c κs = search needs
+
+returns : tie.Need-returns
+returns c = search first-empty
+
+sub-place : tie.Need-sub-place
+sub-place c = search needs
+
+cast-place : tie.Need-cast-place
+cast-place c = search needs
+
+place-requires : tie.Need-place-requires
+place-requires c κs = search place-asked
+
+add-sends : tie.Need-add-sends
+add-sends c = search needs
+
+cast-sends : tie.Need-cast-sends
+cast-sends c = search needs
+
+returns-2 : tie.Need-returns-2
+returns-2 c = search first-receives
+
+returns-3 : tie.Need-returns-3
+returns-3 c = search first-sends
+
+pub first-sender-spec : {M : Type 1} → statement M
+first-sender-spec =
+    tie.close
+    (tie.spec
+    add-first
+    first-requires
+    returns
+    sub-place
+    cast-place
+    place-requires
+    add-sends
+    cast-sends
+    returns-2
+    returns-3)

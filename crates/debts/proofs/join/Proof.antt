@@ -1,0 +1,55 @@
+-- Where the abort has an owner nothing is done; otherwise abort and joiner name each other.
+-- Assumes nothing.
+use borrow.Author.Needs.{needs}
+use Rattle.debts.proofs.Joining.{joiner-asked, join-owned, join-free}
+use Rattle.debts.proofs.join.Statement.{statement}
+use Rattle.debts.proofs.join.Tie as tie
+
+owner-requires : tie.Need-owner-requires
+owner-requires c κs = search needs
+
+same-length : tie.Need-same-length
+same-length c = search needs
+
+returns : tie.Need-returns
+returns c = search join-owned
+
+add-set-owner : tie.Need-add-set-owner
+add-set-owner c = search needs
+
+cast-set-owner : tie.Need-cast-set-owner
+cast-set-owner c = search needs
+
+set-owner-requires : tie.Need-set-owner-requires
+set-owner-requires c κs = search needs
+
+add-set-owes : tie.Need-add-set-owes
+add-set-owes c = search needs
+
+cast-set-owes : tie.Need-cast-set-owes
+cast-set-owes c = search needs
+
+set-owes-requires : tie.Need-set-owes-requires
+set-owes-requires c κs = search joiner-asked
+
+same-length-2 : tie.Need-same-length-2
+same-length-2 c = search needs
+
+returns-2 : tie.Need-returns-2
+returns-2 c = search join-free depth 9
+
+pub join-spec : {M : Type 1} → statement M
+join-spec =
+    tie.close
+    (tie.spec
+    owner-requires
+    same-length
+    returns
+    add-set-owner
+    cast-set-owner
+    set-owner-requires
+    add-set-owes
+    cast-set-owes
+    set-owes-requires
+    same-length-2
+    returns-2)

@@ -1,0 +1,39 @@
+-- The abort keeps its badge and owner, and has the marks without its first waiter.
+-- Assumes nothing.
+use borrow.Author.Needs.{needs}
+use Rattle.debts.proofs.Keeping.{keeps}
+use Rattle.debts.proofs.keep_look.Statement.{statement}
+use Rattle.debts.proofs.keep_look.Tie as tie
+
+next-cursor-requires : tie.Need-next-cursor-requires
+next-cursor-requires c κs = search needs
+
+next-end-requires : tie.Need-next-end-requires
+next-end-requires c κs = search needs
+
+aborted-requires : tie.Need-aborted-requires
+aborted-requires c κs = search needs
+
+owner-requires : tie.Need-owner-requires
+owner-requires c κs = search needs
+
+set-abort-requires : tie.Need-set-abort-requires
+set-abort-requires c κs = search needs
+
+same-length : tie.Need-same-length
+same-length c = search needs
+
+returns : tie.Need-returns
+returns c = search keeps depth 9
+
+pub keep-look-spec : {M : Type 1} → statement M
+keep-look-spec =
+    tie.close
+    (tie.spec
+    next-cursor-requires
+    next-end-requires
+    aborted-requires
+    owner-requires
+    set-abort-requires
+    same-length
+    returns)

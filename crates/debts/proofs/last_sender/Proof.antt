@@ -1,0 +1,29 @@
+-- Where there is a sender, all waiters send, and the last of them is the last sender.
+-- Assumes nothing.
+use borrow.Author.Needs.{needs}
+use Rattle.debts.proofs.Beginning.{last-none, last-sends}
+use Rattle.debts.proofs.last_sender.Statement.{statement}
+use Rattle.debts.proofs.last_sender.Tie as tie
+
+first-sender-requires : tie.Need-first-sender-requires
+first-sender-requires c κs = search needs
+
+returns : tie.Need-returns
+returns c = search last-none
+
+add-tail-at : tie.Need-add-tail-at
+add-tail-at c = search needs
+
+tail-at-requires : tie.Need-tail-at-requires
+tail-at-requires c κs = search needs
+
+get-requires : tie.Need-get-requires
+get-requires c κs = search needs
+
+returns-2 : tie.Need-returns-2
+returns-2 c = search last-sends
+
+pub last-sender-spec : {M : Type 1} → statement M
+last-sender-spec =
+    tie.close
+    (tie.spec first-sender-requires returns add-tail-at tail-at-requires get-requires returns-2)

@@ -1,0 +1,55 @@
+-- Where the abort has an owner, that thread gets the note of the endpoint and the abort's badge.
+-- Assumes nothing.
+use borrow.Author.Needs.{needs}
+use Rattle.debts.proofs.Ending.{note-nobody, owner-small, note-somebody}
+use Rattle.debts.proofs.note_owner.Statement.{statement}
+use Rattle.debts.proofs.note_owner.Tie as tie
+
+owner-requires : tie.Need-owner-requires
+owner-requires c κs = search needs
+
+same-length : tie.Need-same-length
+same-length c = search needs
+
+returns : tie.Need-returns
+returns c = search note-nobody
+
+aborted-requires : tie.Need-aborted-requires
+aborted-requires c κs = search needs
+
+sub-set-owes : tie.Need-sub-set-owes
+sub-set-owes c = search needs
+
+cast-set-owes : tie.Need-cast-set-owes
+cast-set-owes c = search needs
+
+add-set-owes : tie.Need-add-set-owes
+add-set-owes c = search needs
+
+cast-set-owes-2 : tie.Need-cast-set-owes-2
+cast-set-owes-2 c = search needs
+
+set-owes-requires : tie.Need-set-owes-requires
+set-owes-requires c κs = search owner-small
+
+same-length-2 : tie.Need-same-length-2
+same-length-2 c = search needs
+
+returns-2 : tie.Need-returns-2
+returns-2 c = search note-somebody depth 9
+
+pub note-owner-spec : {M : Type 1} → statement M
+note-owner-spec =
+    tie.close
+    (tie.spec
+    owner-requires
+    same-length
+    returns
+    aborted-requires
+    sub-set-owes
+    cast-set-owes
+    add-set-owes
+    cast-set-owes-2
+    set-owes-requires
+    same-length-2
+    returns-2)

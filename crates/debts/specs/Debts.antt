@@ -1,0 +1,98 @@
+-- What the steps on ownerships, notes and aborts ask of the state, and what they tell of it.
+-- Assumes nothing.
+use Prim.Native.Nat.{ℕ, _≤_}
+use mathlib.Core.Path.{_≡_}
+use mathlib.Core.Bool.{Bool}
+use mathlib.Core.Option.{Option}
+use mathlib.Core.Logic.{_⊎_}
+use mathlib.Core.List.{List, _∷_, _++_}
+use Rattle.machine.specs.Lists.{Mem, without}
+use Rattle.machine.specs.State.{State, Place, sending, receiving, owns, Abort, Status}
+use Rattle.machine.specs.Endpoints.{senders, underAbort, ownerOf, note, endAbort, pendingOf}
+use Rattle.machine.specs.Aborts.{hasNote, ownsThis}
+use Rattle.layout.specs.Words.{statusCode, firstOf, lastOf}
+use Rattle.layout.specs.Shows.{Shows}
+use Rattle.store.specs.Steps.{Does}
+use Rattle.store.specs.Store.{HasAbort}
+
+-- r is what f says of each state that the memory shows and of which P holds.
+pub record Says (m : List ℕ) (P : State → Type 0) (r : Bool) (f : State → Bool) : Type 0 where
+  pub says : (s : State) → Shows m s → P s → r ≡ f s
+
+-- The abort that t owns, if it owns one, stands.
+pub record Debtor (t : ℕ) (s : State) : Type 0 where
+  pub thread : t ≤ 255
+  pub stands : (e : ℕ) → s .threads t .debt ≡ owns e → HasAbort e s
+
+-- A debtor t and an endpoint e in range.
+pub record Calls (t e : ℕ) (s : State) : Type 0 where
+  pub debtor : Debtor t s
+  pub endpoint : e ≤ 63
+
+-- The badge is under abort at e; t has the note of this endpoint and badge; t owns the abort of them.
+abbrev pub underIn : ℕ → ℕ → State → Bool
+underIn e b s = underAbort b (s .endpoints e .abort)
+
+abbrev pub notedIn : ℕ → ℕ → ℕ → State → Bool
+notedIn t e b s = hasNote e b (s .threads t .debt)
+
+abbrev pub ownsIn : ℕ → ℕ → ℕ → State → Bool
+ownsIn t e b s = ownsThis (s .endpoints e .abort) e b (s .threads t .debt)
+
+-- t joins the abort that stands at e.
+pub record Joins (t e : ℕ) (s : State) : Type 0 where
+  pub thread : t ≤ 255
+  pub stands : HasAbort e s
+
+-- The owner of the abort at e, if there is one, is in range.
+pub record Endable (e : ℕ) (s : State) : Type 0 where
+  pub endpoint : e ≤ 63
+  pub owner : (u : ℕ) → ownerOf (s .endpoints e .abort) ≡ Option.some u → u ≤ 255
+
+-- The owner of the abort at e gets a note.
+abbrev pub noting : ℕ → State → State
+noting e s = note (s .endpoints e .abort) e s
+
+-- The abort at e ends, and the endpoint has whatever status has this number.
+pub record Ends (m : List ℕ) (e code : ℕ) (m′ : List ℕ) : Type 0 where
+  pub does : (x : Status) → statusCode x ≡ code → Does m m′ (Endable e) (endAbort x e)
+
+-- The waiters at e all have this place.
+abbrev pub AllAt : Place → ℕ → State → Type 0
+AllAt p e s = (u : ℕ) → Mem u (s .endpoints e .waiters) → s .threads u .place ≡ p
+
+-- The waiters at e all send, or all receive.
+pub record Alike (e : ℕ) (s : State) : Type 0 where
+  pub endpoint : e ≤ 63
+  pub alike : AllAt (sending e) e s ⊎ AllAt (receiving e) e s
+
+-- t begins an abort at e.
+pub record Begins (t e : ℕ) (s : State) : Type 0 where
+  pub thread : t ≤ 255
+  pub waiters : Alike e s
+
+-- The links to the first and the last sender at e.
+abbrev pub firstSender : ℕ → State → ℕ
+firstSender e s = firstOf (senders (s .threads) (s .endpoints e .waiters))
+
+abbrev pub lastSender : ℕ → State → ℕ
+lastSender e s = lastOf 0 (senders (s .threads) (s .endpoints e .waiters))
+
+-- w is the first that the abort at e has to look at, and what is pending is a part of the waiters.
+pub record First (w e : ℕ) (s : State) : Type 0 where
+  pub thread : w ≤ 255
+  pub endpoint : e ≤ 63
+  pub abort : Abort
+  pub stands : s .endpoints e .abort ≡ Option.some abort
+  pub rest : List ℕ
+  pub first : abort .pending ≡ w ∷ rest
+  pub before : List ℕ
+  pub behind : List ℕ
+  pub within : s .endpoints e .waiters ≡ before ++ (abort .pending ++ behind)
+
+-- The links to the first and the last that are left to look at without w.
+abbrev pub cursorWithout : ℕ → ℕ → State → ℕ
+cursorWithout w e s = firstOf (without w (pendingOf (s .endpoints e .abort)))
+
+abbrev pub endWithout : ℕ → ℕ → State → ℕ
+endWithout w e s = lastOf 0 (without w (pendingOf (s .endpoints e .abort)))

@@ -1,0 +1,192 @@
+// Who owns an abort and who has a note of one: dropping them, beginning, joining and ending an abort, and passing a
+// waiter that is kept. Each is a few steps of the store, and does what the machine's operation of its name does.
+ghost use mathlib.Core.Bool.{false};
+ghost use Rattle.machine.specs.Endpoints.{dropDebt};
+ghost use Rattle.machine.specs.Aborts.{dropOther, join, begin, lookAt};
+ghost use Rattle.store.specs.Steps.{Shown, Does, Tells};
+ghost use Rattle.store.specs.Store.{IsEndpoint};
+ghost use Rattle.debts.specs.Debts.{Says, Debtor, Calls, underIn, notedIn, ownsIn, Joins, Endable, noting, Ends};
+ghost use Rattle.debts.specs.Debts.{Alike, Begins, firstSender, lastSender, First, cursorWithout, endWithout};
+
+// Thread t's ownership or note goes.
+pub fn drop_debt(tables: &mut [u32], t: usize)
+    requires { ⌜ Shown (now tables) (Debtor t) ⌝ }
+    ensures { λ _. ⌜ Does (now (tables .entry)) (now (tables .exit)) (Debtor t) (dropDebt t) ⌝ }
+{
+    let owes = store::owes(tables, t);
+    if owes == 0 {
+        return;
+    }
+    if owes < 65 {
+        store::set_owner(tables, (owes - 1) as usize, 0);
+        store::set_owes(tables, t, 0, 0);
+        return;
+    }
+    store::set_owes(tables, t, 0, 0);
+}
+
+// Whether an abort of this badge stands at endpoint e.
+pub fn under_abort(tables: &[u32], e: usize, badge: u32) -> bool
+    requires { ⌜ Shown (now tables) (IsEndpoint e) ⌝ }
+    ensures { λ r. ⌜ Says (now (tables .entry)) (IsEndpoint e) r (underIn e badge) ⌝ }
+{
+    let here = store::aborting(tables, e);
+    if here == 0 {
+        return false;
+    }
+    let aborted = store::aborted(tables, e);
+    aborted == badge
+}
+
+// Whether thread t has the note that the abort of this endpoint and badge ended.
+pub fn has_note(tables: &[u32], t: usize, e: usize, badge: u32) -> bool
+    requires { ⌜ Shown (now tables) (Calls t e) ⌝ }
+    ensures { λ r. ⌜ Says (now (tables .entry)) (Calls t e) r (notedIn t e badge) ⌝ }
+{
+    let owes = store::owes(tables, t);
+    let code = (65 + e) as u32;
+    if owes != code {
+        return false;
+    }
+    let note = store::note(tables, t);
+    note == badge
+}
+
+// Whether thread t owns the abort of this endpoint and badge.
+pub fn owns_this(tables: &[u32], t: usize, e: usize, badge: u32) -> bool
+    requires { ⌜ Shown (now tables) (Calls t e) ⌝ }
+    ensures { λ r. ⌜ Says (now (tables .entry)) (Calls t e) r (ownsIn t e badge) ⌝ }
+{
+    let owes = store::owes(tables, t);
+    let code = (1 + e) as u32;
+    if owes != code {
+        return false;
+    }
+    under_abort(tables, e, badge)
+}
+
+// Thread t's ownership or note goes, unless it owns the abort of this endpoint and badge.
+pub fn drop_other(tables: &mut [u32], t: usize, e: usize, badge: u32)
+    requires { ⌜ Shown (now tables) (Calls t e) ⌝ }
+    ensures { λ _. ⌜ Does (now (tables .entry)) (now (tables .exit)) (Calls t e) (dropOther t e badge) ⌝ }
+{
+    let own = owns_this(tables, t, e, badge);
+    if own {
+        return;
+    }
+    drop_debt(tables, t);
+}
+
+// Thread t joins the abort at endpoint e, and becomes its owner if it has none.
+pub fn join(tables: &mut [u32], t: usize, e: usize)
+    requires { ⌜ Shown (now tables) (Joins t e) ⌝ }
+    ensures { λ _. ⌜ Does (now (tables .entry)) (now (tables .exit)) (Joins t e) (join t e) ⌝ }
+{
+    let owner = store::owner(tables, e);
+    if owner != 0 {
+        return;
+    }
+    store::set_owner(tables, e, (t + 1) as u32);
+    store::set_owes(tables, t, (1 + e) as u32, 0);
+}
+
+// The owner of the abort at endpoint e, if there is one, gets a note.
+fn note_owner(tables: &mut [u32], e: usize)
+    requires { ⌜ Shown (now tables) (Endable e) ⌝ }
+    ensures { λ _. ⌜ Does (now (tables .entry)) (now (tables .exit)) (Endable e) (noting e) ⌝ }
+{
+    let owner = store::owner(tables, e);
+    if owner == 0 {
+        return;
+    }
+    let badge = store::aborted(tables, e);
+    store::set_owes(tables, (owner - 1) as usize, (65 + e) as u32, badge);
+}
+
+// The abort at endpoint e, if one stands, ends, and the endpoint has the status given.
+pub fn end_abort(tables: &mut [u32], e: usize, status: u32)
+    requires { ⌜ Shown (now tables) (Endable e) ⌝ }
+    ensures { λ _. ⌜ Ends (now (tables .entry)) e status (now (tables .exit)) ⌝ }
+{
+    note_owner(tables, e);
+    store::set_abort(tables, e, 0, 0, 0, 0, 0);
+    store::set_status(tables, e, status);
+}
+
+// The link to the first sender at endpoint e, whose waiters all send or all receive; 0 for none.
+fn first_sender(tables: &[u32], e: usize) -> u32
+    requires { ⌜ Shown (now tables) (Alike e) ⌝ }
+    ensures { λ r. ⌜ Tells (now (tables .entry)) (Alike e) r (firstSender e) ⌝ }
+{
+    let first = links::first(tables, 256 + e);
+    if first == 0 {
+        return 0;
+    }
+    let place = store::place(tables, (first - 1) as usize);
+    let sends = (2 + e) as u32;
+    if place != sends {
+        return 0;
+    }
+    first
+}
+
+// The link to the last sender at endpoint e; 0 for none.
+fn last_sender(tables: &[u32], e: usize) -> u32
+    requires { ⌜ Shown (now tables) (Alike e) ⌝ }
+    ensures { λ r. ⌜ Tells (now (tables .entry)) (Alike e) r (lastSender e) ⌝ }
+{
+    let first = first_sender(tables, e);
+    if first == 0 {
+        return 0;
+    }
+    words::get(tables, words::tail_at(256 + e))
+}
+
+// Thread t begins an abort of this badge at endpoint e, which has its senders to look at.
+pub fn begin(tables: &mut [u32], t: usize, e: usize, badge: u32)
+    requires { ⌜ Shown (now tables) (Begins t e) ⌝ }
+    ensures { λ _. ⌜ Does (now (tables .entry)) (now (tables .exit)) (Begins t e) (begin t e badge) ⌝ }
+{
+    let cursor = first_sender(tables, e);
+    let end = last_sender(tables, e);
+    store::set_abort(tables, e, 1, badge, (t + 1) as u32, cursor, end);
+    store::set_owes(tables, t, (1 + e) as u32, 0);
+}
+
+// The link to the waiter that the abort at endpoint e looks at behind w, its first; 0 for none.
+fn next_cursor(tables: &[u32], e: usize, w: usize) -> u32
+    requires { ⌜ Shown (now tables) (First w e) ⌝ }
+    ensures { λ r. ⌜ Tells (now (tables .entry)) (First w e) r (cursorWithout w e) ⌝ }
+{
+    let end = store::end(tables, e);
+    let link = (w + 1) as u32;
+    if end == link {
+        return 0;
+    }
+    links::next(tables, w)
+}
+
+// The link to the last waiter that the abort at endpoint e looks at, without w, its first; 0 for none.
+fn next_end(tables: &[u32], e: usize, w: usize) -> u32
+    requires { ⌜ Shown (now tables) (First w e) ⌝ }
+    ensures { λ r. ⌜ Tells (now (tables .entry)) (First w e) r (endWithout w e) ⌝ }
+{
+    let end = store::end(tables, e);
+    let link = (w + 1) as u32;
+    if end == link {
+        return 0;
+    }
+    end
+}
+
+// A look that keeps w, the first that the abort at endpoint e has to look at: the cursor moves on.
+pub fn keep_look(tables: &mut [u32], e: usize, w: usize)
+    requires { ⌜ Shown (now tables) (First w e) ⌝ }
+    ensures { λ _. ⌜ Does (now (tables .entry)) (now (tables .exit)) (First w e) (lookAt false e w) ⌝ }
+{
+    let cursor = next_cursor(tables, e, w);
+    let end = next_end(tables, e, w);
+    let badge = store::aborted(tables, e);
+    let owner = store::owner(tables, e);
+    store::set_abort(tables, e, 1, badge, owner, cursor, end);
+}
