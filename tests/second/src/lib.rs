@@ -22,6 +22,6 @@ pub use machine::Machine;
 pub use queue::{Queue, Summary};
 pub use situation::{Log, Look, Situation, SITUATIONS};
 pub use steer::{Rng, Steer};
-pub use sweep::{read_tables, report, sum, sweep, Counts, CHANGES, TABLES};
+pub use sweep::{read_tables, report_lengths, report_tables, sum, sweep, Counts, CHANGES, TABLES};
 pub use tables::{Abort, Bond, Endpoint, Line, Phase, Place, Thread};
 pub use words::{memory, shown, sound_words, TABLE};

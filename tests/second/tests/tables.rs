@@ -1,7 +1,8 @@
 //! The check of the tables' words: sound ones, and ones with one fault.
 
 use second::{
-    memory, read_tables, shown, sound_words, sweep, Counts, Machine, Steer, CHANGES, TABLE, TABLES,
+    memory, read_tables, report_lengths, report_tables, shown, sound_words, sweep, Counts, Machine,
+    Steer, CHANGES, TABLE, TABLES,
 };
 
 /// The words of a table, from 1, with some set anew.
@@ -136,4 +137,14 @@ fn broken() {
     for (table, words) in faults {
         assert!(!sound_words(&with(table, words)), "table {table}, {words:?}");
     }
+}
+
+/// The program `tables_edges` reads these tables, and is held to what this
+/// machine says of them.
+#[test]
+fn edges() {
+    let stdin = include_str!("../../../crates/tables_edges/stdin");
+    let stdout = include_str!("../../../crates/tables_edges/stdout");
+    assert_eq!(stdin, TABLES);
+    assert_eq!(stdout, report_lengths() + &report_tables(&read_tables(stdin)));
 }

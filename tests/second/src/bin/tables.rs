@@ -1,6 +1,8 @@
-//! Prints, for each of the tables written out by hand and each kind of change
-//! of one word, how many of the changed memories are sound.
+//! Prints what a program must write that makes tables of several lengths
+//! fresh, checks tables of several lengths, and then checks each of the tables
+//! written out by hand, as it is and with every word changed in turn.
 
 fn main() {
-    print!("{}", second::report(&second::read_tables(second::TABLES)));
+    print!("{}", second::report_lengths());
+    print!("{}", second::report_tables(&second::read_tables(second::TABLES)));
 }
