@@ -11,7 +11,9 @@ mod queue;
 mod situation;
 mod sound;
 mod steer;
+mod sweep;
 mod tables;
+mod words;
 
 pub use call::{Answer, Call};
 pub use journal::{read, write, Read, Written, WORDS};
@@ -20,4 +22,6 @@ pub use machine::Machine;
 pub use queue::{Queue, Summary};
 pub use situation::{Log, Look, Situation, SITUATIONS};
 pub use steer::{Rng, Steer};
+pub use sweep::{read_tables, report_lengths, report_tables, sum, sweep, Counts, CHANGES, TABLES};
 pub use tables::{Abort, Bond, Endpoint, Line, Phase, Place, Thread};
+pub use words::{memory, shown, sound_words, TABLE};

@@ -36,6 +36,9 @@ impl Machine {
 
     fn sound_thread(&self, t: u8) -> Check {
         let block = self.thread(t);
+        let queued = matches!(block.place, Place::Ready | Place::Sending(_) | Place::Receiving(_));
+        let linked = self.next(t).is_some() || self.prev(t).is_some();
+        need(queued || !linked, || format!("thread {t} is linked in no queue"))?;
         if !block.present() {
             return need(*block == Thread::ABSENT, || format!("absent thread {t} has content"));
         }
@@ -46,14 +49,15 @@ impl Machine {
         let stores = matches!(block.place, Place::Sending(_)) || block.outcome == RECEIVED;
         let zero = block.badge == 0 && block.message == 0;
         need(stores || zero, || format!("thread {t} stores a message"))?;
-        if let Bond::Owner { endpoint, badge } = block.bond {
-            let back = self.endpoint(endpoint).abort;
-            let named = back.is_some_and(|a| a.owner == Some(t) && a.badge == badge);
-            need(named, || format!("owner {t} isn't named by {endpoint}"))?;
+        match block.bond {
+            Bond::None => Ok(()),
+            Bond::Owner { endpoint, badge } => {
+                let back = self.endpoint(endpoint).abort;
+                let named = back.is_some_and(|a| a.owner == Some(t) && a.badge == badge);
+                need(named, || format!("owner {t} isn't named by {endpoint}"))
+            }
+            Bond::Note { badge, .. } => need(badge < 1 << 28, || format!("note of {t}")),
         }
-        let queued = matches!(block.place, Place::Ready | Place::Sending(_) | Place::Receiving(_));
-        let linked = self.next(t).is_some() || self.prev(t).is_some();
-        need(queued || !linked, || format!("thread {t} is linked in no queue"))
     }
 
     /// Walks a queue both ways and counts its threads' places.
