@@ -1,0 +1,165 @@
+-- A memory in which one queue is linked anew, and its level's mark with it, shows the state with that queue changed.
+-- Assumes nothing.
+use Prim.Native.Nat.{ℕ, _+_, _-_, _≤_}
+use mathlib.Core.Path.{_≡_, refl, sym, _∙_, ap, subst}
+use mathlib.Core.Bool.{Bool, true, false}
+use mathlib.Core.List.{List}
+use native.Mathlib.Omega.{arith}
+use lib.Dec.{ltb}
+use borrow.Author.Tests.{lt-ltb, ltb-true, ltb-false}
+use lib.ListN.{length}
+use Rattle.machine.specs.Lists.{put}
+use Rattle.machine.specs.State.{State, Endpoint, setLevel, setEndpoint}
+use Rattle.machine.specs.Scheduling.{occupied}
+use Rattle.machine.proofs.Lists.{Same, same, other, same?, put-same, put-other}
+use Rattle.layout.specs.Addresses.{Part, status, aborting, aborted, owner, cursor, end, Slot, ofThread, ofEndpoint}
+use Rattle.layout.specs.Addresses.{ofLine, summary, top, running, unused, ValidSlot, at, word}
+use Rattle.layout.specs.Words.{endpointWord, content, queuesOf, occupiedIn}
+use Rattle.layout.specs.Shows.{Linked, Shows}
+use Rattle.layout.proofs.Stores.{linked-keep, linked-same}
+use Rattle.links.specs.Links.{Kept}
+use Rattle.store.specs.Marks.{SummaryWords, NoMark, MarksIn}
+
+-- The queues and the occupied levels of a state in which one entry is another.
+
+pub queues-level :
+    (s : State) (p : ℕ) (l : List ℕ) → p ≤ 255 → (q : ℕ) → queuesOf (setLevel p l s) q ≡ put (queuesOf s) p l q
+unfolding queuesOf
+queues-level s p l h q = go (same? q p)
+  where
+    go : Same q p → queuesOf (setLevel p l s) q ≡ put (queuesOf s) p l q
+    go (same e _) =
+        rw (e, put-same (s .levels) p l, put-same (queuesOf s) p l, lt-ltb p 256 (omega arith))
+    go (other d _) = rw (put-other (s .levels) p q l d, put-other (queuesOf s) p q l d)
+
+pub queues-endpoint :
+    (s : State) (e : ℕ) (x : Endpoint) → e ≤ 63 → (q : ℕ)
+    → queuesOf (setEndpoint e x s) q ≡ put (queuesOf s) (256 + e) (x .waiters) q
+unfolding queuesOf
+queues-endpoint s e x h q = go (ltb q 256) refl (same? (q - 256) e)
+  where
+    go : (b : Bool) → ltb q 256 ≡ b → Same (q - 256) e
+        → queuesOf (setEndpoint e x s) q ≡ put (queuesOf s) (256 + e) (x .waiters) q
+    go true k _ =
+        let d : q ≡ 256 + e → ⊥ = λ j. omega (arith, ltb-true q 256 k) in
+        rw (put-other (queuesOf s) (256 + e) q (x .waiters) d, k)
+    go false k (same j _) =
+        let i : q ≡ 256 + e = omega (arith, ltb-false q 256 k) in
+        rw (k, j, put-same (s .endpoints) e x) (sym (rw (i) (put-same (queuesOf s) (256 + e) (x .waiters))))
+    go false k (other d _) =
+        let n : q ≡ 256 + e → ⊥ = λ i. d (omega (arith, i)) in
+        rw (put-other (queuesOf s) (256 + e) q (x .waiters) n, k, put-other (s .endpoints) e (q - 256) x d)
+
+pub occupied-level :
+    (s : State) (p : ℕ) (l : List ℕ) → put (occupiedIn s) p (occupied l) ≡ occupiedIn (setLevel p l s)
+occupied-level s p l = λ i k. go k (same? k p) i
+  where
+    go : (k : ℕ) → Same k p → put (occupiedIn s) p (occupied l) k ≡ occupiedIn (setLevel p l s) k
+    go k (same e _) = rw (e, put-same (occupiedIn s) p (occupied l), put-same (s .levels) p l)
+    go k (other d _) = rw (put-other (occupiedIn s) p k (occupied l) d, put-other (s .levels) p k l d)
+
+put-self : {A : Type 0} (f : ℕ → A) (p : ℕ) (x : A) → x ≡ f p → put f p x ≡ f
+put-self {A} f p x e = λ i k. go k (same? k p) i
+  where
+    go : (k : ℕ) → Same k p → put f p x k ≡ f k
+    go k (same j _) = rw (j, put-same f p x) e
+    go k (other d _) = put-other f p k x d
+
+-- Level p becomes l.
+
+module _ {m : List ℕ} {s : State} (p : ℕ) (l : List ℕ) (h : p ≤ 255) (M : Shows m s) where
+  level-slots :
+      (n : List ℕ) → ((a : Slot) → ValidSlot a → NoMark a → word n (at a) ≡ word m (at a))
+      → SummaryWords n (occupiedIn (setLevel p l s)) → (a : Slot) → ValidSlot a
+      → word n (at a) ≡ content (setLevel p l s) a
+  level-slots n k w (ofThread f t) v = k (ofThread f t) v tt ∙ M .slots (ofThread f t) v
+  level-slots n k w (ofEndpoint f e) v = k (ofEndpoint f e) v tt ∙ M .slots (ofEndpoint f e) v
+  level-slots n k w (ofLine j) v = k (ofLine j) v tt ∙ M .slots (ofLine j) v
+  level-slots n k w (summary j) v = w .words j v
+  level-slots n k w top v = w .top
+  level-slots n k w running v = k running v tt ∙ M .slots running v
+  level-slots n k w (unused i) v = k (unused i) v tt ∙ M .slots (unused i) v
+
+  level-shows :
+      (n : List ℕ) → length n ≡ length m → Linked n (put (queuesOf s) p l)
+      → ((a : Slot) → ValidSlot a → NoMark a → word n (at a) ≡ word m (at a))
+      → SummaryWords n (occupiedIn (setLevel p l s)) → Shows n (setLevel p l s)
+  level-shows n size L k w =
+      record {
+        size = size ∙ M .size;
+        links =
+            linked-same n (put (queuesOf s) p l) (queuesOf (setLevel p l s)) (λ q _. queues-level s p l h q) L;
+        slots = level-slots n k w;
+      }
+
+  kept-words : (n : List ℕ) → Kept m n → SummaryWords n (occupiedIn s)
+  kept-words n K =
+      record {
+        words = λ w v. K .slots (summary w) v ∙ M .slots (summary w) v;
+        top = K .slots top tt ∙ M .slots top tt;
+      }
+
+  -- The mark of the level says whether l is empty.
+  pub level-marked :
+      {n o : List ℕ} {x : Bool} → Kept m n → Linked n (put (queuesOf s) p l) → MarksIn n p x o → x ≡ occupied l
+      → Shows o (setLevel p l s)
+  level-marked {n} {o} {x} K L D e =
+      level-shows o (D .size ∙ K .size) (linked-keep n o (D .links) (put (queuesOf s) p l) L)
+      (λ a v k. D .slots a v k ∙ K .slots a v)
+      (subst (λ f. SummaryWords o f) (ap (put (occupiedIn s) p) e ∙ occupied-level s p l)
+      (D .marked (occupiedIn s) (kept-words n K)))
+
+  -- l is as empty as the queue before it.
+  pub level-unmarked :
+      {n : List ℕ} → Kept m n → Linked n (put (queuesOf s) p l) → occupied l ≡ occupied (s .levels p)
+      → Shows n (setLevel p l s)
+  level-unmarked {n} K L e =
+      level-shows n (K .size) L (λ a v k. K .slots a v)
+      (subst (λ f. SummaryWords n f)
+      (sym (put-self (occupiedIn s) p (occupied l) e) ∙ occupied-level s p l) (kept-words n K))
+
+-- The waiters of endpoint e become l.
+
+abbrev pub waited : ℕ → List ℕ → State → State
+waited e l s =
+    setEndpoint e (record { status = s .endpoints e .status; waiters = l; abort = s .endpoints e .abort }) s
+
+module _ (s : State) (e : ℕ) (l : List ℕ) where
+  same-words :
+      (f : Part) → endpointWord (record {
+        status = s .endpoints e .status;
+        waiters = l;
+        abort = s .endpoints e .abort;
+      }) f ≡ endpointWord (s .endpoints e) f
+  same-words status = refl
+  same-words aborting = refl
+  same-words aborted = refl
+  same-words owner = refl
+  same-words cursor = refl
+  same-words end = refl
+
+  endpoint-words :
+      (f : Part) (u : ℕ) → Same u e → endpointWord (waited e l s .endpoints u) f ≡ endpointWord (s .endpoints u) f
+  endpoint-words f u (same j _) = rw (j, put-same (s .endpoints) e) (same-words f)
+  endpoint-words f u (other d _) = rw (put-other (s .endpoints) e u _ d)
+
+  waited-content : (a : Slot) → content (waited e l s) a ≡ content s a
+  waited-content (ofThread f t) = refl
+  waited-content (ofEndpoint f u) = endpoint-words f u (same? u e)
+  waited-content (ofLine j) = refl
+  waited-content (summary j) = refl
+  waited-content top = refl
+  waited-content running = refl
+  waited-content (unused i) = refl
+
+  pub waiters-linked :
+      {m n : List ℕ} → e ≤ 63 → Shows m s → Kept m n → Linked n (put (queuesOf s) (256 + e) l)
+      → Shows n (waited e l s)
+  waiters-linked {n = n} h M K L =
+      record {
+        size = K .size ∙ M .size;
+        links =
+            linked-same n (put (queuesOf s) (256 + e) l) (queuesOf (waited e l s))
+            (λ q _. queues-endpoint s e _ h q) L;
+        slots = λ a v. K .slots a v ∙ M .slots a v ∙ sym (waited-content a);
+      }

@@ -1,0 +1,170 @@
+-- Joining a queue: what it asks, what it does, and steps one after the other that end in it.
+-- Assumes nothing.
+use Prim.Native.Nat.{ℕ, _+_, _≤_, _<_}
+use mathlib.Core.Path.{_≡_, refl, _∙_}
+use mathlib.Core.Bool.{true}
+use mathlib.Core.Option.{Option, none}
+use mathlib.Core.List.{List, [], _∷_, _++_}
+use native.Mathlib.Omega.{arith}
+use native.Mathlib.Nat.{add-sub-cancel-left}
+use lib.ListN.{length}
+use borrow.Author.Tests.{lt-ltb, le-ltb}
+use Rattle.machine.specs.Lists.{put}
+use Rattle.machine.specs.State.{State, Place, able, setRuns}
+use Rattle.machine.specs.Scheduling.{enqueue, standDown, wake, block, occupied}
+use Rattle.machine.specs.Endpoints.{joinEndpoint}
+use Rattle.machine.proofs.Lists.{put-same}
+use Rattle.layout.specs.Words.{queuesOf}
+use Rattle.layout.specs.Shows.{Linked, Shows}
+use Rattle.links.specs.Links.{Joinable, Joins}
+use Rattle.links.proofs.Neatness.{linked-neat}
+use Rattle.store.specs.Steps.{Shown, Does, Tells}
+use Rattle.store.specs.Store.{IsThread, placing, Places, Runs}
+use Rattle.store.specs.Readings.{priorityIn}
+use Rattle.store.specs.Marks.{MarksIn}
+use Rattle.queues.specs.Queues.{Loose, Comes, Blocks}
+use Rattle.queues.proofs.Changed.{level-marked, waiters-linked}
+
+-- The queue of a level and of an endpoint.
+
+pub level-queue : (s : State) (p : ℕ) → p ≤ 255 → queuesOf s p ≡ s .levels p
+unfolding queuesOf
+level-queue s p h = rw (lt-ltb p 256 (omega arith))
+
+pub endpoint-queue : (s : State) (e : ℕ) → queuesOf s (256 + e) ≡ s .endpoints e .waiters
+unfolding queuesOf
+endpoint-queue s e = rw (le-ltb (256 + e) 256 (omega arith), add-sub-cancel-left)
+
+-- One step after another.
+
+module _ {m n : List ℕ} {P Q : State → Type 0} {f : State → State} (D : Does m n P f)
+    (q : (s : State) → Shows m s → P s → Q (f s)) where
+  pub shown-next : Shown m P → Shown n Q
+  shown-next S =
+      record {
+        state = f (S .state);
+        shows = D .shows (S .state) (S .shows) (S .holds);
+        holds = q (S .state) (S .shows) (S .holds);
+      }
+
+  pub and-then : {o : List ℕ} {g : State → State} → Does n o Q g → Does m o P (λ s. g (f s))
+  and-then E = record { shows = λ s M h. E .shows (f s) (D .shows s M h) (q s M h) }
+
+-- Joining a level's queue.
+
+module _ {m : List ℕ} {t p : ℕ} (R : Tells m (IsThread t) p (priorityIn t)) where
+  pub level-of : (s : State) → Shows m s → Loose t s → p ≡ s .threads t .priority
+  level-of s M h = R .tells s M (h .thread)
+
+  pub joinable-level : Shown m (Loose t) → Joinable m p t
+  joinable-level S =
+      record {
+        size = S .shows .size;
+        queue = omega (arith, level-of (S .state) (S .shows) (S .holds), S .holds .level);
+        thread = S .holds .thread;
+        queues = queuesOf (S .state);
+        linked = S .shows .links;
+        neat = linked-neat (S .shows .links);
+        free = S .holds .free;
+      }
+
+  pub markable : {n : List ℕ} → Shown m (Loose t) → Joins m p t n → (length n ≡ 4096) × (p < 256)
+  markable S J =
+      (J .kept .size ∙ S .shows .size, omega (arith, level-of (S .state) (S .shows) (S .holds), S .holds .level))
+
+  pub enqueued : {n o : List ℕ} → Joins m p t n → MarksIn n p true o → Does m o (Loose t) (enqueue t)
+  unfolding enqueue
+  enqueued {n} {o} J D = record { shows = λ s M h. go s M h (level-of s M h) }
+    where
+      filled : (l : List ℕ) → true ≡ occupied (l ++ (t ∷ []))
+      filled [] = refl
+      filled (u ∷ l) = refl
+
+      go : (s : State) → Shows m s → Loose t s → p ≡ s .threads t .priority → Shows o (enqueue t s)
+      go s M h e =
+          let k : p ≤ 255 = omega (arith, h .level) in
+          let L : Linked n (put (queuesOf s) p (queuesOf s p ++ (t ∷ []))) =
+          J .links (queuesOf s) (M .links) (linked-neat (M .links)) (h .free) in
+          rw (← e)
+          (level-marked p (s .levels p ++ (t ∷ [])) k M (J .kept) (rw (level-queue s p k) at L) D
+          (filled (s .levels p)))
+
+-- A thread in no queue is in none after a step on its words.
+
+pub loose-runs : {t : ℕ} (r : Option ℕ) (s : State) → Loose t s → Loose t (setRuns r s)
+unfolding queuesOf
+loose-runs r s h = record { thread = h .thread; level = h .level; free = h .free }
+
+pub loose-placed :
+    {t : ℕ} (p : Place) (o b x : ℕ) (s : State) → Loose t s → Loose t (placing t p o b x s)
+unfolding queuesOf
+loose-placed {t} p o b x s h =
+    record { thread = h .thread; level = rw (put-same (s .threads) t) (h .level); free = h .free }
+
+-- Steps that end in joining.
+
+module _ {t : ℕ} {m n : List ℕ} where
+  stopped : Runs m 0 n → Does m n (Loose t) (setRuns none)
+  stopped R = record { shows = λ s M h. R .does none refl .shows s M tt }
+
+  pub stopped-shown : Shown m (Loose t) → Runs m 0 n → Shown n (Loose t)
+  stopped-shown S R = shown-next (stopped R) (λ s _ h. loose-runs none s h) S
+
+  pub stood-down : {o : List ℕ} → Runs m 0 n → Does n o (Loose t) (enqueue t) → Does m o (Loose t) (standDown t)
+  unfolding standDown
+  stood-down R E = and-then (stopped R) (λ s _ h. loose-runs none s h) E
+
+module _ {t : ℕ} {m n : List ℕ} (o b x : ℕ) where
+  roused : Places m t 1 o b x n → Does m n (Loose t) (placing t able o b x)
+  roused P = record { shows = λ s M h. P .does able refl .shows s M (h .thread) }
+
+  pub roused-shown : Shown m (Loose t) → Places m t 1 o b x n → Shown n (Loose t)
+  roused-shown S P = shown-next (roused P) (λ s _ h. loose-placed able o b x s h) S
+
+  pub woken :
+      {k : List ℕ} → Places m t 1 o b x n → Does n k (Loose t) (enqueue t) → Does m k (Loose t) (wake t o b x)
+  unfolding wake
+  woken P E = and-then (roused P) (λ s _ h. loose-placed able o b x s h) E
+
+-- Nobody runs, and the thread is at its place.
+module _ {t : ℕ} {m n : List ℕ} (R : Runs m 0 n) where
+  pub halted-shown : Shown m (IsThread t) → Shown n (IsThread t)
+  halted-shown S =
+      record {
+        state = setRuns none (S .state);
+        shows = R .does none refl .shows (S .state) (S .shows) tt;
+        holds = S .holds;
+      }
+
+  pub blocked : {o : List ℕ} (code b x : ℕ) → Places n t code 0 b x o → Blocks m t code b x o
+  unfolding block
+  blocked code b x P =
+      record {
+        does = λ p e.
+            record { shows = λ s M h. P .does p e .shows (setRuns none s) (R .does none refl .shows s M tt) h };
+      }
+
+-- Joining an endpoint's queue.
+module _ {m : List ℕ} {t e : ℕ} where
+  pub joinable-endpoint : Shown m (Comes t e) → Joinable m (256 + e) t
+  joinable-endpoint S =
+      record {
+        size = S .shows .size;
+        queue = omega (arith, S .holds .endpoint);
+        thread = S .holds .thread;
+        queues = queuesOf (S .state);
+        linked = S .shows .links;
+        neat = linked-neat (S .shows .links);
+        free = S .holds .free;
+      }
+
+  pub joined : {n : List ℕ} → Joins m (256 + e) t n → Does m n (Comes t e) (joinEndpoint t e)
+  unfolding joinEndpoint
+  joined {n} J = record { shows = λ s M h. go s M h }
+    where
+      go : (s : State) → Shows m s → Comes t e s → Shows n (joinEndpoint t e s)
+      go s M h =
+          let L : Linked n (put (queuesOf s) (256 + e) (queuesOf s (256 + e) ++ (t ∷ []))) =
+          J .links (queuesOf s) (M .links) (linked-neat (M .links)) (h .free) in
+          waiters-linked s e (s .endpoints e .waiters ++ (t ∷ [])) (h .endpoint) M (J .kept)
+          (rw (endpoint-queue s e) at L)

@@ -1,0 +1,24 @@
+-- Nobody runs, and the thread is at its place. Assumes nothing.
+use Rattle.queues.proofs.Joining.{halted-shown, blocked}
+use borrow.Author.Needs.{needs}
+use Rattle.queues.proofs.block.Statement.{statement}
+use Rattle.queues.proofs.block.Tie as tie
+
+set-running-requires : tie.Need-set-running-requires
+set-running-requires c κs = search needs
+
+set-place-requires : tie.Need-set-place-requires
+set-place-requires c κs =
+    halted-shown (c .before .before .before .set-running .ensures)
+    (c .before .before .before .before .before .before .pre)
+
+same-length : tie.Need-same-length
+same-length c = search needs
+
+returns : tie.Need-returns
+returns c =
+    blocked (c .before .before .before .before .before .before .set-running .ensures) _ _ _
+    (c .before .before .set-place .ensures)
+
+pub block-spec : {M : Type 1} → statement M
+block-spec = tie.close (tie.spec set-running-requires set-place-requires same-length returns)

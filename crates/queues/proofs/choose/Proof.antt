@@ -1,0 +1,52 @@
+-- Somebody is chosen where nobody runs or a higher level is occupied. Assumes nothing.
+use Rattle.queues.proofs.Choosing.{chosen-idle, runner-shown, chosen}
+use borrow.Author.Needs.{needs}
+use Rattle.queues.proofs.choose.Statement.{statement}
+use Rattle.queues.proofs.choose.Tie as tie
+
+running-requires : tie.Need-running-requires
+running-requires c κs = search needs
+
+dispatch-requires : tie.Need-dispatch-requires
+dispatch-requires c κs = search needs
+
+same-length : tie.Need-same-length
+same-length c = search needs
+
+returns : tie.Need-returns
+returns c =
+    chosen-idle (c .before .before .before .before .before .running .ensures)
+    (c .before .before .before .before .if1 .taken) (c .before .before .dispatch .ensures)
+
+sub-displace : tie.Need-sub-displace
+sub-displace c = search needs
+
+cast-displace : tie.Need-cast-displace
+cast-displace c = search needs
+
+displace-requires : tie.Need-displace-requires
+displace-requires c κs =
+    runner-shown (c .before .before .running .ensures) (c .before .if1 .left)
+    (c .before .before .before .before .before .pre)
+
+same-length-2 : tie.Need-same-length-2
+same-length-2 c = search needs
+
+returns-2 : tie.Need-returns-2
+returns-2 c =
+    chosen (c .before .before .before .before .before .running .ensures)
+    (c .before .before .before .before .if1 .left) (c .before .before .displace .ensures)
+
+pub choose-spec : {M : Type 1} → statement M
+choose-spec =
+    tie.close
+    (tie.spec
+    running-requires
+    dispatch-requires
+    same-length
+    returns
+    sub-displace
+    cast-displace
+    displace-requires
+    same-length-2
+    returns-2)

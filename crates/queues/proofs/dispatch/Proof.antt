@@ -1,0 +1,74 @@
+-- The head of the highest queue leaves it and runs. Assumes nothing.
+use Rattle.queues.proofs.Choosing.{nobody-ready, readable, head-there, head-shown, head-left, dispatched}
+use borrow.Author.Needs.{needs}
+use Rattle.queues.proofs.dispatch.Statement.{statement}
+use Rattle.queues.proofs.dispatch.Tie as tie
+
+highest-level-requires : tie.Need-highest-level-requires
+highest-level-requires c κs = search needs
+
+same-length : tie.Need-same-length
+same-length c = search needs
+
+returns : tie.Need-returns
+returns c = nobody-ready (c .before .highest-level .ensures) (c .if1 .taken)
+
+sub-p : tie.Need-sub-p
+sub-p c = search needs
+
+cast-first : tie.Need-cast-first
+cast-first c = search needs
+
+first-requires : tie.Need-first-requires
+first-requires c κs =
+    readable (c .before .before .highest-level .ensures) (c .before .if1 .left)
+    (c .before .before .before .before .before .pre)
+
+sub-leave-level : tie.Need-sub-leave-level
+sub-leave-level c =
+    head-there (c .before .before .before .before .highest-level .ensures) (c .before .before .before .if1 .left)
+    (c .before .first .ensures) (c .before .before .before .before .before .before .before .pre)
+
+cast-leave-level : tie.Need-cast-leave-level
+cast-leave-level c = search needs
+
+leave-level-requires : tie.Need-leave-level-requires
+leave-level-requires c κs =
+    head-shown (c .before .before .before .before .highest-level .ensures) (c .before .before .before .if1 .left)
+    (c .before .first .ensures) (c .before .before .before .before .before .before .before .pre)
+
+set-running-requires : tie.Need-set-running-requires
+set-running-requires c κs =
+    head-left (c .before .before .before .before .before .before .before .before .highest-level .ensures)
+    (c .before .before .before .before .before .before .before .if1 .left)
+    (c .before .before .before .before .before .first .ensures) (c .before .before .before .leave-level .ensures)
+    (c .before .before .before .before .before .before .before .before .before .before .before .pre)
+
+same-length-2 : tie.Need-same-length-2
+same-length-2 c = search needs
+
+returns-2 : tie.Need-returns-2
+returns-2 c =
+    dispatched
+    (c .before .before .before .before .before .before .before .before .before .before .before .highest-level .ensures)
+    (c .before .before .before .before .before .before .before .before .before .before .if1 .left)
+    (c .before .before .before .before .before .before .before .before .first .ensures)
+    (c .before .before .before .before .before .before .leave-level .ensures)
+    (c .before .before .set-running .ensures)
+
+pub dispatch-spec : {M : Type 1} → statement M
+dispatch-spec =
+    tie.close
+    (tie.spec
+    highest-level-requires
+    same-length
+    returns
+    sub-p
+    cast-first
+    first-requires
+    sub-leave-level
+    cast-leave-level
+    leave-level-requires
+    set-running-requires
+    same-length-2
+    returns-2)

@@ -1,0 +1,43 @@
+-- The thread leaves a level's queue, which is marked where it is then empty. Assumes nothing.
+use Rattle.queues.proofs.Leaving.{leavable-level, emptied, still-occupied}
+use borrow.Author.Needs.{needs}
+use Rattle.queues.proofs.leave_level.Statement.{statement}
+use Rattle.queues.proofs.leave_level.Tie as tie
+
+unlink-requires : tie.Need-unlink-requires
+unlink-requires c κs = leavable-level (c .before .before .pre)
+
+first-requires : tie.Need-first-requires
+first-requires c κs = search needs
+
+mark-empty-requires : tie.Need-mark-empty-requires
+mark-empty-requires c κs = search needs
+
+same-length : tie.Need-same-length
+same-length c = search needs
+
+returns : tie.Need-returns
+returns c =
+    emptied (c .before .before .before .before .before .before .before .before .before .unlink .ensures)
+    (c .before .before .before .before .before .first .ensures) (c .before .before .before .before .if1 .taken)
+    (c .before .before .mark-empty .ensures)
+
+same-length-2 : tie.Need-same-length-2
+same-length-2 c = search needs
+
+returns-2 : tie.Need-returns-2
+returns-2 c =
+    still-occupied (c .before .before .before .before .before .unlink .ensures) (c .before .first .ensures)
+    (c .if1 .left)
+
+pub leave-level-spec : {M : Type 1} → statement M
+leave-level-spec =
+    tie.close
+    (tie.spec
+    unlink-requires
+    first-requires
+    mark-empty-requires
+    same-length
+    returns
+    same-length-2
+    returns-2)

@@ -1,0 +1,93 @@
+-- A mark that is the thread passes to its neighbour. Assumes nothing.
+use Rattle.queues.proofs.Marking.{passed-both, passed-cursor, passed-end, passed-neither}
+use borrow.Author.Needs.{needs}
+use Rattle.queues.proofs.pass_marks.Statement.{statement}
+use Rattle.queues.proofs.pass_marks.Tie as tie
+
+add-link : tie.Need-add-link
+add-link c = search needs
+
+cast-link : tie.Need-cast-link
+cast-link c = search needs
+
+cursor-requires : tie.Need-cursor-requires
+cursor-requires c κs = search needs
+
+end-requires : tie.Need-end-requires
+end-requires c κs = search needs
+
+set-marks-requires : tie.Need-set-marks-requires
+set-marks-requires c κs = search needs
+
+same-length : tie.Need-same-length
+same-length c = search needs
+
+returns : tie.Need-returns
+returns c =
+    passed-both (c .before .before .before .before .before .before .before .before .cursor .ensures)
+    (c .before .before .before .before .before .before .end .ensures) (c .before .before .set-marks .ensures)
+    (c .before .before .before .before .before .if1 .taken) (c .before .before .before .before .if2 .taken)
+
+next-requires : tie.Need-next-requires
+next-requires c κs = search needs
+
+set-marks-requires-2 : tie.Need-set-marks-requires-2
+set-marks-requires-2 c κs = search needs
+
+same-length-2 : tie.Need-same-length-2
+same-length-2 c = search needs
+
+returns-2 : tie.Need-returns-2
+returns-2 c =
+    passed-cursor (c .before .before .before .before .before .before .before .before .before .before .cursor .ensures)
+    (c .before .before .before .before .before .before .before .before .end .ensures)
+    (c .before .before .before .before .next .ensures) (c .before .before .set-marks2 .ensures)
+    (c .before .before .before .before .before .before .before .if1 .taken)
+    (c .before .before .before .before .before .before .if2 .left)
+
+prev-requires : tie.Need-prev-requires
+prev-requires c κs = search needs
+
+set-marks-requires-3 : tie.Need-set-marks-requires-3
+set-marks-requires-3 c κs = search needs
+
+same-length-3 : tie.Need-same-length-3
+same-length-3 c = search needs
+
+returns-3 : tie.Need-returns-3
+returns-3 c =
+    passed-end (c .before .before .before .before .before .before .before .before .before .before .cursor .ensures)
+    (c .before .before .before .before .before .before .before .before .end .ensures)
+    (c .before .before .before .before .prev .ensures) (c .before .before .set-marks3 .ensures)
+    (c .before .before .before .before .before .before .before .if1 .left)
+    (c .before .before .before .before .before .before .if3 .taken)
+
+same-length-4 : tie.Need-same-length-4
+same-length-4 c = search needs
+
+returns-4 : tie.Need-returns-4
+returns-4 c =
+    passed-neither (c .before .before .before .before .cursor .ensures) (c .before .before .end .ensures)
+    (c .before .if1 .left) (c .if3 .left)
+
+pub pass-marks-spec : {M : Type 1} → statement M
+pass-marks-spec =
+    tie.close
+    (tie.spec
+    add-link
+    cast-link
+    cursor-requires
+    end-requires
+    set-marks-requires
+    same-length
+    returns
+    next-requires
+    set-marks-requires-2
+    same-length-2
+    returns-2
+    prev-requires
+    set-marks-requires-3
+    same-length-3
+    returns-3
+    same-length-4
+    returns-4)

@@ -1,0 +1,24 @@
+-- Nobody runs, and the thread joins its level's queue. Assumes nothing.
+use Rattle.queues.proofs.Joining.{stopped-shown, stood-down}
+use borrow.Author.Needs.{needs}
+use Rattle.queues.proofs.stand_down.Statement.{statement}
+use Rattle.queues.proofs.stand_down.Tie as tie
+
+set-running-requires : tie.Need-set-running-requires
+set-running-requires c κs = search needs
+
+enqueue-requires : tie.Need-enqueue-requires
+enqueue-requires c κs =
+    stopped-shown (c .before .before .before .before .before .before .pre)
+    (c .before .before .before .set-running .ensures)
+
+same-length : tie.Need-same-length
+same-length c = search needs
+
+returns : tie.Need-returns
+returns c =
+    stood-down (c .before .before .before .before .before .before .set-running .ensures)
+    (c .before .before .enqueue .ensures)
+
+pub stand-down-spec : {M : Type 1} → statement M
+stand-down-spec = tie.close (tie.spec set-running-requires enqueue-requires same-length returns)

@@ -1,0 +1,79 @@
+-- What joining and leaving a queue asks, and the steps of which the machine's operations are made: where the thread
+-- stands, the level's queue without it, and the marks of an abort that passes it by.
+use Prim.Native.Nat.{ℕ, _≤_}
+use mathlib.Core.Path.{_≡_}
+use mathlib.Core.Option.{Option, none, some}
+use mathlib.Core.List.{List, _++_}
+use Rattle.machine.specs.Lists.{without, Mem}
+use Rattle.machine.specs.State.{State, Place, Abort, setLevel}
+use Rattle.machine.specs.Scheduling.{block, highest}
+use Rattle.machine.specs.Endpoints.{passing, setAbort}
+use Rattle.layout.specs.Words.{placeCode, linkOf, firstOf, lastOf, queuesOf}
+use Rattle.links.specs.Links.{Free}
+use Rattle.store.specs.Steps.{Does}
+use Rattle.store.specs.Store.{IsThread, HasAbort}
+
+-- t stands in no queue, and its level is in range.
+pub record Loose (t : ℕ) (s : State) : Type 0 where
+  pub thread : t ≤ 255
+  pub level : s .threads t .priority ≤ 255
+  pub free : Free (queuesOf s) t
+
+-- t stands in its level's queue.
+pub record Stands (t : ℕ) (s : State) : Type 0 where
+  pub thread : t ≤ 255
+  pub level : s .threads t .priority ≤ 255
+  pub stands : Mem t (s .levels (s .threads t .priority))
+
+-- t stands in the queue of level p.
+pub record StandsAt (p t : ℕ) (s : State) : Type 0 where
+  pub level : p ≤ 255
+  pub stands : Mem t (s .levels p)
+
+-- Whoever runs stands in no queue.
+pub record Chooses (s : State) : Type 0 where
+  pub running : (t : ℕ) → s .runs ≡ some t → Loose t s
+
+-- t, in no queue, comes to an endpoint.
+pub record Comes (t e : ℕ) (s : State) : Type 0 where
+  pub thread : t ≤ 255
+  pub endpoint : e ≤ 63
+  pub free : Free (queuesOf s) t
+
+-- t waits at endpoint e, and what is pending there is a part of its queue.
+pub record Waits (t e : ℕ) (s : State) : Type 0 where
+  pub thread : t ≤ 255
+  pub level : s .threads t .priority ≤ 255
+  pub endpoint : e ≤ 63
+  pub stands : Mem t (s .endpoints e .waiters)
+  pub part :
+      (a : Abort) → s .endpoints e .abort ≡ some a
+      → (before : List ℕ) × (behind : List ℕ) × (s .endpoints e .waiters ≡ before ++ (a .pending ++ behind))
+
+-- A place enters the code as its number; the thread blocks at whatever place it is the number of.
+pub record Blocks (m : List ℕ) (t code badge message : ℕ) (m′ : List ℕ) : Type 0 where
+  pub does : (p : Place) → placeCode p ≡ code → Does m m′ (IsThread t) (block t p badge message)
+
+-- t leaves the queue of level p.
+abbrev pub leaveLevel : ℕ → ℕ → State → State
+leaveLevel p t s = setLevel p (without t (s .levels p)) s
+
+-- The highest occupied level as a link: level p is p + 1, and none is 0.
+abbrev pub highestLink : State → ℕ
+highestLink s = linkOf (highest (s .levels))
+
+-- The abort at endpoint e has the waiters of a list to look at.
+abbrev pub withPending : List ℕ → Option Abort → Option Abort
+withPending l none = none
+withPending l (some a) = some (record { badge = a .badge; owner = a .owner; pending = l })
+
+abbrev pub lookingAt : ℕ → List ℕ → State → State
+lookingAt e l s = setAbort e (withPending l (s .endpoints e .abort)) s
+
+-- Cursor and end mark enter the code as links; the abort looks at whatever list they are the first and the last of.
+pub record Looks (m : List ℕ) (e cursor end : ℕ) (m′ : List ℕ) : Type 0 where
+  pub does : (l : List ℕ) → firstOf l ≡ cursor → lastOf 0 l ≡ end → Does m m′ (HasAbort e) (lookingAt e l)
+
+-- The abort at endpoint e has not to look at t any more.
+abbrev pub passingAt : ℕ → ℕ → State → State
+passingAt t e s = setAbort e (passing t (s .endpoints e .abort)) s

@@ -1,0 +1,181 @@
+// Joining and leaving the ready queues and the endpoint queues, with the summary and the marks of aborts.
+// Each is a few steps without a loop, and does to whatever state the words show what the machine's operation does.
+ghost use mathlib.Core.Option.{some};
+ghost use Rattle.machine.specs.Scheduling.{enqueue as enqueueing, unqueue as unqueueing, standDown, wake as waking};
+ghost use Rattle.machine.specs.Scheduling.{dispatch as dispatching, chooseFor, choose as choosing};
+ghost use Rattle.machine.specs.Endpoints.{joinEndpoint, leaveEndpoint, wakeFrom as rousing};
+ghost use Rattle.store.specs.Steps.{Shown, Does, Tells};
+ghost use Rattle.store.specs.Store.{IsThread, IsEndpoint, Any};
+ghost use Rattle.queues.specs.Queues.{Loose, Stands, StandsAt, Chooses, Comes, Waits, Blocks, Looks};
+ghost use Rattle.queues.specs.Queues.{leaveLevel, passingAt, highestLink};
+use summary::Level;
+
+// Thread t, in no queue, joins the tail of its level's.
+pub fn enqueue(tables: &mut [u32], t: usize)
+    requires { ⌜ Shown (now tables) (Loose t) ⌝ }
+    ensures { λ _. ⌜ Does (now (tables .entry)) (now (tables .exit)) (Loose t) (enqueueing t) ⌝ }
+{
+    let p = store::priority(tables, t);
+    links::push_tail(tables, p as usize, t);
+    store::mark_occupied(tables, p);
+}
+
+// Thread t leaves the queue of level p, which is empty in the summary if nobody is left there.
+fn leave_level(tables: &mut [u32], p: u32, t: usize)
+    requires { ⌜ Shown (now tables) (StandsAt p t) ⌝ }
+    ensures { λ _. ⌜ Does (now (tables .entry)) (now (tables .exit)) (StandsAt p t) (leaveLevel p t) ⌝ }
+{
+    links::unlink(tables, p as usize, t);
+    let first = links::first(tables, p as usize);
+    if first == 0 {
+        store::mark_empty(tables, p);
+    }
+}
+
+// Thread t leaves its level's queue.
+pub fn unqueue(tables: &mut [u32], t: usize)
+    requires { ⌜ Shown (now tables) (Stands t) ⌝ }
+    ensures { λ _. ⌜ Does (now (tables .entry)) (now (tables .exit)) (Stands t) (unqueueing t) ⌝ }
+{
+    let p = store::priority(tables, t);
+    leave_level(tables, p, t);
+}
+
+// The running thread t goes to its level's tail, and nobody runs.
+pub fn stand_down(tables: &mut [u32], t: usize)
+    requires { ⌜ Shown (now tables) (Loose t) ⌝ }
+    ensures { λ _. ⌜ Does (now (tables .entry)) (now (tables .exit)) (Loose t) (standDown t) ⌝ }
+{
+    store::set_running(tables, 0);
+    enqueue(tables, t);
+}
+
+// Thread t, in no queue, is woken with an outcome, and joins its level's tail.
+pub fn wake(tables: &mut [u32], t: usize, outcome: u32, badge: u32, message: u32)
+    requires { ⌜ Shown (now tables) (Loose t) ⌝ }
+    ensures { λ _. ⌜ Does (now (tables .entry)) (now (tables .exit)) (Loose t) (waking t outcome badge message) ⌝ }
+{
+    store::set_place(tables, t, 1, outcome, badge, message);
+    enqueue(tables, t);
+}
+
+// The running thread t blocks at a place, and nobody runs.
+pub fn block(tables: &mut [u32], t: usize, place: u32, badge: u32, message: u32)
+    requires { ⌜ Shown (now tables) (IsThread t) ⌝ }
+    ensures { λ _. ⌜ Blocks (now (tables .entry)) t place badge message (now (tables .exit)) ⌝ }
+{
+    store::set_running(tables, 0);
+    store::set_place(tables, t, place, 0, badge, message);
+}
+
+// The link to the highest occupied level: level p is p + 1, and none is 0.
+fn highest_level(tables: &[u32]) -> u32
+    requires { ⌜ Shown (now tables) Any ⌝ }
+    ensures { λ r. ⌜ Tells (now (tables .entry)) Any r highestLink ⌝ }
+{
+    let summary = store::load_summary(tables);
+    let level = summary.highest();
+    let Level::At(p) = level else {
+        return 0;
+    };
+    p + 1
+}
+
+// The head of the highest queue, if anybody is ready, runs.
+pub fn dispatch(tables: &mut [u32])
+    requires { ⌜ Shown (now tables) Any ⌝ }
+    ensures { λ _. ⌜ Does (now (tables .entry)) (now (tables .exit)) Any dispatching ⌝ }
+{
+    let level = highest_level(tables);
+    if level == 0 {
+        return;
+    }
+    let p = level - 1;
+    let link = links::first(tables, p as usize);
+    leave_level(tables, p, (link - 1) as usize);
+    store::set_running(tables, link);
+}
+
+// The running thread t is displaced if a level above its own is occupied.
+fn displace(tables: &mut [u32], t: usize)
+    requires { ⌜ Shown (now tables) (Loose t) ⌝ }
+    ensures { λ _. ⌜ Does (now (tables .entry)) (now (tables .exit)) (Loose t) (chooseFor (some t)) ⌝ }
+{
+    let p = store::priority(tables, t);
+    let level = highest_level(tables);
+    if p + 1 < level {
+        stand_down(tables, t);
+        dispatch(tables);
+    }
+}
+
+// If nobody runs, or a level above the running thread's is occupied, the head of the highest queue runs.
+pub fn choose(tables: &mut [u32])
+    requires { ⌜ Shown (now tables) Chooses ⌝ }
+    ensures { λ _. ⌜ Does (now (tables .entry)) (now (tables .exit)) Chooses choosing ⌝ }
+{
+    let link = store::running(tables);
+    if link == 0 {
+        dispatch(tables);
+        return;
+    }
+    displace(tables, (link - 1) as usize);
+}
+
+// Thread t, in no queue, joins the tail of endpoint e's.
+pub fn join_endpoint(tables: &mut [u32], t: usize, e: usize)
+    requires { ⌜ Shown (now tables) (Comes t e) ⌝ }
+    ensures { λ _. ⌜ Does (now (tables .entry)) (now (tables .exit)) (Comes t e) (joinEndpoint t e) ⌝ }
+{
+    links::push_tail(tables, 256 + e, t);
+}
+
+// The abort at endpoint e looks at the waiters from a cursor to an end mark, both 0 for none.
+fn set_marks(tables: &mut [u32], e: usize, cursor: u32, end: u32)
+    requires { ⌜ Shown (now tables) (IsEndpoint e) ⌝ }
+    ensures { λ _. ⌜ Looks (now (tables .entry)) e cursor end (now (tables .exit)) ⌝ }
+{
+    words::put(tables, words::cursor_at(e), cursor);
+    words::put(tables, words::end_at(e), end);
+}
+
+// Thread t goes from those that the abort at endpoint e has to look at: a mark that it is passes to its neighbour.
+fn pass_marks(tables: &mut [u32], t: usize, e: usize)
+    requires { ⌜ Shown (now tables) (Waits t e) ⌝ }
+    ensures { λ _. ⌜ Does (now (tables .entry)) (now (tables .exit)) (Waits t e) (passingAt t e) ⌝ }
+{
+    let link = (t + 1) as u32;
+    let cursor = store::cursor(tables, e);
+    let end = store::end(tables, e);
+    if cursor == link {
+        if end == link {
+            set_marks(tables, e, 0, 0);
+            return;
+        }
+        let next = links::next(tables, t);
+        set_marks(tables, e, next, end);
+        return;
+    }
+    if end == link {
+        let prev = links::prev(tables, t);
+        set_marks(tables, e, cursor, prev);
+    }
+}
+
+// Thread t leaves the queue of endpoint e, and an abort that stands there has not to look at it any more.
+pub fn leave_endpoint(tables: &mut [u32], t: usize, e: usize)
+    requires { ⌜ Shown (now tables) (Waits t e) ⌝ }
+    ensures { λ _. ⌜ Does (now (tables .entry)) (now (tables .exit)) (Waits t e) (leaveEndpoint t e) ⌝ }
+{
+    pass_marks(tables, t, e);
+    links::unlink(tables, 256 + e, t);
+}
+
+// Thread t leaves the queue of endpoint e and is woken with an outcome.
+pub fn wake_from(tables: &mut [u32], e: usize, t: usize, outcome: u32, badge: u32, message: u32)
+    requires { ⌜ Shown (now tables) (Waits t e) ⌝ }
+    ensures { λ _. ⌜ Does (now (tables .entry)) (now (tables .exit)) (Waits t e) (rousing e t outcome badge message) ⌝ }
+{
+    leave_endpoint(tables, t, e);
+    wake(tables, t, outcome, badge, message);
+}
