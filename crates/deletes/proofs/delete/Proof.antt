@@ -1,0 +1,57 @@
+-- The debt goes, then the abort; what is left is the removal from a closing endpoint.
+-- Assumes nothing.
+use borrow.Author.Needs.{needs}
+use Rattle.deletes.proofs.Deleting.{no-endpoint, drop-asked, end-asked, from-asked, deletes}
+use Rattle.deletes.proofs.delete.Statement.{statement}
+use Rattle.deletes.proofs.delete.Tie as tie
+
+status-requires : tie.Need-status-requires
+status-requires c κs = search needs
+
+plain-requires : tie.Need-plain-requires
+plain-requires c κs = search needs
+
+same-length : tie.Need-same-length
+same-length c = search needs
+
+returns : tie.Need-returns
+returns c = search no-endpoint
+
+drop-debt-requires : tie.Need-drop-debt-requires
+drop-debt-requires c κs = search drop-asked
+
+end-abort-requires : tie.Need-end-abort-requires
+end-abort-requires c κs = search end-asked
+
+delete-from-requires : tie.Need-delete-from-requires
+delete-from-requires c κs =
+    let at-end = c .before .before .before in
+    let at-drop = at-end .before .before .before .before in
+    let at-if1 = at-drop .before .before in
+    from-asked (at-if1 .before .status .ensures) (at-if1 .if1 .left) (at-drop .drop-debt .ensures)
+    (at-end .end-abort .ensures) (at-if1 .before .before .before .before .pre)
+
+same-length-2 : tie.Need-same-length-2
+same-length-2 c = search needs
+
+returns-2 : tie.Need-returns-2
+returns-2 c =
+    let at-end = c .before .before .before .before .before .before in
+    let at-drop = at-end .before .before .before .before in
+    let at-if1 = at-drop .before .before in
+    deletes (at-if1 .before .status .ensures) (at-if1 .if1 .left) (at-drop .drop-debt .ensures)
+    (at-end .end-abort .ensures) _ (c .before .before .delete-from .ensures)
+
+pub delete-spec : {M : Type 1} → statement M
+delete-spec =
+    tie.close
+    (tie.spec
+    status-requires
+    plain-requires
+    same-length
+    returns
+    drop-debt-requires
+    end-abort-requires
+    delete-from-requires
+    same-length-2
+    returns-2)

@@ -1,0 +1,61 @@
+-- With somebody left the delete is broken off; else the endpoint goes.
+-- Assumes nothing.
+use borrow.Author.Needs.{needs}
+use Rattle.deletes.proofs.Deleting.{broken-asked, broken-off, status-asked, gone-asked, deleted-all}
+use Rattle.deletes.proofs.delete_from.Statement.{statement}
+use Rattle.deletes.proofs.delete_from.Tie as tie
+
+remove-requires : tie.Need-remove-requires
+remove-requires c κs = search needs
+
+add-first : tie.Need-add-first
+add-first c = search needs
+
+first-requires : tie.Need-first-requires
+first-requires c κs = search needs
+
+accept-requires : tie.Need-accept-requires
+accept-requires c κs = search broken-asked
+
+same-length : tie.Need-same-length
+same-length c = search needs
+
+returns : tie.Need-returns
+returns c = search broken-off
+
+set-status-requires : tie.Need-set-status-requires
+set-status-requires c κs = search status-asked
+
+accept-requires-2 : tie.Need-accept-requires-2
+accept-requires-2 c κs =
+    let at-status = c .before .before .before in
+    let at-if1 = at-status .before .before in
+    let at-remove = at-if1 .before .before .before .before .before in
+    gone-asked (at-remove .remove .ensures) (at-if1 .before .first .ensures) (at-if1 .if1 .left)
+    (at-status .set-status .ensures) (at-remove .before .before .before .pre)
+
+same-length-2 : tie.Need-same-length-2
+same-length-2 c = search needs
+
+returns-2 : tie.Need-returns-2
+returns-2 c =
+    let at-status = c .before .before .before .before .before .before in
+    let at-if1 = at-status .before .before in
+    let at-remove = at-if1 .before .before .before .before .before in
+    deleted-all (at-remove .remove .ensures) (at-if1 .before .first .ensures) (at-if1 .if1 .left)
+    (at-status .set-status .ensures) (c .before .before .accept2 .ensures)
+
+pub delete-from-spec : {M : Type 1} → statement M
+delete-from-spec =
+    tie.close
+    (tie.spec
+    remove-requires
+    add-first
+    first-requires
+    accept-requires
+    same-length
+    returns
+    set-status-requires
+    accept-requires-2
+    same-length-2
+    returns-2)

@@ -1,0 +1,72 @@
+// Call 11, the breakable delete of an endpoint. The caller's debt goes, the endpoint is closing and its abort ends, and
+// then waiters leave from the head. A delete that its allowance breaks off leaves the endpoint closing, and deleting it
+// again goes on.
+ghost use Prim.Native.Nat.{_≤_};
+ghost use Rattle.machine.specs.Aborts.{deleteFrom, delete};
+ghost use Rattle.store.specs.Steps.{Shown};
+ghost use Rattle.results.specs.Results.{Calling, Performs};
+ghost use Rattle.deletes.specs.Deletes.{Closes, Removes};
+use machine::Answer;
+
+// Waiters leave the head of endpoint e's queue with outcome 4, until nobody is left or the allowance is used up; how
+// many went.
+fn remove(tables: &mut [u32], e: usize, allowance: u32) -> u32
+    requires { ⌜ Shown (now tables) (Closes e) ⌝ }
+    ensures { λ r. ⌜ Removes (now (tables .entry)) e allowance r (now (tables .exit)) ⌝ }
+{
+    let mut left = allowance;
+    while 0 < left {
+        let first = links::first(tables, 256 + e);
+        if first == 0 {
+            return allowance - left;
+        }
+        queues::wake_from(tables, e, (first - 1) as usize, 4, 0, 0);
+        left -= 1;
+    }
+    allowance
+}
+
+// Endpoint e, closing, loses waiters; with nobody left it is missing, and else the delete is broken off.
+fn delete_from(tables: &mut [u32], e: usize, allowance: u32) -> Answer
+    requires { ⌜ Shown (now tables) (Closes e) ⌝ }
+    ensures { λ r. ⌜ Performs (now (tables .entry)) (now (tables .exit)) r (Closes e) (deleteFrom e allowance) ⌝ }
+{
+    let count = remove(tables, e, allowance);
+    let first = links::first(tables, 256 + e);
+    if first != 0 {
+        return results::accept(
+            tables,
+            Answer {
+                code: 2,
+                count,
+                badge: 0,
+                message: 0,
+            },
+        );
+    }
+    store::set_status(tables, e, 0);
+    results::accept(
+        tables,
+        Answer {
+            code: 0,
+            count,
+            badge: 0,
+            message: 0,
+        },
+    )
+}
+
+// 11: thread t deletes endpoint e, removing at most as many waiters as the allowance lets.
+pub fn delete(tables: &mut [u32], t: usize, e: usize, allowance: u32) -> Answer
+    requires { ⌜ Shown (now tables) (Calling t (e ≤ 63)) ⌝ }
+    ensures { λ r. ⌜ Performs (now (tables .entry)) (now (tables .exit)) r (Calling t (e ≤ 63))
+        (delete t e allowance) ⌝ }
+{
+    let status = store::status(tables, e);
+    if status == 0 {
+        return results::plain(23);
+    }
+    debts::drop_debt(tables, t);
+    debts::end_abort(tables, e, 2);
+    delete_from(tables, e, allowance)
+}
