@@ -7,7 +7,7 @@ use mathlib.Core.Option.{Option, none, some}
 use mathlib.Core.List.{List}
 use native.Mathlib.Omega.{arith}
 use lib.Dec.{eqb}
-use borrow.Author.Tests.{eq-eqb, ne-eqb, eqb-true, eqb-false}
+use borrow.Author.Tests.{eq-eqb, ne-eqb, eqb-false}
 use Rattle.machine.specs.State.{State, Place, absent, able, sending, receiving, waiting}
 use Rattle.machine.specs.Machine.{isAbsent, isAble, isRunning}
 use Rattle.machine.specs.Sound.{Ready}
@@ -37,10 +37,6 @@ code-present (receiving e) k n = refl
 code-present (waiting l) k n = refl
 
 -- Who runs.
-
-pub is-running : {t : ℕ} (x : Option ℕ) → isRunning t x ≡ true → x ≡ some t
-is-running none e = absurd (clash e refl)
-is-running {t} (some u) e = ap some (eqb-true u t e)
 
 pub not-running : {t : ℕ} (x : Option ℕ) → isRunning t x ≡ false → x ≡ some t → ⊥
 not-running none e h = none-some refl h

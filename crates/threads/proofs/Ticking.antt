@@ -71,23 +71,23 @@ module _ {m : List ℕ} {t r : ℕ} (T : Tells m (IsThread t) r (ticksIn t)) whe
       omega (arith, told (S .state) (S .shows) (S .holds), caller-least (S .state) (S .holds))
 
   module _ {n : List ℕ} where
-    module _ (D : Does m n (IsThread t) (ticking t 5)) where
-      refills : Does m n (Caller t) (ticking t 5)
-      refills = does-for D caller-small
+    filled : (k : ℕ) → Does m n (IsThread t) (ticking t k) → Does m n (Caller t) (ticking t k)
+    filled k D = does-for D caller-small
 
-      pub stand-asked : Shown m (Caller t) → Shown n (Loose t)
-      stand-asked S = shown-next refills (λ s M h. ticked-loose s h 5) S
+    pub stand-asked : (k : ℕ) → Does m n (IsThread t) (ticking t k) → Shown m (Caller t) → Shown n (Loose t)
+    stand-asked k D S = shown-next (filled k D) (λ s M h. ticked-loose s h k) S
 
-      pub last-tick :
-          {o : List ℕ} → r ≡ 1 → Does n o (Loose t) (standDown t) → Does m o (Caller t) (tickFor (some t))
-      unfolding tickFor leaveTicks
-      last-tick {o} z E =
-          record {
-            shows = λ s M h.
-                let e : zero ≡ s .threads t .ticks - 1 = omega (arith, told s M h) in
-                subst (λ (k : ℕ). Shows o (leaveTicks k t s)) e
-                (and-then refills (λ s M h. ticked-loose s h 5) E .shows s M h);
-          }
+    pub last-tick :
+        {o : List ℕ} → r ≡ 1 → Does m n (IsThread t) (ticking t 5) → Does n o (Loose t) (standDown t)
+        → Does m o (Caller t) (tickFor (some t))
+    unfolding tickFor leaveTicks
+    last-tick {o} z D E =
+        record {
+          shows = λ s M h.
+              let e : zero ≡ s .threads t .ticks - 1 = omega (arith, told s M h) in
+              subst (λ (k : ℕ). Shows o (leaveTicks k t s)) e
+              (and-then (filled 5 D) (λ s M h. ticked-loose s h 5) E .shows s M h);
+        }
 
     pub one-tick :
         (r ≡ 1 → ⊥) → Does m n (IsThread t) (ticking t (r - 1)) → Does m n (Caller t) (tickFor (some t))

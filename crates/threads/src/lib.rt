@@ -92,7 +92,7 @@ pub fn destroy_thread(tables: &mut [u32], t: usize) -> Answer
     if place == 0 {
         return results::plain(21);
     }
-    debts::drop_debt(tables, t);
+    debts::drop_debt(tables, t); // the abort that it owned stands without an owner
     leave(tables, t, place);
     store::clear_thread(tables, t);
     accepted(tables)
@@ -130,18 +130,18 @@ pub fn set_priority(tables: &mut [u32], t: usize, p: u32) -> Answer
     accepted(tables)
 }
 
-// The running thread t has a tick less; at the last it has 5 again and goes to its tail.
-fn take_tick(tables: &mut [u32], t: usize)
-    requires { ⌜ Shown (now tables) (Calling t (Unit {0})) ⌝ }
-    ensures { λ _. ⌜ Does (now (tables .entry)) (now (tables .exit)) (Calling t (Unit {0})) (tickFor (some t)) ⌝ }
+// The running thread u has a tick less; at the last it has 5 again and goes to its tail.
+fn take_tick(tables: &mut [u32], u: usize)
+    requires { ⌜ Shown (now tables) (Calling u (Unit {0})) ⌝ }
+    ensures { λ _. ⌜ Does (now (tables .entry)) (now (tables .exit)) (Calling u (Unit {0})) (tickFor (some u)) ⌝ }
 {
-    let left = store::ticks(tables, t);
+    let left = store::ticks(tables, u);
     if left == 1 {
-        store::set_ticks(tables, t, 5);
-        queues::stand_down(tables, t);
+        store::set_ticks(tables, u, 5);
+        queues::stand_down(tables, u);
         return;
     }
-    store::set_ticks(tables, t, left - 1);
+    store::set_ticks(tables, u, left - 1);
 }
 
 // The thread that runs, if one does, has a tick less.
@@ -170,7 +170,7 @@ pub fn yield_running(tables: &mut [u32], t: usize) -> Answer
     requires { ⌜ Shown (now tables) (Calling t (Unit {0})) ⌝ }
     ensures { λ r. ⌜ Performs (now (tables .entry)) (now (tables .exit)) r (Calling t (Unit {0})) (yield t) ⌝ }
 {
-    debts::drop_debt(tables, t);
+    debts::drop_debt(tables, t); // an accepted call of the owner drops it
     queues::stand_down(tables, t);
     accepted(tables)
 }
