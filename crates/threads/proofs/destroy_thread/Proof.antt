@@ -1,0 +1,55 @@
+-- An absent thread is refused; a present one drops its debt, leaves its place and goes.
+-- Assumes nothing.
+use borrow.Author.Needs.{needs}
+use Rattle.threads.proofs.Destroying.{destroy-refused, drop-asked, leave-asked}
+use Rattle.threads.proofs.Destroying.{clear-asked, destroy-chooses, destroyed}
+use Rattle.threads.proofs.destroy_thread.Statement.{statement}
+use Rattle.threads.proofs.destroy_thread.Tie as tie
+
+place-requires : tie.Need-place-requires
+place-requires c κs = search needs
+
+plain-requires : tie.Need-plain-requires
+plain-requires c κs = search needs
+
+same-length : tie.Need-same-length
+same-length c = search needs
+
+returns : tie.Need-returns
+returns c = search destroy-refused
+
+drop-debt-requires : tie.Need-drop-debt-requires
+drop-debt-requires c κs = search drop-asked
+
+leave-requires : tie.Need-leave-requires
+leave-requires c κs = search leave-asked
+
+clear-thread-requires : tie.Need-clear-thread-requires
+clear-thread-requires c κs =
+    let d = c .before .before .before .before .before .before .before in
+    clear-asked (d .before .before .before .place .ensures) (d .before .before .if1 .left) (d .drop-debt .ensures)
+    (c .before .before .before .leave .ensures) (d .before .before .before .before .before .before .pre)
+
+accepted-requires : tie.Need-accepted-requires
+accepted-requires c κs = search destroy-chooses
+
+same-length-2 : tie.Need-same-length-2
+same-length-2 c = search needs
+
+returns-2 : tie.Need-returns-2
+returns-2 c = search destroyed
+
+pub destroy-thread-spec : {M : Type 1} → statement M
+destroy-thread-spec =
+    tie.close
+    (tie.spec
+    place-requires
+    plain-requires
+    same-length
+    returns
+    drop-debt-requires
+    leave-requires
+    clear-thread-requires
+    accepted-requires
+    same-length-2
+    returns-2)

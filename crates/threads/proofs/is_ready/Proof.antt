@@ -1,0 +1,28 @@
+-- The place is looked at first, then who runs.
+-- Assumes nothing.
+use borrow.Author.Needs.{needs}
+use Rattle.threads.proofs.Places.{told-not-ready, told-ready}
+use Rattle.threads.proofs.is_ready.Statement.{statement}
+use Rattle.threads.proofs.is_ready.Tie as tie
+
+place-requires : tie.Need-place-requires
+place-requires c κs = search needs
+
+returns : tie.Need-returns
+returns c = search told-not-ready
+
+running-requires : tie.Need-running-requires
+running-requires c κs = search needs
+
+add-link : tie.Need-add-link
+add-link c = search needs
+
+cast-link : tie.Need-cast-link
+cast-link c = search needs
+
+returns-2 : tie.Need-returns-2
+returns-2 c = search told-ready
+
+pub is-ready-spec : {M : Type 1} → statement M
+is-ready-spec =
+    tie.close (tie.spec place-requires returns running-requires add-link cast-link returns-2)

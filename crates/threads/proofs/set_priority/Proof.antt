@@ -1,0 +1,66 @@
+-- An absent thread is refused, the same priority changes nothing, another is a change.
+-- Assumes nothing.
+use borrow.Author.Needs.{needs}
+use Rattle.threads.proofs.Prioritising.{priority-refused, same-asked, priority-same}
+use Rattle.threads.proofs.Prioritising.{change-asked, priority-chooses, priority-changed}
+use Rattle.threads.proofs.set_priority.Statement.{statement}
+use Rattle.threads.proofs.set_priority.Tie as tie
+
+place-requires : tie.Need-place-requires
+place-requires c κs = search needs
+
+plain-requires : tie.Need-plain-requires
+plain-requires c κs = search needs
+
+same-length : tie.Need-same-length
+same-length c = search needs
+
+returns : tie.Need-returns
+returns c = search priority-refused
+
+priority-requires : tie.Need-priority-requires
+priority-requires c κs = search needs
+
+accepted-requires : tie.Need-accepted-requires
+accepted-requires c κs =
+    same-asked (c .before .before .before .before .before .before .before .before .pre)
+
+same-length-2 : tie.Need-same-length-2
+same-length-2 c = search needs
+
+returns-2 : tie.Need-returns-2
+returns-2 c = search priority-same
+
+change-requires : tie.Need-change-requires
+change-requires c κs =
+    let d = c .before .before .before .before in
+    change-asked _ (d .before .place .ensures) (d .if1 .left) (d .before .before .before .before .pre)
+
+accepted-requires-2 : tie.Need-accepted-requires-2
+accepted-requires-2 c κs =
+    let d = c .before .before .before .before .before .before in
+    priority-chooses _ (d .before .before .before .place .ensures) (d .before .before .if1 .left) (d .priority .ensures)
+    (c .before .before .before .change .ensures) (d .before .before .before .before .before .before .pre)
+
+same-length-3 : tie.Need-same-length-3
+same-length-3 c = search needs
+
+returns-3 : tie.Need-returns-3
+returns-3 c = search priority-changed
+
+pub set-priority-spec : {M : Type 1} → statement M
+set-priority-spec =
+    tie.close
+    (tie.spec
+    place-requires
+    plain-requires
+    same-length
+    returns
+    priority-requires
+    accepted-requires
+    same-length-2
+    returns-2
+    change-requires
+    accepted-requires-2
+    same-length-3
+    returns-3)

@@ -1,0 +1,21 @@
+-- The tick is taken before the choice.
+-- Assumes nothing.
+use borrow.Author.Needs.{needs}
+use Rattle.threads.proofs.Ticking.{tick-chooses, ticked}
+use Rattle.threads.proofs.tick.Statement.{statement}
+use Rattle.threads.proofs.tick.Tie as tie
+
+tick-running-requires : tie.Need-tick-running-requires
+tick-running-requires c κs = search needs
+
+accepted-requires : tie.Need-accepted-requires
+accepted-requires c κs = search tick-chooses
+
+same-length : tie.Need-same-length
+same-length c = search needs
+
+returns : tie.Need-returns
+returns c = search ticked
+
+pub tick-spec : {M : Type 1} → statement M
+tick-spec = tie.close (tie.spec tick-running-requires accepted-requires same-length returns)

@@ -1,0 +1,26 @@
+-- The debt goes, the thread stands down, and somebody is chosen.
+-- Assumes nothing.
+use borrow.Author.Needs.{needs}
+use Rattle.threads.proofs.Ticking.{yield-asked, down-asked, yield-chooses, yielded}
+use Rattle.threads.proofs.yield_running.Statement.{statement}
+use Rattle.threads.proofs.yield_running.Tie as tie
+
+drop-debt-requires : tie.Need-drop-debt-requires
+drop-debt-requires c κs = search yield-asked
+
+stand-down-requires : tie.Need-stand-down-requires
+stand-down-requires c κs = search down-asked
+
+accepted-requires : tie.Need-accepted-requires
+accepted-requires c κs = search yield-chooses
+
+same-length : tie.Need-same-length
+same-length c = search needs
+
+returns : tie.Need-returns
+returns c = search yielded
+
+pub yield-running-spec : {M : Type 1} → statement M
+yield-running-spec =
+    tie.close
+    (tie.spec drop-debt-requires stand-down-requires accepted-requires same-length returns)

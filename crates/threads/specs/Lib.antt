@@ -1,0 +1,2 @@
+-- What the inner steps of the calls on threads ask and do.
+pub mod Threads
