@@ -9,9 +9,7 @@ use native.Mathlib.Omega.{arith}
 use lib.ListN.{length}
 use Rattle.machine.specs.State.{State}
 use Rattle.machine.specs.Endpoints.{underAbort, wakeFrom}
-use Rattle.machine.specs.Results.{Look}
 use Rattle.machine.specs.Aborts.{Looked, hits, lookAt, look, after, pendingAt, lookUpTo}
-use Rattle.machine.proofs.Mid.{Mid}
 use Rattle.machine.proofs.Looking.{mid-look}
 use Rattle.layout.specs.Words.{firstOf}
 use Rattle.layout.specs.Shows.{Shows}
@@ -89,7 +87,7 @@ some-left (w ∷ l) {r} k n =
 
 -- As many looks as the allowance lets.
 
-pub looks-zero : (e : ℕ) (s : State) → looked e 0 s ≡ record { state = s; looks = [] }
+looks-zero : (e : ℕ) (s : State) → looked e 0 s ≡ record { state = s; looks = [] }
 unfolding lookUpTo
 looks-zero e s = refl
 

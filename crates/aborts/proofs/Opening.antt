@@ -1,23 +1,22 @@
 -- The way into the work: the note, the status, the caller's other debts, and the abort that stands at the endpoint.
 -- Assumes nothing.
 use Prim.Native.Nat.{ℕ, _≤_, _<_, _^_}
-use mathlib.Core.Path.{_≡_, refl, sym, _∙_, ap, subst}
+use mathlib.Core.Path.{_≡_, refl, sym, _∙_, ap}
 use mathlib.Core.Bool.{Bool, true, false}
 use mathlib.Core.Option.{Option, none, some}
 use mathlib.Core.List.{List, []}
 use native.Mathlib.Omega.{arith}
-use lib.Dec.{eqb}
 use Rattle.machine.specs.declared.Answer.{Answer}
 use Rattle.machine.specs.State.{State, Debt, nothing, owns, noted, Abort, Status, missing, live, closing}
 use Rattle.machine.specs.Endpoints.{underAbort, ownerOf}
-use Rattle.machine.specs.Results.{Result, plain, accept, refuse}
+use Rattle.machine.specs.Results.{plain, accept}
 use Rattle.machine.specs.Aborts.{joinAs, join, workOwn, workOther, underBadge, abortFrom, ownsThis, dropUnless}
 use Rattle.machine.specs.Aborts.{dropOther, abortOpen, abortAt, hasNote, abortUnless, abort}
 use Rattle.machine.proofs.Lists.{clash}
-use Rattle.machine.proofs.Mid.{Mid, sound-mid}
+use Rattle.machine.proofs.Mid.{sound-mid}
 use Rattle.machine.proofs.Debts.{mid-forget, mid-dropDebt, dropDebt-drops}
 use Rattle.machine.proofs.Looking.{mid-join}
-use Rattle.machine.proofs.Aborting.{running-present, join-status, Owed, clear, mine, unowed, unowned, owns-this}
+use Rattle.machine.proofs.Aborting.{running-present, join-status, clear, mine, unowed, unowned, owns-this}
 use Rattle.layout.specs.Words.{statusCode, abortCode}
 use Rattle.layout.specs.Shows.{Shows}
 use Rattle.store.specs.Steps.{Shown, Does, Tells}
@@ -99,9 +98,6 @@ module _ {t e b : ℕ} {s : State} (W : Owing t e b s) where
           }
 
 module _ {m : List ℕ} {t e b : ℕ} where
-  pub owing-endpoint : Shown m (Owing t e b) → Shown m (IsEndpoint e)
-  owing-endpoint S = shown-for S (λ s W. W .opened .endpoint)
-
   module _ {r : ℕ} (T : Tells m (IsEndpoint e) r (abortingIn e)) (z : r ≡ 0) where
     bare-at : (s : State) → Shows m s → Owing t e b s → Bare t e s
     bare-at s M W =
@@ -225,9 +221,6 @@ Numbers e a b = (e ≤ 63) × (a ≤ 65535) × (b < 2 ^ 28)
 module _ {m : List ℕ} {t e a b : ℕ} where
   pub calls-asked : Shown m (Calling t (Numbers e a b)) → Shown m (Calls t e)
   calls-asked S = shown-for S (λ s C. running-calls (sound-mid (C .sound)) (C .runs) (C .numbers .0))
-
-  pub status-asked : Shown m (Calling t (Numbers e a b)) → Shown m (IsEndpoint e)
-  status-asked S = shown-for S (λ s C. C .numbers .0)
 
   pub note-asked : Shown m (Calling t (Numbers e a b)) → Shown m (IsThread t)
   note-asked S = shown-for S (λ s C. running-thread (sound-mid (C .sound)) (C .runs))

@@ -2,11 +2,11 @@
 -- Assumes nothing.
 use Prim.Native.Nat.{ℕ, zero, suc, _+_, _-_, _≤_, _<_, _^_}
 use mathlib.Core.Path.{_≡_, refl, sym, _∙_, ap, subst}
-use mathlib.Core.List.{List, [], _∷_, _++_}
+use mathlib.Core.List.{List, [], _++_}
 use native.Mathlib.Omega.{arith}
 use lib.ListN.{length, length-append}
 use Rattle.machine.specs.declared.Answer.{Answer}
-use Rattle.machine.specs.State.{State, Endpoint, nothing, live}
+use Rattle.machine.specs.State.{State, Endpoint, live}
 use Rattle.machine.specs.Endpoints.{dropDebt, endAbort}
 use Rattle.machine.specs.Results.{Result, Look, counted, accept}
 use Rattle.machine.specs.Aborts.{Looked, pendingAt, begin, ended, lookedOwn, workOwn, beginAfter, finished}
@@ -48,7 +48,7 @@ result-as {m} {a} k g = subst (λ (x : Result). Gives a m x) k g
 
 -- What the steps ask.
 
-pub open-within : {t e : ℕ} {s : State} → Open t e s → Within e s
+open-within : {t e : ℕ} {s : State} → Open t e s → Within e s
 open-within O = record { mid = O .mid; endpoint = O .endpoint }
 
 open-chooses : {t e : ℕ} {s : State} → Open t e s → Chooses s
@@ -57,9 +57,6 @@ open-chooses O = mid-chooses (O .mid)
 module _ {m : List ℕ} {t e : ℕ} where
   pub within-asked : Shown m (Open t e) → Shown m (Within e)
   within-asked S = shown-for S (λ s O. open-within O)
-
-  pub endpoint-open : Shown m (Open t e) → Shown m (IsEndpoint e)
-  endpoint-open S = shown-for S (λ s O. O .endpoint)
 
   pub chooses-asked : Shown m (Open t e) → Shown m Chooses
   chooses-asked S = shown-for S (λ s O. open-chooses O)

@@ -11,6 +11,9 @@ ghost use Rattle.aborts.specs.Aborts.{Cursor, Within, Open, Clear, Bare,
 ghost use Rattle.aborts.specs.Aborts.{Continues, ending, beginning, joining, unnoted};
 use machine::Answer;
 
+// The status of a live endpoint: one whose abort ends is live as before.
+const LIVE: u32 = 1;
+
 // A code and a count of looks.
 fn counted(code: u32, count: u32) -> Answer
     ensures { λ r. ⌜ r ≡ counted code count ⌝ }
@@ -65,7 +68,7 @@ fn end_own(tables: &mut [u32], t: usize, e: usize, count: u32) -> Answer
         return results::accept(tables, counted(2, count));
     }
     debts::drop_debt(tables, t);
-    debts::end_abort(tables, e, 1);
+    debts::end_abort(tables, e, LIVE);
     results::accept(tables, counted(0, count))
 }
 
@@ -122,12 +125,13 @@ fn work_other(tables: &mut [u32], t: usize, e: usize, allowance: u32, badge: u32
         (workOther t e allowance badge) ⌝ }
 {
     let n = look_up_to(tables, e, allowance);
-    let cursor = store::cursor(tables, e);
-    if cursor != 0 {
+    let pending = store::cursor(tables, e);
+    if pending != 0 {
         return results::accept(tables, counted(2, n));
     }
-    debts::end_abort(tables, e, 1);
-    begin_after(tables, t, e, allowance - n, badge, n)
+    debts::end_abort(tables, e, LIVE);
+    let rest = allowance - n;
+    begin_after(tables, t, e, rest, badge, n)
 }
 
 // The abort that stands at endpoint e is joined, and works.

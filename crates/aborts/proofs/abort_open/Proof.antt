@@ -37,7 +37,7 @@ join-own-requires c κs =
     let at-if2 = c .before in
     let at-under-abort = at-if2 .before in
     let at-start = at-under-abort .before .before .before .before .before .before in
-    (joining-shown (at-under-abort .under-abort .ensures) (at-if2 .if2 .taken) (at-start .pre .0), at-start .pre .1)
+    (joining-shown (at-under-abort .under-abort .ensures) (at-if2 .if2 .taken) (at-start .pre .0), search needs)
 
 same-length-2 : tie.Need-same-length-2
 same-length-2 c = search needs

@@ -42,7 +42,13 @@ loop-less : tie.Need-loop-less Inv-loop μ-loop
 loop-less c = search needs
 
 loop-again : tie.Need-loop-again Inv-loop μ-loop
-loop-again c = search looks-again
+loop-again c =
+    let at-look = c .before .before in
+    let at-if1 = at-look .before .before in
+    let at-cursor = at-if1 .before in
+    let at-loop = at-cursor .before .before .before in
+    looks-again (at-loop .loop .inv) (at-cursor .cursor .ensures) (at-if1 .if1 .left) (search needs)
+    (at-look .look .ensures)
 
 same-length-2 : tie.Need-same-length-2 Inv-loop μ-loop
 same-length-2 c = search needs

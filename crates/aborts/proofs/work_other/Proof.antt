@@ -43,9 +43,9 @@ end-abort-requires c κs =
     let at-start = at-look-up-to .before .before .before in
     other-endable (looked-clear (at-look-up-to .look-up-to .ensures) (at-start .pre .0))
 
-sub-begin-after : tie.Need-sub-begin-after
-sub-begin-after c =
-    let at-look-up-to = c .before .before .before .before .before .before .before .before .before .before in
+sub-rest : tie.Need-sub-rest
+sub-rest c =
+    let at-look-up-to = c .before .before .before .before .before .before .before .before .before in
     let at-start = at-look-up-to .before .before .before in
     looks-bound (at-look-up-to .look-up-to .ensures) (clear-within (at-start .pre .0))
 
@@ -84,7 +84,7 @@ work-other-spec =
     same-length
     returns
     end-abort-requires
-    sub-begin-after
+    sub-rest
     begin-after-requires
     same-length-2
     returns-2)
