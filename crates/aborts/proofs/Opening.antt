@@ -1,0 +1,327 @@
+-- The way into the work: the note, the status, the caller's other debts, and the abort that stands at the endpoint.
+-- Assumes nothing.
+use Prim.Native.Nat.{ℕ, _≤_, _<_, _^_}
+use mathlib.Core.Path.{_≡_, refl, sym, _∙_, ap}
+use mathlib.Core.Bool.{Bool, true, false}
+use mathlib.Core.Option.{Option, none, some}
+use mathlib.Core.List.{List, []}
+use native.Mathlib.Omega.{arith}
+use Rattle.machine.specs.declared.Answer.{Answer}
+use Rattle.machine.specs.State.{State, Debt, nothing, owns, noted, Abort, Status, missing, live, closing}
+use Rattle.machine.specs.Endpoints.{underAbort, ownerOf}
+use Rattle.machine.specs.Results.{plain, accept}
+use Rattle.machine.specs.Aborts.{joinAs, join, workOwn, workOther, underBadge, abortFrom, ownsThis, dropUnless}
+use Rattle.machine.specs.Aborts.{dropOther, abortOpen, abortAt, hasNote, abortUnless, abort}
+use Rattle.machine.proofs.Lists.{clash}
+use Rattle.machine.proofs.Mid.{sound-mid}
+use Rattle.machine.proofs.Debts.{mid-forget, mid-dropDebt, dropDebt-drops}
+use Rattle.machine.proofs.Looking.{mid-join}
+use Rattle.machine.proofs.Aborting.{running-present, join-status, clear, mine, unowed, unowned, owns-this}
+use Rattle.layout.specs.Words.{statusCode, abortCode}
+use Rattle.layout.specs.Shows.{Shows}
+use Rattle.store.specs.Steps.{Shown, Does, Tells}
+use Rattle.store.specs.Store.{IsThread, IsEndpoint, owing, Owes}
+use Rattle.store.specs.Readings.{statusIn, abortingIn}
+use Rattle.queues.specs.Queues.{Chooses}
+use Rattle.debts.specs.Debts.{Says, Calls, Joins, underIn, notedIn}
+use Rattle.results.specs.Results.{Calling, Performs, Accepts}
+use Rattle.results.proofs.Ends.{refused, performs-as, performs-for, performs-after, does-for, shown-for}
+use Rattle.results.proofs.Conditions.{mid-chooses, running-thread, running-calls, running-joins}
+use Rattle.aborts.specs.Aborts.{Open, Clear, Bare, Owing, Joining, Continues, beginning, joining, unnoted}
+
+-- Joining.
+
+joining-joins : {t e : ℕ} {s : State} → Joining t e s → Joins t e s
+joining-joins J = running-joins (J .opened .mid) (J .opened .runs) (J .stands)
+
+join-runs : (t e : ℕ) (s : State) → join t e s .runs ≡ s .runs
+unfolding join joinAs
+join-runs t e s = go (ownerOf (s .endpoints e .abort))
+  where
+    go : (o : Option ℕ) → joinAs o t e s .runs ≡ s .runs
+    go none = refl
+    go (some u) = refl
+
+joined-open : {t e : ℕ} {s : State} → Joining t e s → Open t e (join t e s)
+joined-open {t} {e} {s} J =
+    let O = J .opened in
+    record {
+      mid = mid-join t e s (J .abort) (J .stands) (O .mid) (running-present (O .mid) (O .runs)) (J .may-own);
+      endpoint = O .endpoint;
+      runs = join-runs t e s ∙ O .runs;
+      status = join-status t e s ∙ O .status;
+    }
+
+module _ {m : List ℕ} {t e : ℕ} where
+  pub joins-asked : Shown m (Joining t e) → Shown m (Joins t e)
+  joins-asked S = shown-for S (λ s J. joining-joins J)
+
+  module _ {n : List ℕ} (D : Does m n (Joins t e) (join t e)) where
+    pub joined-asked : Shown m (Joining t e) → Shown n (Open t e)
+    joined-asked S =
+        record {
+          state = join t e (S .state);
+          shows = D .shows (S .state) (S .shows) (joining-joins (S .holds));
+          holds = joined-open (S .holds);
+        }
+
+    pub own-joins :
+        {o : List ℕ} {r : Answer} (a : ℕ) → Continues n 0 r (Open t e) (workOwn t e a) o
+        → Performs m o r (Joining t e) (joining t e a)
+    own-joins a C =
+        performs-after (does-for D (λ s J. joining-joins J)) (λ s M J. joined-open J) (C .performs [] refl)
+
+-- By the abort that stands: none, one of this badge, or one of another.
+
+no-abort : (k : Option Abort) {r : ℕ} → r ≡ abortCode k → r ≡ 0 → k ≡ none
+no-abort none i z = refl
+no-abort (some a) i z = absurd (omega arith)
+
+module _ {t e b : ℕ} {s : State} (W : Owing t e b s) where
+  owing-clear : underAbort b (s .endpoints e .abort) ≡ false → Clear t e s
+  owing-clear u = record { opened = W .opened; debt = unowed (W .owed) u }
+
+  owing-bare : s .endpoints e .abort ≡ none → Bare t e s
+  owing-bare k = record { clear = owing-clear (ap (underAbort b) k); abort = k }
+
+  owing-joins : underAbort b (s .endpoints e .abort) ≡ true → Joining t e s
+  owing-joins u = go (s .endpoints e .abort) refl
+    where
+      go : (k : Option Abort) → s .endpoints e .abort ≡ k → Joining t e s
+      go none h = absurd (clash u (ap (underAbort b) h))
+      go (some a) h =
+          record {
+            opened = W .opened;
+            abort = a;
+            stands = h;
+            may-own = λ o. unowned (W .opened .mid) (W .owed) (ap ownerOf h ∙ o);
+          }
+
+module _ {m : List ℕ} {t e b : ℕ} where
+  module _ {r : ℕ} (T : Tells m (IsEndpoint e) r (abortingIn e)) (z : r ≡ 0) where
+    bare-at : (s : State) → Shows m s → Owing t e b s → Bare t e s
+    bare-at s M W =
+        owing-bare W (no-abort (s .endpoints e .abort) (T .tells s M (W .opened .endpoint)) z)
+
+    pub bare-shown : Shown m (Owing t e b) → Shown m (Bare t e)
+    bare-shown S =
+        record { state = S .state; shows = S .shows; holds = bare-at (S .state) (S .shows) (S .holds) }
+
+    pub opens-none :
+        {n : List ℕ} {x : Answer} (a : ℕ) → Continues m 0 x (Bare t e) (beginning t e b a) n
+        → Performs m n x (Owing t e b) (abortOpen t e a b)
+    unfolding abortOpen abortFrom
+    opens-none a C =
+        performs-as (performs-for (C .performs [] refl) bare-at)
+        (λ s M W.
+        ap (λ (k : Option Abort). abortFrom k t e a b s) (sym (bare-at s M W .abort)))
+
+  module _ {u : Bool} (U : Says m (IsEndpoint e) u (underIn e b)) where
+    module _ (z : u ≡ true) where
+      same-badge : (s : State) → Shows m s → Owing t e b s → underAbort b (s .endpoints e .abort) ≡ true
+      same-badge s M W = sym (U .says s M (W .opened .endpoint)) ∙ z
+
+      pub joining-shown : Shown m (Owing t e b) → Shown m (Joining t e)
+      joining-shown S =
+          record {
+            state = S .state;
+            shows = S .shows;
+            holds = owing-joins (S .holds) (same-badge (S .state) (S .shows) (S .holds));
+          }
+
+      pub opens-same :
+          {n : List ℕ} {x : Answer} (a : ℕ) → Performs m n x (Joining t e) (joining t e a)
+          → Performs m n x (Owing t e b) (abortOpen t e a b)
+      unfolding abortOpen abortFrom underBadge
+      opens-same a F =
+          performs-as (performs-for F (λ s M W. owing-joins W (same-badge s M W)))
+          (λ s M W. go s (same-badge s M W))
+        where
+          go : (s : State) → underAbort b (s .endpoints e .abort) ≡ true → joining t e a s ≡ abortOpen t e a b s
+          go s h = case (s .endpoints e .abort) refl h
+            where
+              case : (k : Option Abort) → s .endpoints e .abort ≡ k → underAbort b k ≡ true
+                  → joining t e a s ≡ abortFrom k t e a b s
+              case none i h = absurd (clash h refl)
+              case (some x) i h = ap (λ (q : Bool). underBadge q t e a b s) (sym h)
+
+    module _ (z : u ≡ false) where
+      other-badge : (s : State) → Shows m s → Owing t e b s → underAbort b (s .endpoints e .abort) ≡ false
+      other-badge s M W = sym (U .says s M (W .opened .endpoint)) ∙ z
+
+      pub clear-shown : Shown m (Owing t e b) → Shown m (Clear t e)
+      clear-shown S =
+          record {
+            state = S .state;
+            shows = S .shows;
+            holds = owing-clear (S .holds) (other-badge (S .state) (S .shows) (S .holds));
+          }
+
+      pub opens-other :
+          {n : List ℕ} {x : Answer} {r : ℕ} (a : ℕ) → Tells m (IsEndpoint e) r (abortingIn e) → (r ≡ 0 → ⊥)
+          → Performs m n x (Clear t e) (workOther t e a b) → Performs m n x (Owing t e b) (abortOpen t e a b)
+      unfolding abortOpen abortFrom underBadge
+      opens-other {r = r} a T n F =
+          performs-as (performs-for F (λ s M W. owing-clear W (other-badge s M W)))
+          (λ s M W. go s (T .tells s M (W .opened .endpoint)) (other-badge s M W))
+        where
+          go : (s : State) → r ≡ abortingIn e s → underAbort b (s .endpoints e .abort) ≡ false
+              → workOther t e a b s ≡ abortOpen t e a b s
+          go s i h = case (s .endpoints e .abort) i h
+            where
+              case : (k : Option Abort) → r ≡ abortCode k → underAbort b k ≡ false
+                  → workOther t e a b s ≡ abortFrom k t e a b s
+              case none i h = absurd (n i)
+              case (some x) i h = ap (λ (q : Bool). underBadge q t e a b s) (sym h)
+
+-- The caller's other debts go.
+
+other-dropped : {t e b : ℕ} {s : State} → Open t e s → Owing t e b (dropOther t e b s)
+unfolding dropOther dropUnless
+other-dropped {t} {e} {b} {s} O = go (ownsThis (s .endpoints e .abort) e b (s .threads t .debt)) refl
+  where
+    go : (q : Bool) → ownsThis (s .endpoints e .abort) e b (s .threads t .debt) ≡ q → Owing t e b (dropUnless q t s)
+    go true q =
+        let r = owns-this (s .endpoints e .abort) e b (s .threads t .debt) q in
+        record { opened = O; owed = mine (r .0) (r .1) }
+    go false q =
+        let D = dropDebt-drops s t in
+        record {
+          opened =
+              record {
+                mid = mid-dropDebt s t (O .mid);
+                endpoint = O .endpoint;
+                runs = D .keeps .runs ∙ O .runs;
+                status = D .status e ∙ O .status;
+              };
+          owed = clear (D .debt);
+        }
+
+-- By the endpoint's status.
+
+is-missing : (x : Status) {r : ℕ} → r ≡ statusCode x → r ≡ 0 → x ≡ missing
+is-missing missing k z = refl
+is-missing live k z = absurd (omega arith)
+is-missing closing k z = absurd (omega arith)
+
+is-closing : (x : Status) {r : ℕ} → r ≡ statusCode x → r ≡ 2 → x ≡ closing
+is-closing missing k z = absurd (omega arith)
+is-closing live k z = absurd (omega arith)
+is-closing closing k z = refl
+
+is-live : (x : Status) {r : ℕ} → r ≡ statusCode x → (r ≡ 0 → ⊥) → (r ≡ 2 → ⊥) → x ≡ live
+is-live missing k n i = absurd (n k)
+is-live live k n i = refl
+is-live closing k n i = absurd (i k)
+
+-- What the call asks of its numbers.
+abbrev Numbers : ℕ → ℕ → ℕ → Type 0
+Numbers e a b = (e ≤ 63) × (a ≤ 65535) × (b < 2 ^ 28)
+
+module _ {m : List ℕ} {t e a b : ℕ} where
+  pub calls-asked : Shown m (Calling t (Numbers e a b)) → Shown m (Calls t e)
+  calls-asked S = shown-for S (λ s C. running-calls (sound-mid (C .sound)) (C .runs) (C .numbers .0))
+
+  pub note-asked : Shown m (Calling t (Numbers e a b)) → Shown m (IsThread t)
+  note-asked S = shown-for S (λ s C. running-thread (sound-mid (C .sound)) (C .runs))
+
+  module _ {r : ℕ} (T : Tells m (IsEndpoint e) r (statusIn e)) where
+    pub refused-missing :
+        {x : Answer} → r ≡ 0 → x ≡ plain 23 → Performs m m x (Calling t (Numbers e a b)) (unnoted t e a b)
+    unfolding abortAt
+    refused-missing z k =
+        performs-as (refused 23 k)
+        (λ s M C.
+        let h = is-missing (s .endpoints e .status) (T .tells s M (C .numbers .0)) z in
+        ap (λ (x : Status). abortAt x t e a b s) (sym h))
+
+    pub refused-closing :
+        {x : Answer} → r ≡ 2 → x ≡ plain 25 → Performs m m x (Calling t (Numbers e a b)) (unnoted t e a b)
+    unfolding abortAt
+    refused-closing z k =
+        performs-as (refused 25 k)
+        (λ s M C.
+        let h = is-closing (s .endpoints e .status) (T .tells s M (C .numbers .0)) z in
+        ap (λ (x : Status). abortAt x t e a b s) (sym h))
+
+    module _ (n : r ≡ 0 → ⊥) (i : r ≡ 2 → ⊥) where
+      live-at : (s : State) → Shows m s → Calling t (Numbers e a b) s → s .endpoints e .status ≡ live
+      live-at s M C = is-live (s .endpoints e .status) (T .tells s M (C .numbers .0)) n i
+
+      open-at : (s : State) → Shows m s → Calling t (Numbers e a b) s → Open t e s
+      open-at s M C =
+          record {
+            mid = sound-mid (C .sound);
+            endpoint = C .numbers .0;
+            runs = C .runs;
+            status = live-at s M C;
+          }
+
+      module _ {o : List ℕ} (D : Does m o (Calls t e) (dropOther t e b)) where
+        pub owing-asked : Shown m (Calling t (Numbers e a b)) → Shown o (Owing t e b)
+        owing-asked S =
+            let C = S .holds in
+            record {
+              state = dropOther t e b (S .state);
+              shows = D .shows (S .state) (S .shows) (running-calls (sound-mid (C .sound)) (C .runs) (C .numbers .0));
+              holds = other-dropped (open-at (S .state) (S .shows) C);
+            }
+
+        pub opened :
+            {q : List ℕ} {x : Answer} → Performs o q x (Owing t e b) (abortOpen t e a b)
+            → Performs m q x (Calling t (Numbers e a b)) (unnoted t e a b)
+        unfolding abortAt
+        opened F =
+            performs-as
+            (performs-after
+            (does-for D (λ s C. running-calls (sound-mid (C .sound)) (C .runs) (C .numbers .0)))
+            (λ s M C. other-dropped (open-at s M C)) F)
+            (λ s M C. ap (λ (x : Status). abortAt x t e a b s) (sym (live-at s M C)))
+
+-- The note.
+
+has-note : (e b : ℕ) (d : Debt) → hasNote e b d ≡ true → (f : ℕ) × (c : ℕ) × (d ≡ noted f c)
+has-note e b nothing h = absurd (clash h refl)
+has-note e b (owns f) h = absurd (clash h refl)
+has-note e b (noted f c) h = (f, c, refl)
+
+forgets : {m n : List ℕ} {t : ℕ} → Owes m t 0 0 n → Does m n (IsThread t) (owing t nothing)
+forgets O = O .does nothing refl refl
+
+module _ {m : List ℕ} {t e a b : ℕ} {u : Bool} (U : Says m (Calls t e) u (notedIn t e b)) where
+  says-note : (s : State) → Shows m s → Calling t (Numbers e a b) s → u ≡ notedIn t e b s
+  says-note s M C = U .says s M (running-calls (sound-mid (C .sound)) (C .runs) (C .numbers .0))
+
+  module _ (z : u ≡ true) {n : List ℕ} (O : Owes m t 0 0 n) where
+    forgotten : (s : State) → Shows m s → Calling t (Numbers e a b) s → Chooses (owing t nothing s)
+    forgotten s M C =
+        let h = has-note e b (s .threads t .debt) (sym (says-note s M C) ∙ z) in
+        mid-chooses (mid-forget t (sound-mid (C .sound)) (h .0) (h .1) (h .2))
+
+    pub forgotten-asked : Shown m (Calling t (Numbers e a b)) → Shown n Chooses
+    forgotten-asked S =
+        let C = S .holds in
+        record {
+          state = owing t nothing (S .state);
+          shows = forgets O .shows (S .state) (S .shows) (running-thread (sound-mid (C .sound)) (C .runs));
+          holds = forgotten (S .state) (S .shows) C;
+        }
+
+    pub noted-answered :
+        {o : List ℕ} {x y : Answer} → x ≡ plain 0 → Accepts n x y Chooses o
+        → Performs m o y (Calling t (Numbers e a b)) (abort t e a b)
+    unfolding abort abortUnless
+    noted-answered {x = x} k A =
+        performs-as
+        (performs-after
+        (does-for (forgets O) (λ s C. running-thread (sound-mid (C .sound)) (C .runs))) forgotten (A .performs []))
+        (λ s M C.
+        ap (λ (v : Answer). accept v [] (owing t nothing s)) k
+        ∙ ap (λ (q : Bool). abortUnless q t e a b s) (sym z ∙ says-note s M C))
+
+  pub not-noted :
+      {o : List ℕ} {x : Answer} → u ≡ false → Performs m o x (Calling t (Numbers e a b)) (unnoted t e a b)
+      → Performs m o x (Calling t (Numbers e a b)) (abort t e a b)
+  unfolding abort abortUnless
+  not-noted z F =
+      performs-as F (λ s M C. ap (λ (q : Bool). abortUnless q t e a b s) (sym z ∙ says-note s M C))

@@ -1,0 +1,366 @@
+-- An abort's work in one call: the call's own after its earlier looks, and another badge's that is finished first.
+-- Assumes nothing.
+use Prim.Native.Nat.{ℕ, zero, suc, _+_, _-_, _≤_, _<_, _^_}
+use mathlib.Core.Path.{_≡_, refl, sym, _∙_, ap, subst}
+use mathlib.Core.List.{List, [], _++_}
+use native.Mathlib.Omega.{arith}
+use lib.ListN.{length, length-append}
+use Rattle.machine.specs.declared.Answer.{Answer}
+use Rattle.machine.specs.State.{State, Endpoint, live}
+use Rattle.machine.specs.Endpoints.{dropDebt, endAbort}
+use Rattle.machine.specs.Results.{Result, Look, counted, accept}
+use Rattle.machine.specs.Aborts.{Looked, pendingAt, begin, ended, lookedOwn, workOwn, beginAfter, finished}
+use Rattle.machine.specs.Aborts.{lookedOther, workOther}
+use Rattle.machine.proofs.Mid.{Mid}
+use Rattle.machine.proofs.Debts.{nothing-owns, live-present, mid-dropDebt, dropDebt-drops, mid-endAbort, endAbort-entry}
+use Rattle.machine.proofs.Debts.{endAbort-runs, endAbort-debt}
+use Rattle.machine.proofs.Looking.{mid-begin, mid-lookUpTo, steady-lookUpTo}
+use Rattle.machine.proofs.Aborting.{running-present, begin-status}
+use Rattle.layout.specs.Shows.{Shows}
+use Rattle.store.specs.Steps.{Shown, Does, Tells}
+use Rattle.store.specs.Store.{IsEndpoint}
+use Rattle.store.specs.Readings.{cursorIn}
+use Rattle.queues.specs.Queues.{Chooses}
+use Rattle.debts.specs.Debts.{Debtor, Endable, Ends, Begins}
+use Rattle.results.specs.Results.{Performs, Accepts}
+use Rattle.results.proofs.Ends.{performs-as, performs-for, performs-after, does-for, shown-for}
+use Rattle.results.proofs.Conditions.{mid-chooses, running-debtor, mid-endable, running-begins}
+use Rattle.aborts.specs.Aborts.{Within, Open, Clear, Bare, looked, Looks, Continues, ending, beginning}
+use Rattle.aborts.proofs.Looks.{nothing-left, Begun, some-left, looks-few}
+
+-- A call's result for one state: the answer is its, and the memory shows its state.
+
+abbrev Gives : Answer → List ℕ → Result → Type 0
+Gives a m r = (a ≡ r .answer) × Shows m (r .state)
+
+performs-each :
+    {m n : List ℕ} {a : Answer} {P : State → Type 0} {f : State → Result}
+    → ((s : State) → Shows m s → P s → Gives a n (f s)) → Performs m n a P f
+performs-each g = record { answers = λ s M h. g s M h .0; shows = λ s M h. g s M h .1 }
+
+at-state :
+    {m n : List ℕ} {a : Answer} {P : State → Type 0} {f : State → Result} {s : State} → Performs m n a P f
+    → Shows m s → P s → Gives a n (f s)
+at-state {s = s} F M h = (F .answers s M h, F .shows s M h)
+
+result-as : {m : List ℕ} {a : Answer} {r r′ : Result} → r ≡ r′ → Gives a m r → Gives a m r′
+result-as {m} {a} k g = subst (λ (x : Result). Gives a m x) k g
+
+-- What the steps ask.
+
+open-within : {t e : ℕ} {s : State} → Open t e s → Within e s
+open-within O = record { mid = O .mid; endpoint = O .endpoint }
+
+open-chooses : {t e : ℕ} {s : State} → Open t e s → Chooses s
+open-chooses O = mid-chooses (O .mid)
+
+module _ {m : List ℕ} {t e : ℕ} where
+  pub within-asked : Shown m (Open t e) → Shown m (Within e)
+  within-asked S = shown-for S (λ s O. open-within O)
+
+  pub chooses-asked : Shown m (Open t e) → Shown m Chooses
+  chooses-asked S = shown-for S (λ s O. open-chooses O)
+
+  pub debtor-asked : Shown m (Open t e) → Shown m (Debtor t)
+  debtor-asked S = shown-for S (λ s O. running-debtor (O .mid) (O .runs))
+
+-- The end of an abort.
+
+abbrev endedOwn : ℕ → ℕ → State → State
+endedOwn t e s = endAbort live e (dropDebt t s)
+
+module _ {t e : ℕ} {s : State} (O : Open t e s) where
+  dropped-mid : Mid (dropDebt t s)
+  dropped-mid = mid-dropDebt s t (O .mid)
+
+  ended-mid : Mid (endedOwn t e s)
+  ended-mid =
+      mid-endAbort live e (dropDebt t s) (live-present refl)
+      (live-present (dropDebt-drops s t .status e ∙ O .status)) dropped-mid
+
+module _ {m n : List ℕ} {t e : ℕ} (D : Does m n (Debtor t) (dropDebt t)) where
+  pub endable-asked : Shown m (Open t e) → Shown n (Endable e)
+  endable-asked S =
+      let O = S .holds in
+      record {
+        state = dropDebt t (S .state);
+        shows = D .shows (S .state) (S .shows) (running-debtor (O .mid) (O .runs));
+        holds = mid-endable (dropped-mid O) (O .endpoint);
+      }
+
+  module _ {o : List ℕ} (E : Ends n e 1 o) where
+    ends-own : Does m o (Open t e) (endedOwn t e)
+    ends-own =
+        record {
+          shows = λ s M O.
+              E .does live refl .shows (dropDebt t s) (D .shows s M (running-debtor (O .mid) (O .runs)))
+              (mid-endable (dropped-mid O) (O .endpoint));
+        }
+
+    pub ended-asked : Shown m (Open t e) → Shown o Chooses
+    ended-asked S =
+        let O = S .holds in
+        record {
+          state = endedOwn t e (S .state);
+          shows = ends-own .shows (S .state) (S .shows) O;
+          holds = mid-chooses (ended-mid O);
+        }
+
+-- The call's own abort, with nothing or something left.
+module _ {m : List ℕ} {e r : ℕ} (T : Tells m (IsEndpoint e) r (cursorIn e)) where
+  pub own-broken :
+      {n : List ℕ} {t k : ℕ} {a b : Answer} → (r ≡ 0 → ⊥) → a ≡ counted 2 k → Accepts m a b Chooses n
+      → Continues m k b (Open t e) (ending t e) n
+  unfolding ended
+  own-broken {n} {t} {k} {a} z i A =
+      record {
+        performs = λ looks j.
+            performs-as (performs-for (A .performs looks) (λ s M O. open-chooses O))
+            (λ s M O. go looks j s (some-left (pendingAt e s) (T .tells s M (O .endpoint)) z));
+      }
+    where
+      go : (looks : List Look) → length looks ≡ k → (s : State) → Begun r (pendingAt e s)
+          → accept a looks s ≡ ending t e looks s
+      go looks j s B =
+          ap (λ (x : Answer). accept x looks s) (i ∙ ap (counted 2) (sym j))
+          ∙ ap (λ (l : List ℕ). ended l t e looks s) (sym (B .whole))
+
+  pub own-ended :
+      {n o q : List ℕ} {t k : ℕ} {a b : Answer} → r ≡ 0 → Does m n (Debtor t) (dropDebt t) → Ends n e 1 o
+      → a ≡ counted 0 k → Accepts o a b Chooses q → Continues m k b (Open t e) (ending t e) q
+  unfolding ended
+  own-ended {n} {o} {q} {t} {k} {a} z D E i A =
+      record {
+        performs = λ looks j.
+            performs-as
+            (performs-after (ends-own D E) (λ s M O. mid-chooses (ended-mid O)) (A .performs looks))
+            (λ s M O. go looks j s (nothing-left (pendingAt e s) (T .tells s M (O .endpoint)) z));
+      }
+    where
+      go : (looks : List Look) → length looks ≡ k → (s : State) → pendingAt e s ≡ []
+          → accept a looks (endedOwn t e s) ≡ ending t e looks s
+      go looks j s p =
+          ap (λ (x : Answer). accept x looks (endedOwn t e s)) (i ∙ ap (counted 0) (sym j))
+          ∙ ap (λ (l : List ℕ). ended l t e looks s) (sym p)
+
+-- The looks leave who runs, the status and every debt.
+
+open-looked : {t e : ℕ} {s : State} (a : ℕ) → Open t e s → Open t e (looked e a s .state)
+open-looked {t} {e} {s} a O =
+    let F = steady-lookUpTo a (pendingAt e s) e s in
+    record {
+      mid = mid-lookUpTo a e s (O .mid);
+      endpoint = O .endpoint;
+      runs = F .runs ∙ O .runs;
+      status = F .entry e .status ∙ O .status;
+    }
+
+module _ {m n : List ℕ} {e a k : ℕ} (L : Looks m e a k n) where
+  pub looks-bound : Shown m (Within e) → k ≤ a
+  looks-bound S =
+      let s = S .state in
+      omega (arith, L .counts s (S .shows) (S .holds), looks-few a (pendingAt e s) e s)
+
+  pub rest-small : Shown m (Within e) → a ≤ 65535 → k + (a - k) ≤ 65535
+  rest-small S h = omega (arith, looks-bound S)
+
+  pub looked-asked : {t : ℕ} → Shown m (Open t e) → Shown n (Open t e)
+  looked-asked S =
+      record {
+        state = looked e a (S .state) .state;
+        shows = L .shows (S .state) (S .shows) (open-within (S .holds));
+        holds = open-looked a (S .holds);
+      }
+
+  pub own-works :
+      {o : List ℕ} {t earlier : ℕ} {r : Answer} → Continues n (earlier + k) r (Open t e) (ending t e) o
+      → Continues m earlier r (Open t e) (workOwn t e a) o
+  unfolding workOwn lookedOwn
+  own-works {o} {t} {earlier} {r} C =
+      record {
+        performs = λ looks j.
+            performs-each
+            (λ s M O.
+            at-state (rest looks j s M O) (L .shows s M (open-within O)) (open-looked a O));
+      }
+    where
+      rest : (looks : List Look) → length looks ≡ earlier → (s : State) → Shows m s → Open t e s
+          → Performs n o r (Open t e) (ending t e (looks ++ looked e a s .looks))
+      rest looks j s M O =
+          let i = L .counts s M (open-within O) in
+          C .performs (looks ++ looked e a s .looks)
+          (let g : length (looks ++ looked e a s .looks) ≡ earlier + k =
+          omega (arith, length-append looks (looked e a s .looks)) in g)
+
+-- The call's own abort begins.
+
+bare-begins : {t e : ℕ} {s : State} → Bare t e s → Begins t e s
+bare-begins B = let O = B .clear .opened in running-begins (O .mid) (O .runs) (O .endpoint)
+
+begun-open : {t e b : ℕ} {s : State} → b < 2 ^ 28 → Bare t e s → Open t e (begin t e b s)
+unfolding begin
+begun-open {t} {e} {b} {s} h B =
+    let O = B .clear .opened in
+    record {
+      mid =
+          mid-begin t e b s (O .mid) (running-present (O .mid) (O .runs)) (B .clear .debt) (O .status) (B .abort) h;
+      endpoint = O .endpoint;
+      runs = O .runs;
+      status = begin-status t e b s ∙ O .status;
+    }
+
+module _ {m : List ℕ} {t e : ℕ} where
+  pub begins-asked : Shown m (Bare t e) → Shown m (Begins t e)
+  begins-asked S = shown-for S (λ s B. bare-begins B)
+
+  pub bare-chooses : Shown m (Bare t e) → Shown m Chooses
+  bare-chooses S = shown-for S (λ s B. open-chooses (B .clear .opened))
+
+  module _ {n : List ℕ} {b : ℕ} (D : Does m n (Begins t e) (begin t e b)) (h : b < 2 ^ 28) where
+    pub begun-asked : Shown m (Bare t e) → Shown n (Open t e)
+    begun-asked S =
+        record {
+          state = begin t e b (S .state);
+          shows = D .shows (S .state) (S .shows) (bare-begins (S .holds));
+          holds = begun-open h (S .holds);
+        }
+
+    pub own-begins :
+        {o : List ℕ} {k : ℕ} {r : Answer} (a : ℕ) → Continues n k r (Open t e) (workOwn t e a) o
+        → Continues m k r (Bare t e) (beginning t e b a) o
+    own-begins a C =
+        record {
+          performs = λ looks j.
+              performs-after (does-for D (λ s B. bare-begins B)) (λ s M B. begun-open h B) (C .performs looks j);
+        }
+
+-- After another badge's abort.
+module _ {m n : List ℕ} {t e k : ℕ} (b : ℕ) where
+  pub after-broken :
+      {left : ℕ} {a r : Answer} → left ≡ 0 → a ≡ counted 2 k → Accepts m a r Chooses n
+      → Continues m k r (Bare t e) (beginAfter left t e b) n
+  unfolding beginAfter
+  after-broken {left} {a} z i A =
+      record {
+        performs = λ looks j.
+            performs-as (performs-for (A .performs looks) (λ s M B. open-chooses (B .clear .opened)))
+            (λ s M B.
+            ap (λ (x : Answer). accept x looks s) (i ∙ ap (counted 2) (sym j))
+            ∙ ap (λ (x : ℕ). beginAfter x t e b looks s) (sym z));
+      }
+
+  pub after-begins :
+      {r : Answer} (left : ℕ) → (left ≡ 0 → ⊥) → Continues m k r (Bare t e) (beginning t e b left) n
+      → Continues m k r (Bare t e) (beginAfter left t e b) n
+  unfolding beginAfter
+  after-begins zero z C = absurd (z refl)
+  after-begins (suc left) z C = record { performs = λ looks j. C .performs looks j }
+
+-- Another badge's abort: the caller has no debt, and keeps none.
+
+clear-looked : {t e : ℕ} {s : State} (a : ℕ) → Clear t e s → Clear t e (looked e a s .state)
+clear-looked {t} {e} {s} a C =
+    record {
+      opened = open-looked a (C .opened);
+      debt = steady-lookUpTo a (pendingAt e s) e s .debt t ∙ C .debt;
+    }
+
+clear-endable : {t e : ℕ} {s : State} → Clear t e s → Endable e s
+clear-endable C = mid-endable (C .opened .mid) (C .opened .endpoint)
+
+ended-bare : {t e : ℕ} {s : State} → Clear t e s → Bare t e (endAbort live e s)
+ended-bare {t} {e} {s} C =
+    let O = C .opened in
+    record {
+      clear =
+          record {
+            opened =
+                record {
+                  mid = mid-endAbort live e s (live-present refl) (live-present (O .status)) (O .mid);
+                  endpoint = O .endpoint;
+                  runs = endAbort-runs s e live ∙ O .runs;
+                  status = ap (λ (x : Endpoint). x .status) (endAbort-entry s e live);
+                };
+            debt =
+                endAbort-debt s e live t (λ o. nothing-owns (C .debt) (O .mid .owners .each-other e t .0 o)) ∙ C .debt;
+          };
+      abort = ap (λ (x : Endpoint). x .abort) (endAbort-entry s e live);
+    }
+
+module _ {m : List ℕ} {t e : ℕ} where
+  pub clear-within : Shown m (Clear t e) → Shown m (Within e)
+  clear-within S = shown-for S (λ s C. open-within (C .opened))
+
+  pub clear-endpoint : Shown m (Clear t e) → Shown m (IsEndpoint e)
+  clear-endpoint S = shown-for S (λ s C. C .opened .endpoint)
+
+  pub clear-chooses : Shown m (Clear t e) → Shown m Chooses
+  clear-chooses S = shown-for S (λ s C. open-chooses (C .opened))
+
+  pub other-endable : Shown m (Clear t e) → Shown m (Endable e)
+  other-endable S = shown-for S (λ s C. clear-endable C)
+
+  pub bare-asked : {n : List ℕ} → Ends m e 1 n → Shown m (Clear t e) → Shown n (Bare t e)
+  bare-asked E S =
+      record {
+        state = endAbort live e (S .state);
+        shows = E .does live refl .shows (S .state) (S .shows) (clear-endable (S .holds));
+        holds = ended-bare (S .holds);
+      }
+
+module _ {m n : List ℕ} {t e a k : ℕ} (L : Looks m e a k n) where
+  pub looked-clear : Shown m (Clear t e) → Shown n (Clear t e)
+  looked-clear S =
+      record {
+        state = looked e a (S .state) .state;
+        shows = L .shows (S .state) (S .shows) (open-within (S .holds .opened));
+        holds = clear-looked a (S .holds);
+      }
+
+  module _ {r : ℕ} (T : Tells n (IsEndpoint e) r (cursorIn e)) where
+    -- The cursor's link tells what is left after the looks.
+    tells-looked :
+        (s : State) → Shows m s → Clear t e s
+        → (Shows n (looked e a s .state)) × (r ≡ cursorIn e (looked e a s .state)) × (k ≡ length (looked e a s .looks))
+    tells-looked s M C =
+        let N = L .shows s M (open-within (C .opened)) in
+        (N, T .tells (looked e a s .state) N (C .opened .endpoint), L .counts s M (open-within (C .opened)))
+
+    pub other-broken :
+        {o : List ℕ} {x y : Answer} (b : ℕ) → (r ≡ 0 → ⊥) → x ≡ counted 2 k → Accepts n x y Chooses o
+        → Performs m o y (Clear t e) (workOther t e a b)
+    unfolding workOther lookedOther finished
+    other-broken {o} {x} b z i A =
+        performs-each
+        (λ s M C.
+        let w = looked e a s in
+        let N = tells-looked s M C in
+        result-as
+        (go w (some-left (pendingAt e (w .state)) (N .1) z) (N .2))
+        (at-state (A .performs (w .looks)) (N .0) (open-chooses (open-looked a (C .opened)))))
+      where
+        go : (w : Looked) → Begun r (pendingAt e (w .state)) → k ≡ length (w .looks)
+            → accept x (w .looks) (w .state) ≡ lookedOther t e a b w
+        go w B j =
+            ap (λ (v : Answer). accept v (w .looks) (w .state)) (i ∙ ap (counted 2) j)
+            ∙ ap (λ (l : List ℕ). finished l t e a b w) (sym (B .whole))
+
+    pub other-ended :
+        {o q : List ℕ} {x : Answer} (b : ℕ) → r ≡ 0 → Ends n e 1 o
+        → Continues o k x (Bare t e) (beginAfter (a - k) t e b) q → Performs m q x (Clear t e) (workOther t e a b)
+    unfolding workOther lookedOther finished
+    other-ended {o} {q} {x} b z E C =
+        performs-each
+        (λ s M D.
+        let w = looked e a s in
+        let N = tells-looked s M D in
+        let G = clear-looked a D in
+        result-as (go w (nothing-left (pendingAt e (w .state)) (N .1) z) (N .2))
+        (at-state (C .performs (w .looks) (sym (N .2)))
+        (E .does live refl .shows (w .state) (N .0) (clear-endable G)) (ended-bare G)))
+      where
+        go : (w : Looked) → pendingAt e (w .state) ≡ [] → k ≡ length (w .looks)
+            → beginAfter (a - k) t e b (w .looks) (endAbort live e (w .state)) ≡ lookedOther t e a b w
+        go w p j =
+            ap (λ (v : ℕ). beginAfter (a - v) t e b (w .looks) (endAbort live e (w .state))) j
+            ∙ ap (λ (l : List ℕ). finished l t e a b w) (sym p)

@@ -1,0 +1,44 @@
+-- A waiter under the badge is woken, another passed.
+-- Assumes nothing.
+use Rattle.aborts.proofs.Looks.{thread-asked, endpoint-asked, waits-asked, first-asked, look-removed}
+use Rattle.aborts.proofs.Looks.{look-kept}
+use borrow.Author.Needs.{needs}
+use Rattle.aborts.proofs.look.Statement.{statement}
+use Rattle.aborts.proofs.look.Tie as tie
+
+badge-requires : tie.Need-badge-requires
+badge-requires c κs = search thread-asked
+
+under-abort-requires : tie.Need-under-abort-requires
+under-abort-requires c κs = search endpoint-asked
+
+wake-from-requires : tie.Need-wake-from-requires
+wake-from-requires c κs = search waits-asked
+
+same-length : tie.Need-same-length
+same-length c = search needs
+
+returns : tie.Need-returns
+returns c = search look-removed
+
+keep-look-requires : tie.Need-keep-look-requires
+keep-look-requires c κs = search first-asked
+
+same-length-2 : tie.Need-same-length-2
+same-length-2 c = search needs
+
+returns-2 : tie.Need-returns-2
+returns-2 c = search look-kept
+
+pub look-spec : {M : Type 1} → statement M
+look-spec =
+    tie.close
+    (tie.spec
+    badge-requires
+    under-abort-requires
+    wake-from-requires
+    same-length
+    returns
+    keep-look-requires
+    same-length-2
+    returns-2)

@@ -1,0 +1,192 @@
+// Call 12, the breakable abort of a badge at an endpoint. A caller with a note is answered at once; else the abort that
+// stands is joined, or finished if it is of another badge, or begun, and its looks go on until nothing is left or the
+// allowance is used up. What is left stands in the tables, so the next call goes on from there.
+ghost use Prim.Native.Nat.{_+_, _≤_, _<_, _^_};
+ghost use mathlib.Core.Path.{_≡_};
+ghost use Rattle.machine.specs.Results.{counted};
+ghost use Rattle.machine.specs.Aborts.{look, workOwn, beginAfter, workOther, abortOpen, abort};
+ghost use Rattle.store.specs.Steps.{Shown, Does};
+ghost use Rattle.results.specs.Results.{Calling, Performs};
+ghost use Rattle.aborts.specs.Aborts.{Cursor, Within, Open, Clear, Bare, Owing, Joining, Looks};
+ghost use Rattle.aborts.specs.Aborts.{Continues, ending, beginning, joining, unnoted};
+use machine::Answer;
+
+// The status of a live endpoint: one whose abort ends is live as before.
+const LIVE: u32 = 1;
+
+// A code and a count of looks.
+fn counted(code: u32, count: u32) -> Answer
+    ensures { λ r. ⌜ r ≡ counted code count ⌝ }
+{
+    Answer {
+        code,
+        count,
+        badge: 0,
+        message: 0,
+    }
+}
+
+// A look takes the cursor's waiter w: under the abort's badge it is removed, else it is kept and the cursor moves on.
+fn look(tables: &mut [u32], e: usize, w: usize)
+    requires { ⌜ Shown (now tables) (Cursor e w) ⌝ }
+    ensures { λ _. ⌜ Does (now (tables .entry)) (now (tables .exit)) (Cursor e w) (look e w) ⌝ }
+{
+    let badge = store::badge(tables, w);
+    let hit = debts::under_abort(tables, e, badge);
+    if hit {
+        queues::wake_from(tables, e, w, 3, 0, 0);
+        return;
+    }
+    debts::keep_look(tables, e, w);
+}
+
+// As many looks as the allowance lets, until nothing is left to look at; how many they were.
+fn look_up_to(tables: &mut [u32], e: usize, allowance: u32) -> u32
+    requires { ⌜ Shown (now tables) (Within e) ⌝ }
+    ensures { λ r. ⌜ Looks (now (tables .entry)) e allowance r (now (tables .exit)) ⌝ }
+{
+    let mut left = allowance;
+    while 0 < left {
+        let cursor = store::cursor(tables, e);
+        if cursor == 0 {
+            return allowance - left;
+        }
+        look(tables, e, (cursor - 1) as usize);
+        left -= 1;
+    }
+    allowance
+}
+
+// The call's own abort ends where nothing is left: the caller's ownership goes, and another owner gets a note. Else it
+// is broken off.
+fn end_own(tables: &mut [u32], t: usize, e: usize, count: u32) -> Answer
+    requires { ⌜ Shown (now tables) (Open t e) ⌝ }
+    ensures { λ r. ⌜ Continues (now (tables .entry)) count r (Open t e) (ending t e) (now (tables .exit)) ⌝ }
+{
+    let cursor = store::cursor(tables, e);
+    if cursor != 0 {
+        return results::accept(tables, counted(2, count));
+    }
+    debts::drop_debt(tables, t);
+    debts::end_abort(tables, e, LIVE);
+    results::accept(tables, counted(0, count))
+}
+
+// The call's own abort works; the call's earlier looks are counted with its own.
+fn work_own(tables: &mut [u32], t: usize, e: usize, allowance: u32, earlier: u32) -> Answer
+    requires { ⌜ Shown (now tables) (Open t e) × (earlier + allowance ≤ 65535) ⌝ }
+    ensures { λ r. ⌜ Continues (now (tables .entry)) earlier r (Open t e)
+        (workOwn t e allowance) (now (tables .exit)) ⌝ }
+{
+    let n = look_up_to(tables, e, allowance);
+    end_own(tables, t, e, earlier + n)
+}
+
+// The call's own abort begins, and works.
+fn begin_own(
+    tables: &mut [u32],
+    t: usize,
+    e: usize,
+    allowance: u32,
+    badge: u32,
+    earlier: u32,
+) -> Answer
+    requires { ⌜ Shown (now tables) (Bare t e) × (earlier + allowance ≤ 65535) × (badge < 2 ^ 28) ⌝ }
+    ensures { λ r. ⌜ Continues (now (tables .entry)) earlier r (Bare t e)
+        (beginning t e badge allowance) (now (tables .exit)) ⌝ }
+{
+    debts::begin(tables, t, e, badge);
+    work_own(tables, t, e, allowance, earlier)
+}
+
+// After another badge's abort the call's own begins, if allowance remains.
+fn begin_after(
+    tables: &mut [u32],
+    t: usize,
+    e: usize,
+    left: u32,
+    badge: u32,
+    earlier: u32,
+) -> Answer
+    requires { ⌜ Shown (now tables) (Bare t e) × (earlier + left ≤ 65535) × (badge < 2 ^ 28) ⌝ }
+    ensures { λ r. ⌜ Continues (now (tables .entry)) earlier r (Bare t e)
+        (beginAfter left t e badge) (now (tables .exit)) ⌝ }
+{
+    if left == 0 {
+        return results::accept(tables, counted(2, earlier));
+    }
+    begin_own(tables, t, e, left, badge, earlier)
+}
+
+// Another badge's abort is finished first, at the expense of the allowance.
+fn work_other(tables: &mut [u32], t: usize, e: usize, allowance: u32, badge: u32) -> Answer
+    requires { ⌜ Shown (now tables) (Clear t e) × (allowance ≤ 65535) × (badge < 2 ^ 28) ⌝ }
+    ensures { λ r. ⌜ Performs (now (tables .entry)) (now (tables .exit)) r (Clear t e)
+        (workOther t e allowance badge) ⌝ }
+{
+    let n = look_up_to(tables, e, allowance);
+    let pending = store::cursor(tables, e);
+    if pending != 0 {
+        return results::accept(tables, counted(2, n));
+    }
+    debts::end_abort(tables, e, LIVE);
+    let rest = allowance - n;
+    begin_after(tables, t, e, rest, badge, n)
+}
+
+// The abort that stands at endpoint e is joined, and works.
+fn join_own(tables: &mut [u32], t: usize, e: usize, allowance: u32) -> Answer
+    requires { ⌜ Shown (now tables) (Joining t e) × (allowance ≤ 65535) ⌝ }
+    ensures { λ r. ⌜ Performs (now (tables .entry)) (now (tables .exit)) r (Joining t e) (joining t e allowance) ⌝ }
+{
+    debts::join(tables, t, e);
+    work_own(tables, t, e, allowance, 0)
+}
+
+// An abort is begun where none stands, joined where it is of this badge, and finished first where it is of another.
+fn abort_open(tables: &mut [u32], t: usize, e: usize, allowance: u32, badge: u32) -> Answer
+    requires { ⌜ Shown (now tables) (Owing t e badge) × (allowance ≤ 65535) × (badge < 2 ^ 28) ⌝ }
+    ensures { λ r. ⌜ Performs (now (tables .entry)) (now (tables .exit)) r (Owing t e badge)
+        (abortOpen t e allowance badge) ⌝ }
+{
+    let here = store::aborting(tables, e);
+    if here == 0 {
+        return begin_own(tables, t, e, allowance, badge, 0);
+    }
+    let same = debts::under_abort(tables, e, badge);
+    if same {
+        return join_own(tables, t, e, allowance);
+    }
+    work_other(tables, t, e, allowance, badge)
+}
+
+// Refused where the endpoint is missing or closing. Else the caller's other debts go before the work.
+fn abort_at(tables: &mut [u32], t: usize, e: usize, allowance: u32, badge: u32) -> Answer
+    requires { ⌜ Shown (now tables) (Calling t ((e ≤ 63) × (allowance ≤ 65535) × (badge < 2 ^ 28))) ⌝ }
+    ensures { λ r. ⌜ Performs (now (tables .entry)) (now (tables .exit)) r
+        (Calling t ((e ≤ 63) × (allowance ≤ 65535) × (badge < 2 ^ 28))) (unnoted t e allowance badge) ⌝ }
+{
+    let status = store::status(tables, e);
+    if status == 0 {
+        return results::plain(23);
+    }
+    if status == 2 {
+        return results::plain(25);
+    }
+    debts::drop_other(tables, t, e, badge);
+    abort_open(tables, t, e, allowance, badge)
+}
+
+// 12: thread t aborts badge at endpoint e, with at most as many looks as the allowance lets.
+pub fn abort(tables: &mut [u32], t: usize, e: usize, allowance: u32, badge: u32) -> Answer
+    requires { ⌜ Shown (now tables) (Calling t ((e ≤ 63) × (allowance ≤ 65535) × (badge < 2 ^ 28))) ⌝ }
+    ensures { λ r. ⌜ Performs (now (tables .entry)) (now (tables .exit)) r
+        (Calling t ((e ≤ 63) × (allowance ≤ 65535) × (badge < 2 ^ 28))) (abort t e allowance badge) ⌝ }
+{
+    let noted = debts::has_note(tables, t, e, badge);
+    if noted {
+        store::set_owes(tables, t, 0, 0);
+        return results::accept(tables, results::plain(0));
+    }
+    abort_at(tables, t, e, allowance, badge)
+}
