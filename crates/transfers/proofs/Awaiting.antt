@@ -21,7 +21,7 @@ use Rattle.results.proofs.Ends.{refused, performs-as, performs-after}
 use Rattle.transfers.specs.Transfers.{Dropped, Suspends}
 use Rattle.transfers.proofs.Finishing.{shown-after}
 use Rattle.transfers.proofs.Callers.{calling-thread, dropped-mid, dropped-first}
-use Rattle.transfers.proofs.Firing.{line-chooses}
+use Rattle.transfers.proofs.Firing.{line-of, line-chooses}
 
 module _ {m : List ℕ} {t l r : ℕ} (T : Tells m (IsLine l) r (lineIn l)) where
   pub awaited-refused :
@@ -45,16 +45,20 @@ module _ {n o : List ℕ} {t l : ℕ} where
   lined : {code : ℕ} (x : Line) → lineCode x ≡ code → Lines n l code o → Does n o (Dropped t (l ≤ 31)) (setLine l x)
   lined x k W = record { shows = λ s M h. W .does x k .shows s M (h .calling .numbers) }
 
-  pub taken-asked : Lines n l 0 o → Shown n (Dropped t (l ≤ 31)) → Shown o Chooses
-  taken-asked W S = shown-after (lined quiet refl W) (λ s M h. line-chooses l quiet (dropped-mid h)) S
+  pub taken-asked : {code : ℕ} → Lines n l code o → Shown n (Dropped t (l ≤ 31)) → Shown o Chooses
+  taken-asked {code} W S =
+      let v = line-of code in
+      shown-after (lined (v .0) (v .1) W) (λ s M h. line-chooses l (v .0) (dropped-mid h)) S
 
   taken :
       {p : List ℕ} {a : Answer} → Lines n l 0 o → Performs o p a Chooses done
       → Performs n p a (Dropped t (l ≤ 31)) (λ s. done (setLine l quiet s))
   taken W D = performs-after (lined quiet refl W) (λ s M h. line-chooses l quiet (dropped-mid h)) D
 
-  pub waiter-asked : Lines n l (2 + t) o → Shown n (Dropped t (l ≤ 31)) → Shown o (IsThread t)
-  waiter-asked W S = shown-after (lined (awaited t) (omega arith) W) (λ s M h. calling-thread (h .calling)) S
+  pub waiter-asked : {code : ℕ} → Lines n l code o → Shown n (Dropped t (l ≤ 31)) → Shown o (IsThread t)
+  waiter-asked {code} W S =
+      let v = line-of code in
+      shown-after (lined (v .0) (v .1) W) (λ s M h. calling-thread (h .calling)) S
 
   awaits :
       {p : List ℕ} {a : Answer} → Lines n l (2 + t) o → Suspends o t (130 + l) 0 0 a p

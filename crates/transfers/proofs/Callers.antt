@@ -25,7 +25,7 @@ module _ {t : ℕ} {N : Type 0} {s : State} (C : Calling t N s) where
   calling-debtor : Debtor t s
   calling-debtor = running-debtor (sound-mid (C .sound)) (C .runs)
 
-  pub calling-dropped : Dropped t N (dropDebt t s)
+  calling-dropped : Dropped t N (dropDebt t s)
   calling-dropped = record { before = s; calling = C; is = refl }
 
 module _ {t : ℕ} {N : Type 0} {s : State} (D : Dropped t N s) where
@@ -44,7 +44,7 @@ pub debtor-asked : {m : List ℕ} {t : ℕ} {N : Type 0} → Shown m (Calling t 
 debtor-asked S = shown-for S (λ s h. calling-debtor h)
 
 module _ {m n : List ℕ} {t : ℕ} (D : Does m n (Debtor t) (dropDebt t)) where
-  pub drops : {N : Type 0} → Does m n (Calling t N) (dropDebt t)
+  drops : {N : Type 0} → Does m n (Calling t N) (dropDebt t)
   drops = does-for D (λ s h. calling-debtor h)
 
   pub dropped-asked : {N : Type 0} → Shown m (Calling t N) → Shown n (Dropped t N)

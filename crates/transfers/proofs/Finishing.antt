@@ -24,12 +24,6 @@ pub answered :
     → Performs m n b Chooses (accept k [])
 answered {m} {n} {b = b} k e A = subst (λ (x : Answer). Performs m n b Chooses (accept x [])) e (A .performs [])
 
--- A step whose condition follows where the memory shows the state.
-pub does-where :
-    {m n : List ℕ} {P Q : State → Type 0} {op : State → State} → Does m n Q op
-    → ((s : State) → Shows m s → P s → Q s) → Does m n P op
-does-where D q = record { shows = λ s M h. D .shows s M (q s M h) }
-
 -- What holds after a step.
 pub shown-after :
     {m n : List ℕ} {P Q : State → Type 0} {op : State → State} → Does m n P op
@@ -48,7 +42,7 @@ place-of (suc zero) = (able, refl)
 place-of (suc (suc n)) = (sending n, omega arith)
 
 -- Where a thread has blocked nobody runs.
-pub blocked-chooses : (t : ℕ) (p : Place) (b x : ℕ) (s : State) → Chooses (block t p b x s)
+blocked-chooses : (t : ℕ) (p : Place) (b x : ℕ) (s : State) → Chooses (block t p b x s)
 unfolding block
 blocked-chooses t p b x s = record { running = λ u r. absurd (none-some refl r) }
 

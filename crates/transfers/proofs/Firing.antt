@@ -1,6 +1,6 @@
 -- An interrupt on a line: what the steps ask, and that together they are the machine's.
 -- Assumes nothing.
-use Prim.Native.Nat.{ℕ, _-_, _≤_}
+use Prim.Native.Nat.{ℕ, zero, suc, _-_, _≤_}
 use mathlib.Core.Path.{_≡_, refl, sym, subst}
 use mathlib.Core.List.{List}
 use native.Mathlib.Omega.{arith}
@@ -23,7 +23,18 @@ use Rattle.results.proofs.Conditions.{running-loose, mid-chooses, awaited-loose
 use Rattle.transfers.specs.Transfers.{firing}
 use Rattle.transfers.proofs.Finishing.{shown-after}
 
--- A line has nobody in a queue.
+-- Every number is that of a line.
+pub line-of : (c : ℕ) → (x : Line) × (lineCode x ≡ c)
+line-of zero = (quiet, refl)
+line-of (suc zero) = (pending, refl)
+line-of (suc (suc t)) = (awaited t, refl)
+
+-- Whatever the line becomes, it has nobody in a queue.
+
+line-loose : (s : State) {t : ℕ} (l : ℕ) (x y : Line) → Loose t (setLine l x s) → Loose t (setLine l y s)
+unfolding queuesOf
+line-loose s l x y L = record { thread = L .thread; level = L .level; free = L .free }
+
 pub line-chooses : {s : State} (l : ℕ) (x : Line) → Mid s → Chooses (setLine l x s)
 unfolding queuesOf
 line-chooses {s} l x M =
@@ -63,25 +74,29 @@ module _ {m : List ℕ} {l r : ℕ} (T : Tells m (IsLine l) r (lineIn l)) where
         go pending k = absurd (y k)
         go (awaited t) k = let j : t ≡ r - 2 = omega arith in rw (← j)
 
-    module _ {n : List ℕ} (W : Lines m l 0 n) where
-      hushed : Does m n (Asked (l ≤ 31)) (setLine l quiet)
-      hushed = record { shows = λ s M h. W .does quiet refl .shows s M (h .numbers) }
+    waiter-loose : (s : State) (x : Line) → Shows m s → Asked (l ≤ 31) s → Loose (r - 2) (setLine l x s)
+    waiter-loose s x M h = line-loose s l quiet x (awaited-loose (sound-mid (h .sound)) (waiter-is s M h))
 
-      waiter-loose : (s : State) → Shows m s → Asked (l ≤ 31) s → Loose (r - 2) (setLine l quiet s)
-      waiter-loose s M h = awaited-loose (sound-mid (h .sound)) (waiter-is s M h)
+    pub waiter-asked :
+        {n : List ℕ} {code : ℕ} → Lines m l code n → Shown m (Asked (l ≤ 31)) → Shown n (Loose (r - 2))
+    waiter-asked {code = code} W S =
+        let v = line-of code in
+        record {
+          state = setLine l (v .0) (S .state);
+          shows = W .does (v .0) (v .1) .shows (S .state) (S .shows) (S .holds .numbers);
+          holds = waiter-loose (S .state) (v .0) (S .shows) (S .holds);
+        }
 
-      pub waiter-asked : Shown m (Asked (l ≤ 31)) → Shown n (Loose (r - 2))
-      waiter-asked S = shown-after hushed waiter-loose S
-
-      pub fired-awaited :
-          {o : List ℕ} → Does n o (Loose (r - 2)) (wake (r - 2) 5 0 0) → Does m o (Asked (l ≤ 31)) (firing l)
-      unfolding fire
-      fired-awaited {o} D =
-          record {
-            shows = λ s M h.
-                subst (λ (x : Line). Shows o (fire x l s)) (sym (waiter-is s M h))
-                (D .shows (setLine l quiet s) (hushed .shows s M h) (waiter-loose s M h));
-          }
+    pub fired-awaited :
+        {n o : List ℕ} → Lines m l 0 n → Does n o (Loose (r - 2)) (wake (r - 2) 5 0 0)
+        → Does m o (Asked (l ≤ 31)) (firing l)
+    unfolding fire
+    fired-awaited {o = o} W D =
+        record {
+          shows = λ s M h.
+              subst (λ (x : Line). Shows o (fire x l s)) (sym (waiter-is s M h))
+              (D .shows (setLine l quiet s) (W .does quiet refl .shows s M (h .numbers)) (waiter-loose s quiet M h));
+        }
 
 -- Whoever runs after it stands in no queue.
 fired-chooses : (l : ℕ) (s : State) → Asked (l ≤ 31) s → Chooses (firing l s)
