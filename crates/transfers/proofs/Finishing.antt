@@ -1,0 +1,60 @@
+-- The ends of a call: code 0, and code 1 of a caller that blocks.
+-- Assumes nothing.
+use Prim.Native.Nat.{ℕ, zero, suc}
+use mathlib.Core.Path.{_≡_, refl, subst}
+use mathlib.Core.List.{List, []}
+use native.Mathlib.Omega.{arith}
+use Rattle.machine.specs.declared.Answer.{Answer}
+use Rattle.machine.specs.State.{State, Place, absent, able, sending}
+use Rattle.machine.specs.Scheduling.{block}
+use Rattle.machine.specs.Results.{plain, accept}
+use Rattle.machine.proofs.Ready.{none-some}
+use Rattle.layout.specs.Words.{placeCode}
+use Rattle.layout.specs.Shows.{Shows}
+use Rattle.store.specs.Steps.{Shown, Does}
+use Rattle.store.specs.Store.{IsThread}
+use Rattle.queues.specs.Queues.{Chooses, Blocks}
+use Rattle.results.specs.Results.{Performs, Accepts}
+use Rattle.results.proofs.Ends.{performs-after}
+use Rattle.transfers.specs.Transfers.{Suspends}
+
+-- An accepted call that has no looks.
+pub answered :
+    {m n : List ℕ} {a b : Answer} (k : Answer) → a ≡ k → Accepts m a b Chooses n
+    → Performs m n b Chooses (accept k [])
+answered {m} {n} {b = b} k e A = subst (λ (x : Answer). Performs m n b Chooses (accept x [])) e (A .performs [])
+
+-- What holds after a step.
+pub shown-after :
+    {m n : List ℕ} {P Q : State → Type 0} {op : State → State} → Does m n P op
+    → ((s : State) → Shows m s → P s → Q (op s)) → Shown m P → Shown n Q
+shown-after {op = op} D q S =
+    record {
+      state = op (S .state);
+      shows = D .shows (S .state) (S .shows) (S .holds);
+      holds = q (S .state) (S .shows) (S .holds);
+    }
+
+-- Every number is that of a place.
+place-of : (c : ℕ) → (p : Place) × (placeCode p ≡ c)
+place-of zero = (absent, refl)
+place-of (suc zero) = (able, refl)
+place-of (suc (suc n)) = (sending n, omega arith)
+
+-- Where a thread has blocked nobody runs.
+blocked-chooses : (t : ℕ) (p : Place) (b x : ℕ) (s : State) → Chooses (block t p b x s)
+unfolding block
+blocked-chooses t p b x s = record { running = λ u r. absurd (none-some refl r) }
+
+module _ {m n : List ℕ} {t code b x : ℕ} (B : Blocks m t code b x n) where
+  pub blocked-asked : Shown m (IsThread t) → Shown n Chooses
+  blocked-asked S =
+      let v = place-of code in
+      shown-after (B .does (v .0) (v .1)) (λ s M h. blocked-chooses t (v .0) b x s) S
+
+  pub suspended : {a r : Answer} {o : List ℕ} → a ≡ plain 1 → Accepts n a r Chooses o → Suspends m t code b x r o
+  suspended {a} {r} {o} e A =
+      record {
+        performs = λ p k.
+            performs-after (B .does p k) (λ s M h. blocked-chooses t p b x s) (answered (plain 1) e A);
+      }

@@ -1,0 +1,128 @@
+-- Receiving: the message of the first sender is taken, or the receiver waits.
+-- Assumes nothing.
+use Prim.Native.Nat.{ℕ, _+_, _-_, _≤_}
+use mathlib.Core.Path.{_≡_, refl, sym, _∙_, ap}
+use mathlib.Core.Option.{Option}
+use mathlib.Core.List.{List, []}
+use native.Mathlib.Omega.{arith}
+use Rattle.machine.specs.declared.Answer.{Answer}
+use Rattle.machine.specs.Lists.{first}
+use Rattle.machine.specs.State.{State, Status, receiving}
+use Rattle.machine.specs.Endpoints.{isSending, senders, joinEndpoint, wakeFrom, dropDebt}
+use Rattle.machine.specs.Results.{plain}
+use Rattle.machine.specs.Machine.{receiveFrom, receiveAt, receive}
+use Rattle.machine.proofs.Waking.{mid-wakeFrom}
+use Rattle.layout.specs.Words.{statusCode}
+use Rattle.layout.specs.Shows.{Shows}
+use Rattle.store.specs.Steps.{Shown, Does, Tells}
+use Rattle.store.specs.Store.{IsThread, IsEndpoint}
+use Rattle.store.specs.Readings.{statusIn, badgeIn, messageIn}
+use Rattle.queues.specs.Queues.{Chooses, Comes, Waits}
+use Rattle.debts.specs.Debts.{Debtor, firstSender}
+use Rattle.results.specs.Results.{Calling, Performs, Accepts, answerOf}
+use Rattle.results.proofs.Ends.{refused, performs-as, performs-for, shown-for}
+use Rattle.results.proofs.Conditions.{mid-chooses, mid-alike, queued-waits, queued-present, present-thread}
+use Rattle.transfers.specs.Transfers.{Dropped, Takes, FirstAt, Suspends, taking, takingFrom}
+use Rattle.transfers.proofs.Finishing.{shown-after}
+use Rattle.transfers.proofs.Callers.{dropped-mid, dropped-first}
+use Rattle.transfers.proofs.Firsts.{first-none, first-some, first-queued, kind-kept}
+use Rattle.transfers.proofs.Queueing.{is-missing, is-closing, is-live, queued}
+
+-- From a sender u.
+module _ {u e : ℕ} where
+  sender-thread : (s : State) → Takes u e s → u ≤ 255
+  sender-thread s h = present-thread (dropped-mid (h .dropped)) (queued-present (dropped-mid (h .dropped)) (h .waits))
+
+  sender-waits : (s : State) → Takes u e s → Waits u e s
+  sender-waits s h = queued-waits (dropped-mid (h .dropped)) (h .waits) (h .dropped .calling .numbers)
+
+  chooses : (s : State) → Takes u e s → Chooses (wakeFrom e u 1 0 0 s)
+  chooses s h =
+      mid-chooses
+      (mid-wakeFrom s e u 1 0 0 (dropped-mid (h .dropped)) (h .waits) (omega arith) (omega arith) (omega arith)
+      (λ k. (refl, refl)))
+
+  pub sender-asked : {m : List ℕ} → Shown m (Takes u e) → Shown m (IsThread u)
+  sender-asked S = shown-for S sender-thread
+
+  pub waits-asked : {m : List ℕ} → Shown m (Takes u e) → Shown m (Waits u e)
+  waits-asked S = shown-for S sender-waits
+
+  module _ {m n : List ℕ} (W : Does m n (Waits u e) (wakeFrom e u 1 0 0)) where
+    wakes : Does m n (Takes u e) (wakeFrom e u 1 0 0)
+    wakes = record { shows = λ s M h. W .shows s M (sender-waits s h) }
+
+    pub taken-asked : Shown m (Takes u e) → Shown n Chooses
+    taken-asked S = shown-after wakes (λ s M h. chooses s h) S
+
+    pub taken :
+        {o : List ℕ} {a : Answer} {b x : ℕ} → Tells m (IsThread u) b (badgeIn u) → Tells m (IsThread u) x (messageIn u)
+        → Accepts n (answerOf 0 0 b x) a Chooses o → Performs m o a (Takes u e) (takingFrom e u)
+    taken {b = b} {x = x} B X A =
+        record {
+          answers = λ s M h.
+              A .performs [] .answers (wakeFrom e u 1 0 0 s) (wakes .shows s M h) (chooses s h)
+              ∙ ap (λ (k : ℕ). answerOf 0 0 k x) (B .tells s M (sender-thread s h))
+              ∙ ap (λ (k : ℕ). answerOf 0 0 (s .threads u .badge) k) (X .tells s M (sender-thread s h));
+          shows = λ s M h. A .performs [] .shows (wakeFrom e u 1 0 0 s) (wakes .shows s M h) (chooses s h);
+        }
+
+-- The debt has gone.
+module _ {m : List ℕ} {t e r : ℕ} (F : FirstAt m e (2 + e) r) where
+  link-is : (s : State) → Shows m s → Dropped t (e ≤ 63) s → r ≡ firstSender e s
+  link-is s M h = F .sends refl .tells s M (mid-alike (dropped-mid h) (h .calling .numbers))
+
+  pub queued-receive :
+      {n o : List ℕ} {a : Answer} → r ≡ 0 → Does m n (Comes t e) (joinEndpoint t e) → Suspends n t (66 + e) 0 0 a o
+      → Performs m o a (Dropped t (e ≤ 63)) (taking t e)
+  unfolding receiveFrom
+  queued-receive z J H =
+      performs-as (queued (λ h. h) J (receiving e) refl H)
+      (λ s M h.
+      ap (λ (k : Option ℕ). receiveFrom k t e s)
+      (sym (first-none (senders (s .threads) (s .endpoints e .waiters)) (link-is s M h) z)))
+
+  module _ (z : r ≡ 0 → ⊥) where
+    takes : (s : State) → Shows m s → Dropped t (e ≤ 63) s → Takes (r - 1) e s
+    takes s M h = record { caller = t; dropped = h; waits = first-queued (dropped-mid h) isSending e (link-is s M h) z }
+
+    pub takes-asked : Shown m (Dropped t (e ≤ 63)) → Shown m (Takes (r - 1) e)
+    takes-asked S =
+        record { state = S .state; shows = S .shows; holds = takes (S .state) (S .shows) (S .holds) }
+
+    pub taken-first :
+        {o : List ℕ} {a : Answer} → Performs m o a (Takes (r - 1) e) (takingFrom e (r - 1))
+        → Performs m o a (Dropped t (e ≤ 63)) (taking t e)
+    unfolding receiveFrom
+    taken-first H =
+        performs-as (performs-for H takes)
+        (λ s M h.
+        ap (λ (k : Option ℕ). receiveFrom k t e s)
+        (sym (first-some (senders (s .threads) (s .endpoints e .waiters)) (link-is s M h) z)))
+
+-- The whole call.
+module _ {m : List ℕ} {t e r : ℕ} (T : Tells m (IsEndpoint e) r (statusIn e)) where
+  status-is : (s : State) → Shows m s → Calling t (e ≤ 63) s → r ≡ statusCode (s .endpoints e .status)
+  status-is s M h = T .tells s M (h .numbers)
+
+  pub receive-missing : {a : Answer} → r ≡ 0 → a ≡ plain 23 → Performs m m a (Calling t (e ≤ 63)) (receive t e)
+  unfolding receive receiveAt
+  receive-missing z k =
+      performs-as (refused 23 k)
+      (λ s M h. ap (λ (y : Status). receiveAt y t e s) (is-missing (s .endpoints e .status) (status-is s M h) z))
+
+  pub receive-closing : {a : Answer} → r ≡ 2 → a ≡ plain 25 → Performs m m a (Calling t (e ≤ 63)) (receive t e)
+  unfolding receive receiveAt
+  receive-closing z k =
+      performs-as (refused 25 k)
+      (λ s M h. ap (λ (y : Status). receiveAt y t e s) (is-closing (s .endpoints e .status) (status-is s M h) z))
+
+  pub received :
+      {n o : List ℕ} {a : Answer} → (r ≡ 0 → ⊥) → (r ≡ 2 → ⊥) → Does m n (Debtor t) (dropDebt t)
+      → Performs n o a (Dropped t (e ≤ 63)) (taking t e) → Performs m o a (Calling t (e ≤ 63)) (receive t e)
+  unfolding receive receiveAt
+  received z y D H =
+      performs-as (dropped-first D H)
+      (λ s M h.
+      ap (λ (l : List ℕ). receiveFrom (first l) t e (dropDebt t s)) (kind-kept isSending e t s)
+      ∙ ap (λ (v : Status). receiveAt v t e s) (is-live (s .endpoints e .status) (status-is s M h) z y))

@@ -1,0 +1,43 @@
+-- Refused where the endpoint is present; else its status is set.
+-- Assumes nothing.
+use Rattle.transfers.proofs.Creating.{present-refused, made-asked, created}
+use borrow.Author.Needs.{needs}
+use Rattle.transfers.proofs.create_endpoint.Statement.{statement}
+use Rattle.transfers.proofs.create_endpoint.Tie as tie
+
+status-requires : tie.Need-status-requires
+status-requires c κs = search needs
+
+plain-requires : tie.Need-plain-requires
+plain-requires c κs = search needs
+
+same-length : tie.Need-same-length
+same-length c = search needs
+
+returns : tie.Need-returns
+returns c = search present-refused depth 9
+
+set-status-requires : tie.Need-set-status-requires
+set-status-requires c κs = search needs
+
+done-requires : tie.Need-done-requires
+done-requires c κs = search made-asked depth 9
+
+same-length-2 : tie.Need-same-length-2
+same-length-2 c = search needs
+
+returns-2 : tie.Need-returns-2
+returns-2 c = search created depth 9
+
+pub create-endpoint-spec : {M : Type 1} → statement M
+create-endpoint-spec =
+    tie.close
+    (tie.spec
+    status-requires
+    plain-requires
+    same-length
+    returns
+    set-status-requires
+    done-requires
+    same-length-2
+    returns-2)

@@ -1,0 +1,43 @@
+-- The first waiter's place tells whether all are at it, or none is.
+-- Assumes nothing.
+use Rattle.transfers.proofs.Firsts.{at-empty, place-asked, at-other, at-place}
+use borrow.Author.Needs.{needs}
+use Rattle.transfers.proofs.first_at.Statement.{statement}
+use Rattle.transfers.proofs.first_at.Tie as tie
+
+add-first : tie.Need-add-first
+add-first c = search needs
+
+first-requires : tie.Need-first-requires
+first-requires c κs = search needs
+
+returns : tie.Need-returns
+returns c = search at-empty depth 9
+
+sub-place : tie.Need-sub-place
+sub-place c = search needs
+
+cast-place : tie.Need-cast-place
+cast-place c = search needs
+
+place-requires : tie.Need-place-requires
+place-requires c κs = search place-asked depth 9
+
+returns-2 : tie.Need-returns-2
+returns-2 c = search at-other depth 9
+
+returns-3 : tie.Need-returns-3
+returns-3 c = search at-place depth 9
+
+pub first-at-spec : {M : Type 1} → statement M
+first-at-spec =
+    tie.close
+    (tie.spec
+    add-first
+    first-requires
+    returns
+    sub-place
+    cast-place
+    place-requires
+    returns-2
+    returns-3)

@@ -1,0 +1,76 @@
+-- Without a receiver the caller joins the queue and blocks; else the first receiver is woken with the message.
+-- Assumes nothing.
+use Rattle.transfers.proofs.Queueing.{alike-asked, comes-asked, joined-asked}
+use Rattle.transfers.proofs.Handing.{queued-send, receiver-asked, handed-asked, handed}
+use borrow.Author.Needs.{needs}
+use Rattle.transfers.proofs.hand.Statement.{statement}
+use Rattle.transfers.proofs.hand.Tie as tie
+
+add-first-at : tie.Need-add-first-at
+add-first-at c = search needs
+
+cast-first-at : tie.Need-cast-first-at
+cast-first-at c = search needs
+
+first-at-requires : tie.Need-first-at-requires
+first-at-requires c κs = search alike-asked depth 9
+
+join-endpoint-requires : tie.Need-join-endpoint-requires
+join-endpoint-requires c κs = search comes-asked depth 9
+
+add-suspend : tie.Need-add-suspend
+add-suspend c = search needs
+
+cast-suspend : tie.Need-cast-suspend
+cast-suspend c = search needs
+
+suspend-requires : tie.Need-suspend-requires
+suspend-requires c κs =
+    let j = c .before .before .before in
+    joined-asked (λ h. h .0) (j .join-endpoint .ensures) (j .before .before .before .before .before .before .pre)
+
+same-length : tie.Need-same-length
+same-length c = search needs
+
+returns : tie.Need-returns
+returns c = search queued-send depth 9
+
+sub-wake-from : tie.Need-sub-wake-from
+sub-wake-from c = search needs
+
+cast-wake-from : tie.Need-cast-wake-from
+cast-wake-from c = search needs
+
+wake-from-requires : tie.Need-wake-from-requires
+wake-from-requires c κs =
+    let f = c .before .before in
+    receiver-asked (f .first-at .ensures) (c .before .if1 .left) (f .before .before .before .pre)
+
+done-requires : tie.Need-done-requires
+done-requires c κs = search handed-asked depth 9
+
+same-length-2 : tie.Need-same-length-2
+same-length-2 c = search needs
+
+returns-2 : tie.Need-returns-2
+returns-2 c = search handed depth 9
+
+pub hand-spec : {M : Type 1} → statement M
+hand-spec =
+    tie.close
+    (tie.spec
+    add-first-at
+    cast-first-at
+    first-at-requires
+    join-endpoint-requires
+    add-suspend
+    cast-suspend
+    suspend-requires
+    same-length
+    returns
+    sub-wake-from
+    cast-wake-from
+    wake-from-requires
+    done-requires
+    same-length-2
+    returns-2)

@@ -1,0 +1,75 @@
+-- Refused by the status and by the abort, in that order; else the debt goes and the message is handed over.
+-- Assumes nothing.
+use Rattle.transfers.proofs.Callers.{debtor-asked, dropped-asked}
+use Rattle.transfers.proofs.Handing.{send-missing, send-closing, send-under, sent}
+use borrow.Author.Needs.{needs}
+use Rattle.transfers.proofs.send.Statement.{statement}
+use Rattle.transfers.proofs.send.Tie as tie
+
+status-requires : tie.Need-status-requires
+status-requires c κs = search needs
+
+plain-requires : tie.Need-plain-requires
+plain-requires c κs = search needs
+
+same-length : tie.Need-same-length
+same-length c = search needs
+
+returns : tie.Need-returns
+returns c = search send-missing depth 9
+
+plain-requires-2 : tie.Need-plain-requires-2
+plain-requires-2 c κs = search needs
+
+same-length-2 : tie.Need-same-length-2
+same-length-2 c = search needs
+
+returns-2 : tie.Need-returns-2
+returns-2 c = search send-closing depth 9
+
+under-abort-requires : tie.Need-under-abort-requires
+under-abort-requires c κs = search needs
+
+plain-requires-3 : tie.Need-plain-requires-3
+plain-requires-3 c κs = search needs
+
+same-length-3 : tie.Need-same-length-3
+same-length-3 c = search needs
+
+returns-3 : tie.Need-returns-3
+returns-3 c = search send-under depth 9
+
+drop-debt-requires : tie.Need-drop-debt-requires
+drop-debt-requires c κs = search debtor-asked depth 9
+
+hand-requires : tie.Need-hand-requires
+hand-requires c κs =
+    let d = c .before .before .before in
+    let u = d .before .before .before in
+    dropped-asked (d .drop-debt .ensures) (u .before .before .before .before .before .before .before .pre)
+
+same-length-4 : tie.Need-same-length-4
+same-length-4 c = search needs
+
+returns-4 : tie.Need-returns-4
+returns-4 c = search sent depth 9
+
+pub send-spec : {M : Type 1} → statement M
+send-spec =
+    tie.close
+    (tie.spec
+    status-requires
+    plain-requires
+    same-length
+    returns
+    plain-requires-2
+    same-length-2
+    returns-2
+    under-abort-requires
+    plain-requires-3
+    same-length-3
+    returns-3
+    drop-debt-requires
+    hand-requires
+    same-length-4
+    returns-4)

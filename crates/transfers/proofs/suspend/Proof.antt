@@ -1,0 +1,25 @@
+-- The caller blocks at the place, whichever it is, and code 1 is the answer.
+-- Assumes nothing.
+use Rattle.transfers.proofs.Finishing.{blocked-asked, suspended}
+use borrow.Author.Needs.{needs}
+use Rattle.transfers.proofs.suspend.Statement.{statement}
+use Rattle.transfers.proofs.suspend.Tie as tie
+
+block-requires : tie.Need-block-requires
+block-requires c κs = search needs
+
+plain-requires : tie.Need-plain-requires
+plain-requires c κs = search needs
+
+accept-requires : tie.Need-accept-requires
+accept-requires c κs = search blocked-asked depth 9
+
+same-length : tie.Need-same-length
+same-length c = search needs
+
+returns : tie.Need-returns
+returns c = search suspended depth 9
+
+pub suspend-spec : {M : Type 1} → statement M
+suspend-spec =
+    tie.close (tie.spec block-requires plain-requires accept-requires same-length returns)

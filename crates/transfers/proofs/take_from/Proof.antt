@@ -1,0 +1,37 @@
+-- Badge and message are those of the sender before it is woken.
+-- Assumes nothing.
+use Rattle.transfers.proofs.Taking.{sender-asked, waits-asked, taken-asked, taken}
+use borrow.Author.Needs.{needs}
+use Rattle.transfers.proofs.take_from.Statement.{statement}
+use Rattle.transfers.proofs.take_from.Tie as tie
+
+badge-requires : tie.Need-badge-requires
+badge-requires c κs = search sender-asked depth 9
+
+message-requires : tie.Need-message-requires
+message-requires c κs = search sender-asked depth 9
+
+wake-from-requires : tie.Need-wake-from-requires
+wake-from-requires c κs = search waits-asked depth 9
+
+accept-requires : tie.Need-accept-requires
+accept-requires c κs =
+    let w = c .before .before .before in
+    taken-asked (w .wake-from .ensures) (w .before .before .before .before .before .before .before .pre)
+
+same-length : tie.Need-same-length
+same-length c = search needs
+
+returns : tie.Need-returns
+returns c = search taken depth 9
+
+pub take-from-spec : {M : Type 1} → statement M
+take-from-spec =
+    tie.close
+    (tie.spec
+    badge-requires
+    message-requires
+    wake-from-requires
+    accept-requires
+    same-length
+    returns)

@@ -1,0 +1,98 @@
+-- Refused where another waits; else the debt goes, and the interrupt is taken or waited for.
+-- Assumes nothing.
+use native.Mathlib.Omega.{arith}
+use Rattle.transfers.proofs.Callers.{calling-thread, debtor-asked, dropped-asked}
+use Rattle.transfers.proofs.Awaiting.{awaited-refused, line-asked, taken-asked, waiter-asked}
+use Rattle.transfers.proofs.Awaiting.{waited-pending, waited-quiet}
+use borrow.Author.Needs.{needs}
+use Rattle.transfers.proofs.wait.Statement.{statement}
+use Rattle.transfers.proofs.wait.Tie as tie
+
+line-requires : tie.Need-line-requires
+line-requires c κs = search needs
+
+plain-requires : tie.Need-plain-requires
+plain-requires c κs = search needs
+
+same-length : tie.Need-same-length
+same-length c = search needs
+
+returns : tie.Need-returns
+returns c = search awaited-refused depth 9
+
+drop-debt-requires : tie.Need-drop-debt-requires
+drop-debt-requires c κs = search debtor-asked depth 9
+
+set-line-requires : tie.Need-set-line-requires
+set-line-requires c κs =
+    let d = c .before .before .before .before in
+    line-asked (dropped-asked (d .drop-debt .ensures) (d .before .before .before .before .before .before .pre))
+
+done-requires : tie.Need-done-requires
+done-requires c κs =
+    let w = c .before .before .before in
+    let d = w .before .before .before .before .before in
+    taken-asked (w .set-line .ensures)
+    (dropped-asked (d .drop-debt .ensures) (d .before .before .before .before .before .before .pre))
+
+same-length-2 : tie.Need-same-length-2
+same-length-2 c = search needs
+
+returns-2 : tie.Need-returns-2
+returns-2 c = search waited-pending depth 9
+
+add-set-line : tie.Need-add-set-line
+add-set-line c =
+    let d = c .before .before .before .before in
+    omega (arith, calling-thread (d .before .before .before .before .before .before .pre .holds))
+
+cast-set-line : tie.Need-cast-set-line
+cast-set-line c =
+    let d = c .before .before .before .before in
+    omega (arith, calling-thread (d .before .before .before .before .before .before .pre .holds))
+
+set-line-requires-2 : tie.Need-set-line-requires-2
+set-line-requires-2 c κs =
+    let d = c .before .before .before .before in
+    line-asked (dropped-asked (d .drop-debt .ensures) (d .before .before .before .before .before .before .pre))
+
+add-suspend : tie.Need-add-suspend
+add-suspend c = search needs
+
+cast-suspend : tie.Need-cast-suspend
+cast-suspend c = search needs
+
+suspend-requires : tie.Need-suspend-requires
+suspend-requires c κs =
+    let w = c .before .before .before in
+    let d = w .before .before .before .before .before in
+    waiter-asked (w .set-line2 .ensures)
+    (dropped-asked (d .drop-debt .ensures) (d .before .before .before .before .before .before .pre))
+
+same-length-3 : tie.Need-same-length-3
+same-length-3 c = search needs
+
+returns-3 : tie.Need-returns-3
+returns-3 c = search waited-quiet depth 9
+
+pub wait-spec : {M : Type 1} → statement M
+wait-spec =
+    tie.close
+    (tie.spec
+    line-requires
+    plain-requires
+    same-length
+    returns
+    drop-debt-requires
+    set-line-requires
+    done-requires
+    same-length-2
+    returns-2
+    add-set-line
+    cast-set-line
+    set-line-requires-2
+    add-suspend
+    cast-suspend
+    suspend-requires
+    same-length-3
+    returns-3)

@@ -1,0 +1,2 @@
+-- What the calls that hand over and wait do between their steps.
+pub mod Transfers

@@ -1,0 +1,60 @@
+-- The inner steps of the calls that hand messages over and wait: what they ask, what they do, and who is first.
+use Prim.Native.Nat.{ℕ, _+_, _≤_}
+use mathlib.Core.Path.{_≡_}
+use mathlib.Core.List.{List, []}
+use Rattle.machine.specs.declared.Answer.{Answer}
+use Rattle.machine.specs.Lists.{first}
+use Rattle.machine.specs.State.{State, Place}
+use Rattle.machine.specs.Scheduling.{block}
+use Rattle.machine.specs.Endpoints.{senders, receivers, wakeFrom, dropDebt}
+use Rattle.machine.specs.Results.{Result, accept, blocked}
+use Rattle.machine.specs.Machine.{fire, sendTo, receiveFrom}
+use Rattle.machine.specs.Sound.{Queued}
+use Rattle.layout.specs.Words.{placeCode, firstOf}
+use Rattle.store.specs.Steps.{Tells}
+use Rattle.store.specs.Store.{IsThread}
+use Rattle.debts.specs.Debts.{Alike, firstSender}
+use Rattle.results.specs.Results.{Calling, Performs, answerOf}
+
+-- The running thread t makes a call, and its ownership or note has gone.
+pub record Dropped (t : ℕ) (N : Type 0) (s : State) : Type 0 where
+  pub before : State
+  pub calling : Calling t N before
+  pub is : s ≡ dropDebt t before
+
+-- In a call so far, u waits at endpoint e.
+pub record Takes (u e : ℕ) (s : State) : Type 0 where
+  pub caller : ℕ
+  pub dropped : Dropped caller (e ≤ 63) s
+  pub waits : Queued s u e
+
+-- The link to the first receiver at e.
+abbrev pub firstReceiver : ℕ → State → ℕ
+firstReceiver e s = firstOf (receivers (s .threads) (s .endpoints e .waiters))
+
+-- A place enters the code as its number; r is the link to the first waiter at whatever place it is the number of.
+pub record FirstAt (m : List ℕ) (e code r : ℕ) : Type 0 where
+  pub sends : code ≡ 2 + e → Tells m (Alike e) r (firstSender e)
+  pub receives : code ≡ 66 + e → Tells m (Alike e) r (firstReceiver e)
+
+-- The running thread t blocks at whatever place has this number, and the answer is code 1.
+pub record Suspends (m : List ℕ) (t code badge message : ℕ) (a : Answer) (m′ : List ℕ) : Type 0 where
+  pub performs :
+      (p : Place) → placeCode p ≡ code → Performs m m′ a (IsThread t) (λ s. blocked (block t p badge message s))
+
+-- What becomes of line l.
+abbrev pub firing : ℕ → State → State
+firing l s = fire (s .lines l) l s
+
+-- The message goes to the first receiver, or t waits to send it.
+abbrev pub handing : ℕ → ℕ → ℕ → ℕ → State → Result
+handing t e b m s = sendTo (first (receivers (s .threads) (s .endpoints e .waiters))) t e b m s
+
+-- The first sender's message is taken, or t waits to receive one.
+abbrev pub taking : ℕ → ℕ → State → Result
+taking t e s = receiveFrom (first (senders (s .threads) (s .endpoints e .waiters))) t e s
+
+-- The message of sender u is taken.
+abbrev pub takingFrom : ℕ → ℕ → State → Result
+takingFrom e u s =
+    accept (answerOf 0 0 (s .threads u .badge) (s .threads u .message)) [] (wakeFrom e u 1 0 0 s)

@@ -1,0 +1,189 @@
+// The calls that make endpoints, hand messages over and wait for interrupt lines: 4, 5, 7, 8 and 10. Each is refused
+// with nothing changed, or makes the steps of the machine's call in their order and ends in one choice of who runs.
+ghost use Prim.Native.Nat.{_≤_, _<_, _^_};
+ghost use Rattle.machine.specs.Results.{done as finishing};
+ghost use Rattle.machine.specs.Machine.{createEndpoint, interrupt as interrupting, send as sending};
+ghost use Rattle.machine.specs.Machine.{receive as receiving, wait as waiting};
+ghost use Rattle.store.specs.Steps.{Shown, Does};
+ghost use Rattle.store.specs.Store.{IsThread};
+ghost use Rattle.queues.specs.Queues.{Chooses};
+ghost use Rattle.debts.specs.Debts.{Alike};
+ghost use Rattle.results.specs.Results.{Asked, Calling, Performs};
+ghost use Rattle.transfers.specs.Transfers.{Dropped, Takes, FirstAt, Suspends, firing, handing, taking};
+ghost use Rattle.transfers.specs.Transfers.{takingFrom};
+use machine::Answer;
+
+// The call is done: code 0.
+fn done(tables: &mut [u32]) -> Answer
+    requires { ⌜ Shown (now tables) Chooses ⌝ }
+    ensures { λ r. ⌜ Performs (now (tables .entry)) (now (tables .exit)) r Chooses finishing ⌝ }
+{
+    let answer = results::plain(0);
+    results::accept(tables, answer)
+}
+
+// The running thread t blocks at a place: code 1.
+fn suspend(tables: &mut [u32], t: usize, place: u32, badge: u32, message: u32) -> Answer
+    requires { ⌜ Shown (now tables) (IsThread t) ⌝ }
+    ensures { λ r. ⌜ Suspends (now (tables .entry)) t place badge message r (now (tables .exit)) ⌝ }
+{
+    queues::block(tables, t, place, badge, message);
+    let answer = results::plain(1);
+    results::accept(tables, answer)
+}
+
+// 4: endpoint e, which is absent, is made. An absent one has no waiter and no abort, so only the status changes.
+pub fn create_endpoint(tables: &mut [u32], e: usize) -> Answer
+    requires { ⌜ Shown (now tables) (Asked (e ≤ 63)) ⌝ }
+    ensures { λ r. ⌜ Performs (now (tables .entry)) (now (tables .exit)) r (Asked (e ≤ 63)) (createEndpoint e) ⌝ }
+{
+    let status = store::status(tables, e);
+    if status != 0 {
+        return results::plain(24);
+    }
+    store::set_status(tables, e, 1);
+    done(tables)
+}
+
+// The waiter on line l is woken, or the line is pending.
+fn fire(tables: &mut [u32], l: usize)
+    requires { ⌜ Shown (now tables) (Asked (l ≤ 31)) ⌝ }
+    ensures { λ _. ⌜ Does (now (tables .entry)) (now (tables .exit)) (Asked (l ≤ 31)) (firing l) ⌝ }
+{
+    let line = store::line(tables, l);
+    if line == 0 {
+        store::set_line(tables, l, 1);
+        return;
+    }
+    if line == 1 {
+        return;
+    }
+    store::set_line(tables, l, 0);
+    queues::wake(tables, (line - 2) as usize, 5, 0, 0);
+}
+
+// 5: an interrupt on line l.
+pub fn interrupt(tables: &mut [u32], l: usize) -> Answer
+    requires { ⌜ Shown (now tables) (Asked (l ≤ 31)) ⌝ }
+    ensures { λ r. ⌜ Performs (now (tables .entry)) (now (tables .exit)) r (Asked (l ≤ 31)) (interrupting l) ⌝ }
+{
+    fire(tables, l);
+    done(tables)
+}
+
+// The link to the first waiter at endpoint e if it is at this place, sending or receiving; otherwise 0, and no waiter
+// is, since all are alike.
+fn first_at(tables: &[u32], e: usize, place: u32) -> u32
+    requires { ⌜ Shown (now tables) (Alike e) ⌝ }
+    ensures { λ r. ⌜ FirstAt (now (tables .entry)) e place r ⌝ }
+{
+    let link = links::first(tables, 256 + e);
+    if link == 0 {
+        return 0;
+    }
+    let at = store::place(tables, (link - 1) as usize);
+    if at != place {
+        return 0;
+    }
+    link
+}
+
+// The message goes to the first receiver at endpoint e; without one the caller t waits there to send it.
+fn hand(tables: &mut [u32], t: usize, e: usize, badge: u32, message: u32) -> Answer
+    requires { ⌜ Shown (now tables) (Dropped t ((e ≤ 63) × (badge < 2 ^ 28) × (message < 2 ^ 28))) ⌝ }
+    ensures { λ r. ⌜ Performs (now (tables .entry)) (now (tables .exit)) r
+        (Dropped t ((e ≤ 63) × (badge < 2 ^ 28) × (message < 2 ^ 28))) (handing t e badge message) ⌝ }
+{
+    let link = first_at(tables, e, (66 + e) as u32);
+    if link == 0 {
+        queues::join_endpoint(tables, t, e);
+        return suspend(tables, t, (2 + e) as u32, badge, message);
+    }
+    queues::wake_from(tables, e, (link - 1) as usize, 2, badge, message);
+    done(tables)
+}
+
+// 7: the running thread t sends to endpoint e.
+pub fn send(tables: &mut [u32], t: usize, e: usize, badge: u32, message: u32) -> Answer
+    requires { ⌜ Shown (now tables) (Calling t ((e ≤ 63) × (badge < 2 ^ 28) × (message < 2 ^ 28))) ⌝ }
+    ensures { λ r. ⌜ Performs (now (tables .entry)) (now (tables .exit)) r
+        (Calling t ((e ≤ 63) × (badge < 2 ^ 28) × (message < 2 ^ 28))) (sending t e badge message) ⌝ }
+{
+    let status = store::status(tables, e);
+    if status == 0 {
+        return results::plain(23);
+    }
+    if status == 2 {
+        return results::plain(25);
+    }
+    let under = debts::under_abort(tables, e, badge);
+    if under {
+        return results::plain(26);
+    }
+    debts::drop_debt(tables, t);
+    hand(tables, t, e, badge, message)
+}
+
+// The message of sender u, who waits at endpoint e, is taken; its badge and message are read before it is woken.
+fn take_from(tables: &mut [u32], e: usize, u: usize) -> Answer
+    requires { ⌜ Shown (now tables) (Takes u e) ⌝ }
+    ensures { λ r. ⌜ Performs (now (tables .entry)) (now (tables .exit)) r (Takes u e) (takingFrom e u) ⌝ }
+{
+    let badge = store::badge(tables, u);
+    let message = store::message(tables, u);
+    queues::wake_from(tables, e, u, 1, 0, 0);
+    let answer = Answer {
+        code: 0,
+        count: 0,
+        badge,
+        message,
+    };
+    results::accept(tables, answer)
+}
+
+// The message of the first sender at endpoint e is taken; without one the caller t waits there to receive.
+fn take(tables: &mut [u32], t: usize, e: usize) -> Answer
+    requires { ⌜ Shown (now tables) (Dropped t (e ≤ 63)) ⌝ }
+    ensures { λ r. ⌜ Performs (now (tables .entry)) (now (tables .exit)) r (Dropped t (e ≤ 63)) (taking t e) ⌝ }
+{
+    let link = first_at(tables, e, (2 + e) as u32);
+    if link == 0 {
+        queues::join_endpoint(tables, t, e);
+        return suspend(tables, t, (66 + e) as u32, 0, 0);
+    }
+    take_from(tables, e, (link - 1) as usize)
+}
+
+// 8: the running thread t receives from endpoint e.
+pub fn receive(tables: &mut [u32], t: usize, e: usize) -> Answer
+    requires { ⌜ Shown (now tables) (Calling t (e ≤ 63)) ⌝ }
+    ensures { λ r. ⌜ Performs (now (tables .entry)) (now (tables .exit)) r (Calling t (e ≤ 63)) (receiving t e) ⌝ }
+{
+    let status = store::status(tables, e);
+    if status == 0 {
+        return results::plain(23);
+    }
+    if status == 2 {
+        return results::plain(25);
+    }
+    debts::drop_debt(tables, t);
+    take(tables, t, e)
+}
+
+// 10: the running thread t waits on line l; a pending interrupt is taken at once.
+pub fn wait(tables: &mut [u32], t: usize, l: usize) -> Answer
+    requires { ⌜ Shown (now tables) (Calling t (l ≤ 31)) ⌝ }
+    ensures { λ r. ⌜ Performs (now (tables .entry)) (now (tables .exit)) r (Calling t (l ≤ 31)) (waiting t l) ⌝ }
+{
+    let line = store::line(tables, l);
+    if 1 < line {
+        return results::plain(27);
+    }
+    debts::drop_debt(tables, t);
+    if line == 1 {
+        store::set_line(tables, l, 0);
+        return done(tables);
+    }
+    store::set_line(tables, l, (2 + t) as u32);
+    suspend(tables, t, (130 + l) as u32, 0, 0)
+}
