@@ -3,7 +3,7 @@ ghost use Prim.Native.Nat.{_+_, _*_, _/_, _≤_, _<_};
 ghost use mathlib.Core.Path.{_≡_};
 ghost use lib.ListN.{length};
 ghost use Rattle.io.specs.Counts.{Counts};
-ghost use Rattle.trace.specs.Words.{littleEndian};
+ghost use Rattle.trace.specs.Words.{littleEndian, WordsOf, MovedFrom};
 
 // The bytes of the longest call: with so many the reader need not wait for more.
 const ENOUGH: usize = 12;
@@ -65,6 +65,7 @@ pub fn words(bytes: &[u8], words: &mut [u32]) -> usize
     requires { ⌜ length (now bytes) ≤ length (now words) * 4 ⌝ }
     ensures { λ r. ⌜ r ≡ length (now (bytes .entry)) / 4 ⌝ }
     ensures { λ r. ⌜ Counts r (now (words .exit)) ⌝ }
+    ensures { λ r. ⌜ WordsOf (now (bytes .entry)) (now (words .exit)) r ⌝ }
 {
     let count = bytes.len() / 4;
     let mut i = 0;
@@ -79,6 +80,7 @@ pub fn words(bytes: &[u8], words: &mut [u32]) -> usize
 pub fn keep(bytes: &mut [u8], from: usize, held: usize) -> usize
     requires { ⌜ (from ≤ held) × (held ≤ length (now bytes)) ⌝ }
     ensures { λ r. ⌜ r + from ≡ held ⌝ }
+    ensures { λ r. ⌜ MovedFrom from (now (bytes .entry)) (now (bytes .exit)) r ⌝ }
 {
     let left = held - from;
     let mut i = 0;

@@ -4,7 +4,7 @@ ghost use mathlib.Core.Path.{_≡_};
 ghost use mathlib.Core.Bool.{true, false};
 ghost use lib.ListN.{length};
 ghost use Rattle.io.specs.Counts.{Counts};
-ghost use Rattle.trace.specs.Turns.{bit};
+ghost use Rattle.trace.specs.Turns.{bit, oddCode, lastCode};
 use journal::types::Read;
 use listing::Running;
 use machine::Answer;
@@ -46,12 +46,21 @@ fn add(out: &mut [u8], used: usize, index: u64, call: u32, answer: Answer, who: 
     used + listing::line(&mut out[used..], index, call, answer, who)
 }
 
-// What the last line says where no call was read: the reader's 18 or 19, or 18 for odd bytes; 0 if there is none.
-fn last_code(reading: Read, odd: usize) -> u32 {
-    if let Read::Refused { code, at: _ } = reading {
-        return code;
-    }
+fn odd_code(odd: usize) -> u32
+    ensures { λ r. ⌜ r ≡ oddCode odd ⌝ }
+{
     if odd == 0 { 0 } else { 18 }
+}
+
+// What the last line says where no call was read: the reader's 18 or 19, or 18 for odd bytes; 0 if there is none.
+fn last_code(reading: Read, odd: usize) -> u32
+    ensures { λ r. ⌜ r ≡ lastCode reading odd ⌝ }
+{
+    match reading {
+        Read::Refused { code, at: _ } => code,
+        Read::Ended => odd_code(odd),
+        Read::Found { call: _, next: _ } => 0,
+    }
 }
 
 // How many bytes the lines are with the last one, if there is one.
@@ -100,6 +109,7 @@ fn step(
     let number = machine::number(call);
     Cursor {
         next: from + next,
+        // No run makes so many calls that it wraps.
         index: std::num::wrapping_add_u64(at.index, 1),
         used: add(out, at.used, at.index, number, answer, running(tables)),
         going: true,
