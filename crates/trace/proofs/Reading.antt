@@ -1,17 +1,17 @@
 -- A call that was read has words, and they stand in the journal: so a listing that goes on has fewer words left.
 -- Assumes nothing.
 use Prim.Native.Nat.{ℕ, _+_, _-_, _≤_, _<_}
-use mathlib.Core.Path.{_≡_, refl, ap, sym, _∙_}
+use mathlib.Core.Path.{_≡_, ap}
 use mathlib.Core.Bool.{Bool, true, false}
 use mathlib.Core.List.{List}
 use native.Mathlib.Omega.{arith}
-use lib.ListN.{length, take, drop, length-take, length-drop}
+use lib.ListN.{length, take, drop, length-take}
 use Rattle.machine.specs.declared.Call.{Call}
 use Rattle.machine.specs.declared.Call.the-variants.{CreateThread, DestroyThread, SetPriority, CreateEndpoint}
 use Rattle.machine.specs.declared.Call.the-variants.{Interrupt, Tick, Send, Receive, Yield, Wait, Delete, Abort}
 use Rattle.journal.specs.declared.types.Read.the-variants.{Found}
 use Rattle.journal.specs.Words.{wordsOf, readAt}
-use Rattle.journal.proofs.RoundTrip.{WasRead, writes-what-was-read}
+use Rattle.journal.proofs.RoundTrip.{writes-what-was-read}
 use Rattle.io.specs.Counts.{Counts}
 use Rattle.trace.specs.Turns.{bit}
 

@@ -2,7 +2,6 @@
 -- Assumes nothing.
 use Prim.Native.Nat.{ℕ, zero, suc}
 use mathlib.Core.Bool.{Bool, true, false}
-use Rattle.machine.specs.declared.Call.{Call}
 use Rattle.journal.specs.declared.types.Read.{Read}
 use Rattle.journal.specs.declared.types.Read.the-variants.{Found, Refused, Ended}
 

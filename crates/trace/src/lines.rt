@@ -1,7 +1,6 @@
 // The lines of the calls that words hold.
 ghost use Prim.Native.Nat.{_+_, _≤_};
 ghost use mathlib.Core.Path.{_≡_};
-ghost use mathlib.Core.Bool.{true, false};
 ghost use lib.ListN.{length};
 ghost use Rattle.io.specs.Counts.{Counts};
 ghost use Rattle.trace.specs.Turns.{bit, oddCode, lastCode};
