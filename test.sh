@@ -16,14 +16,17 @@ need cargo "Rust (1.75 or newer)"
 passed=0
 failed=0
 log=$(mktemp)
-trap 'rm -f "$log"' EXIT
+trap 'rm -f "$log" "$log.code"' EXIT
 
 # Runs a command whose last line is '... N passed, M failed' and adds the two numbers to the totals. A command that
-# fails without such a line counts as one failure.
+# fails and names no failure counts as one.
 counted() {
-    { "$@" 2>&1 || true; } | tee "$log"
+    { code=0; "$@" 2>&1 || code=$?; echo "$code" >"$log.code"; } | tee "$log"
     numbers=$(sed -n 's/^\(.*: \)\{0,1\}\([0-9][0-9]*\) passed, \([0-9][0-9]*\) failed$/\2 \3/p' "$log" | tail -n 1)
-    numbers=${numbers:-0 1}
+    numbers=${numbers:-0 0}
+    if [ "$(cat "$log.code")" -ne 0 ] && [ "${numbers#* }" -eq 0 ]; then
+        numbers="${numbers% *} 1"
+    fi
     passed=$((passed + ${numbers% *}))
     failed=$((failed + ${numbers#* }))
 }
