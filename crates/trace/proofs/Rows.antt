@@ -36,9 +36,12 @@ rows-taken :
 unfolding takenFrom rowsFrom
 rows-taken zero r i journal s x S k = refl
 rows-taken (suc n) (Found c next) i journal s x S k =
-    rw (called-image s x c S k, runs-image (step s c .state),
-    rows-taken n (readAt journal next) (suc i) journal (step s c .state) zeros (step-sound s c S)
-    (length-replicate {A = ℕ} 256 0))
+    rw (
+      called-image s x c S k,
+      runs-image (step s c .state),
+      rows-taken n (readAt journal next) (suc i) journal (step s c .state) zeros (step-sound s c S)
+          (length-replicate {A = ℕ} 256 0),
+    )
 rows-taken (suc n) (Refused code at) i journal s x S k = rw (runs-image s)
 rows-taken (suc n) Ended i journal s x S k = refl
 
