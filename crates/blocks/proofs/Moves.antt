@@ -1,15 +1,17 @@
 -- A block out of the tables and into them: the eight words are those of the thread, and the four steps make the thread.
 -- Assumes nothing.
-use Prim.Native.Nat.{ℕ}
-use mathlib.Core.Path.{refl, sym, ap, subst}
+use Prim.Native.Nat.{ℕ, _-_}
+use mathlib.Core.Path.{_≡_, refl, sym, _∙_, ap, subst}
 use mathlib.Core.List.{List}
-use Rattle.machine.specs.State.{Thread, setThread}
+use Rattle.machine.specs.State.{State, Thread, setThread, withTicks}
+use Rattle.layout.specs.Shows.{Shows}
 use Rattle.store.specs.Steps.{Shown, Does, Tells}
 use Rattle.store.specs.Store.{IsThread, placing, prioritising, ticking, Places, Owes}
 use Rattle.store.specs.Readings.{placeIn, priorityIn, ticksIn, outcomeIn, badgeIn, messageIn, owesIn, noteIn}
 use Rattle.store.proofs.Composed.{still, remade}
 use Rattle.blocks.specs.declared.Block.{Block}
-use Rattle.blocks.specs.Blocks.{blockOf, Loads, IsBlock, Stores}
+use Rattle.blocks.specs.Blocks.{refilled, tickedBlock, blockOf, Loads, IsBlock, Stores}
+use Rattle.blocks.proofs.Ticks.{with-ticks}
 
 pub loaded :
     {m : List ℕ} {t : ℕ} (b : Block) → Tells m (IsThread t) (b .place) (placeIn t)
@@ -59,3 +61,30 @@ stored {t} {m} {n₁} {n₂} {n₃} {n₄} b P Q T D =
     go x g =
         remade t (x .place) (x .outcome) (x .badge) (x .message) (x .priority) (x .ticks) (x .debt)
         (g .0 .does (x .place) refl) (g .1) (g .2) (g .3 .does (x .debt) refl refl)
+
+-- The block of a thread, after a tick, is that of the thread with the ticks that are left.
+module _ {t : ℕ} {m : List ℕ} {b : Block} (L : Loads m t b) where
+  pub ticks-told : Tells m (IsThread t) (b .ticks) (ticksIn t)
+  ticks-told = record { tells = λ s M h. ap (λ (y : Block). y .ticks) (L .loads s M h) }
+
+  abbrev left : ℕ
+  left = refilled (b .ticks - 1)
+
+  is-ticked : (s : State) → Shows m s → IsThread t s → blockOf (withTicks left (s .threads t)) ≡ tickedBlock b
+  is-ticked s M h = ap (λ (y : Block). with-ticks y left) (sym (L .loads s M h))
+
+  pub ticked-block : {r : Block} → r ≡ tickedBlock b → Shown m (IsThread t) → Shown m (IsThread t) × IsBlock r
+  ticked-block e S = (
+    S,
+    record {
+      thread = withTicks left (S .state .threads t);
+      is = is-ticked (S .state) (S .shows) (S .holds) ∙ sym e;
+    },
+  )
+
+  pub ticked-thread :
+      {n : List ℕ} {r : Block} → r ≡ tickedBlock b → Stores m t r n → Does m n (IsThread t) (ticking t left)
+  ticked-thread e S =
+      record {
+        shows = λ s M h. S .does (withTicks left (s .threads t)) (is-ticked s M h ∙ sym e) .shows s M h;
+      }

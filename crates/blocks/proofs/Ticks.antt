@@ -7,7 +7,7 @@ use Rattle.blocks.specs.declared.Block.{Block}
 use Rattle.blocks.specs.Blocks.{refilled, tickedBlock}
 
 -- The block with other ticks.
-abbrev with-ticks : Block → ℕ → Block
+abbrev pub with-ticks : Block → ℕ → Block
 with-ticks b n =
     record {
       place = b .place;

@@ -17,7 +17,7 @@ pub struct Block {
 }
 
 // The block with a tick less; at 0 it has 5 again.
-pub fn ticked(b: Block) -> Block
+fn ticked(b: Block) -> Block
     ensures { λ r. ⌜ r ≡ tickedBlock b ⌝ }
 {
     let ticks = if b.ticks < 2 { 5 } else { b.ticks - 1 };
@@ -41,10 +41,10 @@ pub fn tick(b: &mut Block)
 }
 
 // The block is lent to the tick. Whoever calls this holds no reference to a struct.
-pub fn lend_to_tick(b: Block) -> Block
-    ensures { λ r. ⌜ r ≡ tickedBlock b ⌝ }
+pub fn lend_to_tick(block: Block) -> Block
+    ensures { λ r. ⌜ r ≡ tickedBlock block ⌝ }
 {
-    let mut lent = b;
+    let mut lent = block;
     tick(&mut lent);
     lent
 }

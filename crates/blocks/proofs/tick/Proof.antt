@@ -115,7 +115,8 @@ module _ {M : Type 1} (𝓤 : URA M) (H : Heap 𝓤) (A : Atoms 𝓤) (W : Given
         calls-at ! fm (Ticked 𝓤 H A at-mem run) known to-ticked
         (and-then ! (load ! (from ! (stop !)) (look ! 5 refl)) (no-more !)) (λ v.
         use1 W (later (some (λ (r : Block).
-        (‵ ftrue ⊛ ‵ (T.the-row .own r (v ∷ []))) ⊛ raw (Ensured 𝓤 H A at-mem run h r)))) (id⊢ 𝓤 _) $ await ! tt $ pick ! (λ r. split ! $ move ! (1 ∷ []) $
+        (‵ ftrue ⊛ ‵ (T.the-row .own r (v ∷ []))) ⊛ raw (Ensured 𝓤 H A at-mem run h r)))) (id⊢ 𝓤 _) $
+        await ! tt $ pick ! (λ r. split ! $ move ! (1 ∷ []) $
         use1 W (raw (fact 𝓤 (r ≡ tickedBlock h))) (ticked-of 𝓤 H A at-mem run h r) $
         heard ! (r ≡ tickedBlock h) (λ e. split ! $ drop ! $
         peeks ! T.the-row (Is T.the-row) (shows 𝓤 H A T.the-row) r (v ∷ []) (λ is.
