@@ -11,6 +11,7 @@ use Rattle.machine.specs.Lists.{pick}
 use Rattle.machine.specs.State.{State}
 use Rattle.machine.specs.Results.{plain}
 use Rattle.machine.specs.Machine.{step}
+use Rattle.layout.specs.Addresses.{word, at, running}
 use Rattle.layout.specs.Words.{image}
 use Rattle.layout.specs.Tables.{stateOf}
 use Rattle.tables.specs.Entries.{zeros}
@@ -32,3 +33,7 @@ unfoldable pub called : List ℕ → List ℕ → Call → Called
 called m scratch c =
     pick (eqb (length m) 4096 && eqb (length scratch) 256) (taken (stateOf m) m c)
     (record { answer = plain 16; tables = m; scratch = scratch })
+
+-- The link to the thread that runs: t + 1 for thread t, 0 for nobody, and 0 for tables not of 4,096 words.
+unfoldable pub runningLink : List ℕ → ℕ
+runningLink m = pick (eqb (length m) 4096) (word m (at running)) 0

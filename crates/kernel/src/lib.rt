@@ -1,1 +1,104 @@
 // The core: takes a call on the lent tables.
+ghost use mathlib.Core.Path.{_≡_};
+ghost use Rattle.machine.specs.Machine.{perform};
+ghost use Rattle.machine.specs.Sound.{Sound};
+ghost use Rattle.store.specs.Steps.{Shown};
+ghost use Rattle.results.specs.Results.{Asked, Calling, Performs};
+ghost use Rattle.kernel.specs.Entry.{Called, called, runningLink};
+ghost use Rattle.kernel.specs.Steps.{Ranged, Hosted, stepping};
+use machine::Answer;
+use machine::Call;
+
+// A call of the host; one that needs a running thread is refused by 20.
+fn by_host(tables: &mut [u32], c: Call) -> Answer
+    requires { ⌜ Shown (now tables) (Hosted c) ⌝ }
+    ensures { λ r. ⌜ Performs (now (tables .entry)) (now (tables .exit)) r (Hosted c) (perform c) ⌝ }
+{
+    match c {
+        Call::CreateThread { thread, priority } => {
+            threads::create_thread(tables, thread as usize, priority)
+        }
+        Call::DestroyThread { thread } => threads::destroy_thread(tables, thread as usize),
+        Call::SetPriority { thread, priority } => {
+            threads::set_priority(tables, thread as usize, priority)
+        }
+        Call::CreateEndpoint { endpoint } => transfers::create_endpoint(tables, endpoint as usize),
+        Call::Interrupt { line } => transfers::interrupt(tables, line as usize),
+        Call::Tick => threads::tick(tables),
+        _ => results::plain(20),
+    }
+}
+
+// A call while thread t runs.
+fn by_thread(tables: &mut [u32], t: usize, c: Call) -> Answer
+    requires { ⌜ Shown (now tables) (Calling t (Ranged c)) ⌝ }
+    ensures { λ r. ⌜ Performs (now (tables .entry)) (now (tables .exit)) r (Calling t (Ranged c)) (perform c) ⌝ }
+{
+    match c {
+        Call::Send {
+            endpoint,
+            badge,
+            message,
+        } => transfers::send(tables, t, endpoint as usize, badge, message),
+        Call::Receive { endpoint } => transfers::receive(tables, t, endpoint as usize),
+        Call::Yield => threads::yield_running(tables, t),
+        Call::Wait { line } => transfers::wait(tables, t, line as usize),
+        Call::Delete {
+            endpoint,
+            allowance,
+        } => deletes::delete(tables, t, endpoint as usize, allowance),
+        Call::Abort {
+            endpoint,
+            allowance,
+            badge,
+        } => aborts::abort(tables, t, endpoint as usize, allowance, badge),
+        _ => by_host(tables, c),
+    }
+}
+
+// A call whose numbers are in range: the running thread makes 7 to 12.
+fn perform(tables: &mut [u32], c: Call) -> Answer
+    requires { ⌜ Shown (now tables) (Asked (Ranged c)) ⌝ }
+    ensures { λ r. ⌜ Performs (now (tables .entry)) (now (tables .exit)) r (Asked (Ranged c)) (perform c) ⌝ }
+{
+    let link = store::running(tables);
+    if link == 0 {
+        return by_host(tables, c);
+    }
+    by_thread(tables, (link - 1) as usize, c)
+}
+
+// The machine's step on tables that show a sound state.
+fn step(tables: &mut [u32], c: Call) -> Answer
+    requires { ⌜ Shown (now tables) Sound ⌝ }
+    ensures { λ r. ⌜ Performs (now (tables .entry)) (now (tables .exit)) r Sound (stepping c) ⌝ }
+{
+    let fits = machine::in_range(c);
+    if !fits {
+        return results::plain(19);
+    }
+    perform(tables, c)
+}
+
+// Takes a call on tables and scratch of any length and content.
+pub fn call(tables: &mut [u32], scratch: &mut [u32], c: Call) -> Answer
+    ensures { λ r. ⌜ _≡_ {A = Called}
+        (record { answer = r; tables = now (tables .exit); scratch = now (scratch .exit) })
+        (called (now (tables .entry)) (now (scratch .entry)) c) ⌝ }
+{
+    let code = tables::check(tables, scratch);
+    if code != 0 {
+        return results::plain(code);
+    }
+    step(tables, c)
+}
+
+// The link to the thread that runs: t + 1 for thread t, 0 for nobody.
+pub fn running(tables: &[u32]) -> u32
+    ensures { λ r. ⌜ r ≡ runningLink (now (tables .entry)) ⌝ }
+{
+    if tables.len() != 4096 {
+        return 0;
+    }
+    words::get(tables, words::running_at())
+}

@@ -1,0 +1,49 @@
+-- The check first; the step where it accepts. Assumes nothing.
+use Rattle.kernel.proofs.Entry.{check-refuses, check-shown, step-taken}
+use borrow.Author.Needs.{needs}
+use Rattle.kernel.proofs.call.Statement.{statement}
+use Rattle.kernel.proofs.call.Tie as tie
+
+check-requires : tie.Need-check-requires
+check-requires c κs = search needs
+
+plain-requires : tie.Need-plain-requires
+plain-requires c κs = search needs
+
+same-length : tie.Need-same-length
+same-length c = search needs
+
+same-length-2 : tie.Need-same-length-2
+same-length-2 c = search needs
+
+returns : tie.Need-returns
+returns c =
+    check-refuses _ _ (c .before .before .before .before .check .ensures) _ (c .before .if1 .taken) (c .plain .ensures)
+
+step-requires : tie.Need-step-requires
+step-requires c κs =
+    check-shown _ _ (c .before .before .before .before .check .ensures) (c .before .if1 .left)
+
+same-length-3 : tie.Need-same-length-3
+same-length-3 c = search needs
+
+same-length-4 : tie.Need-same-length-4
+same-length-4 c = search needs
+
+returns-2 : tie.Need-returns-2
+returns-2 c =
+    step-taken _ _ (c .before .before .before .before .before .before .before .check .ensures) _ (c .before .before .before .before .if1 .left) (c .before .before .step .ensures)
+
+pub call-spec : {M : Type 1} → statement M
+call-spec =
+    tie.close
+    (tie.spec
+    check-requires
+    plain-requires
+    same-length
+    same-length-2
+    returns
+    step-requires
+    same-length-3
+    same-length-4
+    returns-2)

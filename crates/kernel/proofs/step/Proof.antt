@@ -1,0 +1,32 @@
+-- The range is tried before anything else. Assumes nothing.
+use borrow.Author.Tests.{not-true, not-false}
+use Rattle.kernel.proofs.Cases.{out-of-range, range-asked, range-done}
+use borrow.Author.Needs.{needs}
+use Rattle.kernel.proofs.step.Statement.{statement}
+use Rattle.kernel.proofs.step.Tie as tie
+
+in-range-requires : tie.Need-in-range-requires
+in-range-requires c κs = search needs
+
+plain-requires : tie.Need-plain-requires
+plain-requires c κs = search needs
+
+returns : tie.Need-returns
+returns c =
+    out-of-range (c .before .before .before .before .args .c) (c .before .before .in-range .ensures) (not-true _ (c .before .if1 .taken)) (c .plain .ensures)
+
+perform-requires : tie.Need-perform-requires
+perform-requires c κs =
+    range-asked (c .before .before .before .before .args .c) (c .before .before .in-range .ensures) (not-false _ (c .before .if1 .left)) (c .before .before .before .before .pre)
+
+same-length : tie.Need-same-length
+same-length c = search needs
+
+returns-2 : tie.Need-returns-2
+returns-2 c =
+    range-done (c .before .before .before .before .before .before .before .args .c) (c .before .before .before .before .before .in-range .ensures) (not-false _ (c .before .before .before .before .if1 .left)) (c .before .before .perform .ensures)
+
+pub step-spec : {M : Type 1} → statement M
+step-spec =
+    tie.close
+    (tie.spec in-range-requires plain-requires returns perform-requires same-length returns-2)
