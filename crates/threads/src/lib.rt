@@ -130,18 +130,19 @@ pub fn set_priority(tables: &mut [u32], t: usize, p: u32) -> Answer
     accepted(tables)
 }
 
-// The running thread u has a tick less; at the last it has 5 again and goes to its tail.
+// The running thread u has a tick less; at the last it has 5 again and goes to its tail. The tick changes the thread's
+// block where it is lent.
 fn take_tick(tables: &mut [u32], u: usize)
     requires { ⌜ Shown (now tables) (Calling u (Unit {0})) ⌝ }
     ensures { λ _. ⌜ Does (now (tables .entry)) (now (tables .exit)) (Calling u (Unit {0})) (tickFor (some u)) ⌝ }
 {
-    let left = store::ticks(tables, u);
-    if left == 1 {
-        store::set_ticks(tables, u, 5);
-        queues::stand_down(tables, u);
+    let block = blocks::load(tables, u);
+    let after = blocks::lend_to_tick(block);
+    blocks::store(tables, u, after);
+    if block.ticks != 1 {
         return;
     }
-    store::set_ticks(tables, u, left - 1);
+    queues::stand_down(tables, u);
 }
 
 // The thread that runs, if one does, has a tick less.
