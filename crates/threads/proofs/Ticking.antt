@@ -12,7 +12,8 @@ use Rattle.machine.specs.Endpoints.{dropDebt}
 use Rattle.machine.specs.Results.{done}
 use Rattle.machine.specs.Machine.{leaveTicks, tickFor, tick, yield}
 use Rattle.machine.proofs.Lists.{put-same}
-use Rattle.machine.proofs.Mid.{Mid, sound-mid}
+use Rattle.machine.specs.Mid.{Mid}
+use Rattle.machine.proofs.Mid.{sound-mid}
 use Rattle.machine.proofs.Aborting.{running-present}
 use Rattle.machine.proofs.Debts.{mid-dropDebt, dropDebt-drops}
 use Rattle.layout.specs.Words.{linkOf, queuesOf}

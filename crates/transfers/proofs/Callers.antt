@@ -8,7 +8,8 @@ use Rattle.machine.specs.declared.Answer.{Answer}
 use Rattle.machine.specs.State.{State}
 use Rattle.machine.specs.Endpoints.{dropDebt}
 use Rattle.machine.specs.Results.{Result}
-use Rattle.machine.proofs.Mid.{Mid, sound-mid}
+use Rattle.machine.specs.Mid.{Mid}
+use Rattle.machine.proofs.Mid.{sound-mid}
 use Rattle.machine.proofs.Debts.{mid-dropDebt, dropDebt-drops}
 use Rattle.store.specs.Steps.{Shown, Does}
 use Rattle.debts.specs.Debts.{Debtor}

@@ -10,7 +10,8 @@ use Rattle.machine.specs.Lists.{Mem}
 use Rattle.machine.specs.State.{State, Status, missing, live, closing, Endpoint}
 use Rattle.machine.specs.Results.{plain, done}
 use Rattle.machine.specs.Machine.{createAt, createEndpoint}
-use Rattle.machine.proofs.Mid.{Mid, sound-mid}
+use Rattle.machine.specs.Mid.{Mid}
+use Rattle.machine.proofs.Mid.{sound-mid}
 use Rattle.machine.proofs.Lists.{put-all}
 use Rattle.machine.proofs.Sites.{not-at}
 use Rattle.machine.proofs.Debts.{live-present}

@@ -9,7 +9,8 @@ use Rattle.machine.specs.State.{State, Line, quiet, pending, awaited, setLine}
 use Rattle.machine.specs.Scheduling.{wake}
 use Rattle.machine.specs.Results.{done}
 use Rattle.machine.specs.Machine.{fire, interrupt}
-use Rattle.machine.proofs.Mid.{Mid, sound-mid}
+use Rattle.machine.specs.Mid.{Mid}
+use Rattle.machine.proofs.Mid.{sound-mid}
 use Rattle.machine.proofs.Waking.{mid-wakeLine}
 use Rattle.layout.specs.Words.{lineCode, queuesOf}
 use Rattle.layout.specs.Shows.{Shows}
