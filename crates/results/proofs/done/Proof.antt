@@ -1,10 +1,10 @@
 -- Code 0 is the answer, and somebody is chosen.
 -- Assumes nothing.
-use Rattle.transfers.proofs.Finishing.{answered}
+use Rattle.results.proofs.Ends.{answered}
 use Rattle.machine.specs.Results.{plain}
 use borrow.Author.Needs.{needs}
-use Rattle.transfers.proofs.done.Statement.{statement}
-use Rattle.transfers.proofs.done.Tie as tie
+use Rattle.results.proofs.done.Statement.{statement}
+use Rattle.results.proofs.done.Tie as tie
 
 plain-requires : tie.Need-plain-requires
 plain-requires c κs = search needs
