@@ -1,7 +1,7 @@
 #!/bin/sh
 # Runs all tests: the second machine's own; then every crate is proved from nothing, every must-fail edit is tried and
-# every program is run; then the journals are listed. The last line is 'N passed, M failed'; the exit status is 0 only
-# where nothing failed.
+# every program is run; then the journals are listed, by the program and by the host in C, and the library is tested
+# from Rust. The last line is 'N passed, M failed'; the exit status is 0 only where nothing failed.
 set -eu
 cd "$(dirname "$0")"
 need() {
@@ -12,6 +12,7 @@ need() {
 }
 need rt "the Rattle kit (rattle-kit-5b or newer)"
 need cargo "Rust (1.75 or newer)"
+need cc "a C compiler"
 
 passed=0
 failed=0
@@ -34,5 +35,6 @@ counted() {
 CARGO_TARGET_DIR="$PWD/target/second" cargo test --offline --quiet --manifest-path tests/second/Cargo.toml
 counted rt ci
 counted sh tests/journals.sh target/bin/trace
+counted sh tests/c.sh
 echo "$passed passed, $failed failed"
 test "$failed" -eq 0
