@@ -49,14 +49,14 @@ module _ {m n : List ℕ} {e a c : ℕ} (R : Removes m e a c n) where
   module _ {r : ℕ} (F : First n (256 + e) r) where
     -- Somebody is left.
     pub broken-off :
-        {b : Answer} {o : List ℕ} → (r ≡ 0 → ⊥) → Accepts n (counted 2 c) b Chooses o
+        {b k : Answer} {o : List ℕ} → (r ≡ 0 → ⊥) → k ≡ counted 2 c → Accepts n k b Chooses o
         → Performs m o b (Closes e) (deleteFrom e a)
     unfolding deleteFrom deleted
-    broken-off {b} {o} z A =
+    broken-off {o = o} z q A =
         record {
           answers = λ s M C.
               A .performs [] .answers (removal a e s .state) (R .shows s M C) (mid-chooses (after s C .mid))
-              ∙ ap (counted 2) (R .counts s M C) ∙ sym (ap (λ (x : Result). x .answer) (whole s M C));
+              ∙ q ∙ ap (counted 2) (R .counts s M C) ∙ sym (ap (λ (x : Result). x .answer) (whole s M C));
           shows = λ s M C.
               subst (λ (x : Result). Shows o (x .state)) (sym (whole s M C))
               (A .performs [] .shows (removal a e s .state) (R .shows s M C) (mid-chooses (after s C .mid)));
@@ -91,15 +91,15 @@ module _ {m n : List ℕ} {e a c : ℕ} (R : Removes m e a c n) where
           }
 
       pub deleted-all :
-          {b : Answer} {o′ : List ℕ} → Accepts o (counted 0 c) b Chooses o′
+          {b k : Answer} {o′ : List ℕ} → k ≡ counted 0 c → Accepts o k b Chooses o′
           → Performs m o′ b (Closes e) (deleteFrom e a)
       unfolding deleteFrom deleted
-      deleted-all {b} {o′} A =
+      deleted-all {o′ = o′} q A =
           record {
             answers = λ s M C.
                 A .performs [] .answers (setEndpoint e missingEndpoint (removal a e s .state)) (gone s M C)
                 (chooses s M C)
-                ∙ ap (counted 0) (R .counts s M C) ∙ sym (ap (λ (x : Result). x .answer) (whole s M C));
+                ∙ q ∙ ap (counted 0) (R .counts s M C) ∙ sym (ap (λ (x : Result). x .answer) (whole s M C));
             shows = λ s M C.
                 subst (λ (x : Result). Shows o′ (x .state)) (sym (whole s M C))
                 (A .performs [] .shows (setEndpoint e missingEndpoint (removal a e s .state)) (gone s M C)

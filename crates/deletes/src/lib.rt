@@ -34,26 +34,10 @@ fn delete_from(tables: &mut [u32], e: usize, allowance: u32) -> Answer
     let count = remove(tables, e, allowance);
     let first = links::first(tables, 256 + e);
     if first != 0 {
-        return results::accept(
-            tables,
-            Answer {
-                code: 2,
-                count,
-                badge: 0,
-                message: 0,
-            },
-        );
+        return results::accept(tables, results::counted(2, count));
     }
     store::set_status(tables, e, 0);
-    results::accept(
-        tables,
-        Answer {
-            code: 0,
-            count,
-            badge: 0,
-            message: 0,
-        },
-    )
+    results::accept(tables, results::counted(0, count))
 }
 
 // 11: thread t deletes endpoint e, removing at most as many waiters as the allowance lets.

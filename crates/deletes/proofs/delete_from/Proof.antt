@@ -14,6 +14,9 @@ add-first c = search needs
 first-requires : tie.Need-first-requires
 first-requires c κs = search needs
 
+counted-requires : tie.Need-counted-requires
+counted-requires c κs = search needs
+
 accept-requires : tie.Need-accept-requires
 accept-requires c κs = search broken-asked
 
@@ -26,9 +29,12 @@ returns c = search broken-off
 set-status-requires : tie.Need-set-status-requires
 set-status-requires c κs = search status-asked
 
+counted-requires-2 : tie.Need-counted-requires-2
+counted-requires-2 c κs = search needs
+
 accept-requires-2 : tie.Need-accept-requires-2
 accept-requires-2 c κs =
-    let at-status = c .before .before .before in
+    let at-status = c .before .before .before .before in
     let at-if1 = at-status .before .before in
     let at-remove = at-if1 .before .before .before .before .before in
     gone-asked (at-remove .remove .ensures) (at-if1 .before .first .ensures) (at-if1 .if1 .left)
@@ -39,11 +45,12 @@ same-length-2 c = search needs
 
 returns-2 : tie.Need-returns-2
 returns-2 c =
-    let at-status = c .before .before .before .before .before .before in
+    let at-status = c .before .before .before .before .before .before .before in
     let at-if1 = at-status .before .before in
     let at-remove = at-if1 .before .before .before .before .before in
     deleted-all (at-remove .remove .ensures) (at-if1 .before .first .ensures) (at-if1 .if1 .left)
-    (at-status .set-status .ensures) (c .before .before .accept2 .ensures)
+    (at-status .set-status .ensures) (c .before .before .before .counted2 .ensures)
+    (c .before .before .accept2 .ensures)
 
 pub delete-from-spec : {M : Type 1} → statement M
 delete-from-spec =
@@ -52,10 +59,12 @@ delete-from-spec =
     remove-requires
     add-first
     first-requires
+    counted-requires
     accept-requires
     same-length
     returns
     set-status-requires
+    counted-requires-2
     accept-requires-2
     same-length-2
     returns-2)
