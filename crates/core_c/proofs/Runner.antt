@@ -1,0 +1,15 @@
+-- The thread of a link to who runs. Assumes nothing.
+use Prim.Native.Nat.{ℕ, zero, suc, _-_}
+use mathlib.Core.Path.{_≡_, refl, sym, ap, _∙_}
+use native.Mathlib.Omega.{arith}
+use Rattle.core_c.specs.Entries.{threadOf}
+
+pub nobody : (link is : ℕ) → link ≡ is → link ≡ 0 → 256 ≡ threadOf is
+nobody link is e z = ap threadOf (sym z ∙ e)
+
+before : (link : ℕ) → (link ≡ 0 → ⊥) → link - 1 ≡ threadOf link
+before zero h = absurd (h refl)
+before (suc t) h = omega arith
+
+pub somebody : (link is : ℕ) → link ≡ is → (link ≡ 0 → ⊥) → link - 1 ≡ threadOf is
+somebody link is e h = before link h ∙ ap threadOf e

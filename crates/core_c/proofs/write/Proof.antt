@@ -1,0 +1,25 @@
+-- By whether a call is named. Assumes nothing.
+use mathlib.Core.Path.{sym, ap, _∙_}
+use Rattle.core_c.specs.Numbers.{nameOf}
+use Rattle.core_c.specs.Entries.{writtenFor}
+use borrow.Author.Needs.{needs}
+use Rattle.core_c.proofs.write.Statement.{statement}
+use Rattle.core_c.proofs.write.Tie as tie
+
+enum-known-named : tie.Need-enum-known-named
+enum-known-named c = search needs
+
+enum-told : tie.Need-enum-told
+enum-told c = search needs
+
+returns : tie.Need-returns
+returns c = rw (c .enum-told .given .1)
+
+write-requires : tie.Need-write-requires
+write-requires c κs = search needs
+
+returns-2 : tie.Need-returns-2
+returns-2 c = rw (c .before .before .named .given .1) (c .write .ensures)
+
+pub write-spec : {M : Type 1} → statement M
+write-spec = tie.close (tie.spec enum-known-named enum-told returns write-requires returns-2)

@@ -1,0 +1,64 @@
+-- A call as five plain numbers: its number, subject, argument, badge and message. Those that it has not are 0.
+use Prim.Native.Nat.{ℕ}
+use mathlib.Core.List.{List, [], _∷_}
+use mathlib.Core.Option.{Option, none, some}
+use lib.Dec.{eqb}
+use lib.ListN.{getD}
+use Rattle.machine.specs.declared.Call.{Call}
+use Rattle.machine.specs.declared.Call.the-variants.{CreateThread, DestroyThread, SetPriority, CreateEndpoint}
+use Rattle.machine.specs.declared.Call.the-variants.{Interrupt, Tick, Send, Receive, Yield, Wait, Delete, Abort}
+use Rattle.machine.specs.Lists.{pick}
+use Rattle.journal.specs.Words.{unused, callOf}
+use Rattle.core_c.specs.declared.types.Named.{Named}
+use Rattle.core_c.specs.declared.types.Named.the-variants.{One, Nothing}
+
+-- each of the five
+abbrev pub number : List ℕ → ℕ
+number ns = getD ns 0 0
+
+abbrev pub subject : List ℕ → ℕ
+subject ns = getD ns 1 0
+
+abbrev pub argument : List ℕ → ℕ
+argument ns = getD ns 2 0
+
+abbrev pub badge : List ℕ → ℕ
+badge ns = getD ns 3 0
+
+abbrev pub message : List ℕ → ℕ
+message ns = getD ns 4 0
+
+-- the call with neither badge nor message: the one that such a call word alone names in the journal
+unfoldable pub short : List ℕ → Option Call
+short ns = unused (badge ns) (unused (message ns) (callOf (number ns) (subject ns) (argument ns) []))
+
+-- the call that five numbers name, with no bound on a number: the core tries the ranges
+unfoldable pub callIn : List ℕ → Option Call
+callIn ns =
+    pick (eqb (number ns) 7) (unused (argument ns) (some (Send (subject ns) (badge ns) (message ns))))
+    (pick (eqb (number ns) 12) (unused (message ns) (some (Abort (subject ns) (argument ns) (badge ns))))
+    (short ns))
+
+-- the five numbers of a call
+unfoldable pub numbersOf : Call → List ℕ
+numbersOf (CreateThread t p) = 1 ∷ t ∷ p ∷ 0 ∷ 0 ∷ []
+numbersOf (DestroyThread t) = 2 ∷ t ∷ 0 ∷ 0 ∷ 0 ∷ []
+numbersOf (SetPriority t p) = 3 ∷ t ∷ p ∷ 0 ∷ 0 ∷ []
+numbersOf (CreateEndpoint e) = 4 ∷ e ∷ 0 ∷ 0 ∷ 0 ∷ []
+numbersOf (Interrupt l) = 5 ∷ l ∷ 0 ∷ 0 ∷ 0 ∷ []
+numbersOf Tick = 6 ∷ 0 ∷ 0 ∷ 0 ∷ 0 ∷ []
+numbersOf (Send e b m) = 7 ∷ e ∷ 0 ∷ b ∷ m ∷ []
+numbersOf (Receive e) = 8 ∷ e ∷ 0 ∷ 0 ∷ 0 ∷ []
+numbersOf Yield = 9 ∷ 0 ∷ 0 ∷ 0 ∷ 0 ∷ []
+numbersOf (Wait l) = 10 ∷ l ∷ 0 ∷ 0 ∷ 0 ∷ []
+numbersOf (Delete e a) = 11 ∷ e ∷ a ∷ 0 ∷ 0 ∷ []
+numbersOf (Abort e a b) = 12 ∷ e ∷ a ∷ b ∷ 0 ∷ []
+
+-- the option as the code has it, and back
+abbrev pub named : Option Call → Named
+named none = Nothing
+named (some c) = One c
+
+abbrev pub nameOf : Named → Option Call
+nameOf (One c) = some c
+nameOf Nothing = none

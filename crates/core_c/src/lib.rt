@@ -1,0 +1,163 @@
+// The core for C: the five entry points, and who runs, under the names of include/nazsombet.h. A slice passes as a
+// pointer and a length, an array of fixed length as a pointer.
+// A call passes as five plain numbers and not as journal words: so every number of 32 bits reaches the core's own range
+// test, and what the reader gives is what a call takes. Numbers that name no call are refused by 18, after 16 and 17.
+ghost use mathlib.Core.Path.{_≡_};
+ghost use mathlib.Core.Option.{none};
+ghost use Rattle.tables.specs.Entries.{Freshened, Checked, freshened, checked};
+ghost use Rattle.journal.specs.declared.types.Written.{Written};
+ghost use Rattle.kernel.specs.Entry.{Called, runningLink};
+ghost use Rattle.core_c.specs.Numbers.{nameOf, callIn};
+ghost use Rattle.core_c.specs.declared.types.Reading.{Reading};
+ghost use Rattle.core_c.specs.Entries.{Answered, calledFor, answered, reading, writtenFor, threadOf};
+
+mod numbers;
+mod types;
+
+use crate::types::Named;
+use crate::types::Reading;
+use journal::types::Read;
+use journal::types::Written;
+use machine::Answer;
+
+// That the journal has ended: no code of an answer.
+const ENDED: u32 = 255;
+
+// That no thread runs: no thread's number.
+const NOBODY: u32 = 256;
+
+// Tables of 4,096 words become fresh.
+#[no_mangle]
+pub extern "C" fn nazsombet_fresh(tables: &mut [u32]) -> u32
+    ensures { λ r. ⌜ _≡_ {A = Freshened} (record { code = r; tables = now (tables .exit) })
+        (freshened (now (tables .entry))) ⌝ }
+{
+    tables::fresh(tables)
+}
+
+// Whether the tables show a sound state; they are not changed.
+#[no_mangle]
+pub extern "C" fn nazsombet_check(tables: &[u32], scratch: &mut [u32]) -> u32
+    ensures { λ r. ⌜ _≡_ {A = Checked} (record { code = r; scratch = now (scratch .exit) })
+        (checked (now (tables .entry)) (now (scratch .entry))) ⌝ }
+{
+    tables::check(tables, scratch)
+}
+
+// The numbers name no call: 18, if the tables are sound.
+fn refuse(tables: &[u32], scratch: &mut [u32]) -> Answer
+    ensures { λ r. ⌜ _≡_ {A = Called}
+        (record { answer = r; tables = now (tables .entry); scratch = now (scratch .exit) })
+        (calledFor none (now (tables .entry)) (now (scratch .entry))) ⌝ }
+{
+    let code = tables::check(tables, scratch);
+    if code != 0 {
+        return results::plain(code);
+    }
+    results::plain(18)
+}
+
+fn take(tables: &mut [u32], scratch: &mut [u32], named: Named) -> Answer
+    ensures { λ r. ⌜ _≡_ {A = Called}
+        (record { answer = r; tables = now (tables .exit); scratch = now (scratch .exit) })
+        (calledFor (nameOf named) (now (tables .entry)) (now (scratch .entry))) ⌝ }
+{
+    let Named::One(call) = named else {
+        return refuse(tables, scratch);
+    };
+    kernel::call(tables, scratch, call)
+}
+
+// Takes a call; its code is answered too.
+#[no_mangle]
+pub extern "C" fn nazsombet_call(
+    tables: &mut [u32],
+    scratch: &mut [u32],
+    call: &[u32; 5],
+    answer: &mut [u32; 4],
+) -> u32
+    ensures { λ r. ⌜ _≡_ {A = Answered}
+        (record { code = r; answer = now (answer .exit); tables = now (tables .exit); scratch = now (scratch .exit) })
+        (answered (now (tables .entry)) (now (scratch .entry)) (now (call .entry))) ⌝ }
+{
+    let named = numbers::call_in(*call);
+    let a = take(tables, scratch, named);
+    *answer = [a.code, a.count, a.badge, a.message];
+    a.code
+}
+
+// Reads the call at a word of the journal.
+fn read(journal: &[u32], at: usize) -> Reading
+    ensures { λ r. ⌜ r ≡ reading (now (journal .entry)) at ⌝ }
+{
+    match journal::read(journal, at) {
+        Read::Found { call, next } => Reading {
+            code: 0,
+            at: next,
+            call: numbers::numbers_of(call),
+        },
+        Read::Refused { code, at } => Reading {
+            code,
+            at,
+            call: [0, 0, 0, 0, 0],
+        },
+        Read::Ended => Reading {
+            code: ENDED,
+            at,
+            call: [0, 0, 0, 0, 0],
+        },
+    }
+}
+
+// Reads the call at a word of the journal, and goes to the first word not yet read.
+#[no_mangle]
+pub extern "C" fn nazsombet_read(journal: &[u32], at: &mut usize, call: &mut [u32; 5]) -> u32
+    ensures { λ r. ⌜ _≡_ {A = Reading} (record { code = r; at = now (at .exit); call = now (call .exit) })
+        (reading (now (journal .entry)) (now (at .entry))) ⌝ }
+{
+    let from = *at;
+    let reading = read(journal, from);
+    *at = reading.at;
+    let numbers = reading.call;
+    *call = numbers;
+    reading.code
+}
+
+fn write(named: Named) -> Written
+    ensures { λ r. ⌜ r ≡ writtenFor (nameOf named) ⌝ }
+{
+    let Named::One(call) = named else {
+        return Written {
+            code: 18,
+            count: 0,
+            words: [0, 0, 0],
+        };
+    };
+    journal::write(call)
+}
+
+// Writes a call as its journal words.
+#[no_mangle]
+pub extern "C" fn nazsombet_write(call: &[u32; 5], words: &mut [u32; 3], count: &mut usize) -> u32
+    ensures { λ r. ⌜ _≡_ {A = Written} (record { code = r; count = now (count .exit); words = now (words .exit) })
+        (writtenFor (callIn (now (call .entry)))) ⌝ }
+{
+    let named = numbers::call_in(*call);
+    let written = write(named);
+    *count = written.count;
+    let three = written.words;
+    *words = three;
+    written.code
+}
+
+// The thread that runs, or NOBODY.
+#[no_mangle]
+pub extern "C" fn nazsombet_running(tables: &[u32]) -> u32
+    ensures { λ r. ⌜ r ≡ threadOf (runningLink (now (tables .entry))) ⌝ }
+{
+    let link = kernel::running(tables);
+    if link == 0 {
+        return NOBODY;
+    }
+    link - 1
+}

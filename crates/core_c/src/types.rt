@@ -1,0 +1,16 @@
+// What the parts of an entry point hand on to it. A module of its own: a type and a function of one name could not stand
+// in one.
+use machine::Call;
+
+// The call that five numbers name, if they name one.
+pub enum Named {
+    One(Call),
+    Nothing,
+}
+
+// What the reader answers: its code, the word where it stands afterwards, and the call as five numbers.
+pub struct Reading {
+    pub code: u32,
+    pub at: usize,
+    pub call: [u32; 5],
+}

@@ -1,0 +1,81 @@
+-- `trace::lines::batch` is safe and ends: the words left to read get fewer, or the listing stops.
+-- Assumes nothing.
+use Prim.Native.Nat.{_+_, _-_, _≤_}
+use mathlib.Core.Path.{_≡_}
+use lib.ListN.{length}
+use borrow.Author.Needs.{needs}
+use Rattle.trace.specs.Turns.{bit}
+use Rattle.trace.proofs.Reading.{fewer, counts}
+use Rattle.trace.proofs.lines.batch.Statement.{statement}
+use Rattle.trace.proofs.lines.batch.Tie as tie
+
+abbrev Inv-loop : tie.InvT-loop
+Inv-loop words tail index tables₀ scratch₀ out₀ at₀ tables scratch out at =
+    (length tables ≡ length tables₀) × (length scratch ≡ length scratch₀) × (length out ≡ length out₀)
+    × (at .next ≤ length words) × (at .used ≤ length out₀)
+
+abbrev μ-loop : tie.MeasureT-loop
+μ-loop words tail index tables₀ scratch₀ out₀ at₀ tables scratch out at = length words + bit (at .going) - at .next
+
+loop-holds : tie.Need-loop-holds Inv-loop μ-loop
+loop-holds c = search needs
+
+ready-requires : tie.Need-ready-requires Inv-loop μ-loop
+ready-requires c κs = search needs
+
+step-requires : tie.Need-step-requires Inv-loop μ-loop
+step-requires c κs = search needs
+
+loop-less : tie.Need-loop-less Inv-loop μ-loop
+loop-less c =
+    let s = c .before .before .before .before .before .before in
+    let t = s .before .before .before .before .before .before in
+    fewer _ _ _ (t .before .loop .at .going) (s .step .result .going) (t .loop-test .taken) (s .step .ensures .0)
+    (s .step .ensures .1 .0)
+
+loop-again : tie.Need-loop-again Inv-loop μ-loop
+loop-again c = search needs
+
+same-length : tie.Need-same-length Inv-loop μ-loop
+same-length c = search needs
+
+same-length-2 : tie.Need-same-length-2 Inv-loop μ-loop
+same-length-2 c = search needs
+
+same-length-3 : tie.Need-same-length-3 Inv-loop μ-loop
+same-length-3 c = search needs
+
+returns : tie.Need-returns Inv-loop μ-loop
+returns c = (search needs, counts _ _ (search needs))
+
+same-length-4 : tie.Need-same-length-4 Inv-loop μ-loop
+same-length-4 c = search needs
+
+same-length-5 : tie.Need-same-length-5 Inv-loop μ-loop
+same-length-5 c = search needs
+
+same-length-6 : tie.Need-same-length-6 Inv-loop μ-loop
+same-length-6 c = search needs
+
+returns-2 : tie.Need-returns-2 Inv-loop μ-loop
+returns-2 c = (search needs, counts _ _ (search needs))
+
+pub batch-spec : {M : Type 1} → statement M
+batch-spec =
+    tie.close
+    (tie.spec
+    Inv-loop
+    μ-loop
+    loop-holds
+    ready-requires
+    step-requires
+    loop-less
+    loop-again
+    same-length
+    same-length-2
+    same-length-3
+    returns
+    same-length-4
+    same-length-5
+    same-length-6
+    returns-2)

@@ -1,0 +1,116 @@
+-- `trace::lines::step` is safe: a call that is found ends within the words, behind the place it was read at.
+-- Assumes nothing.
+use Prim.Native.Nat.{_+_}
+use mathlib.Core.Path.{sym, _∙_}
+use borrow.Author.Needs.{needs}
+use Rattle.trace.proofs.Reading.{Onward, found-onward}
+use Rattle.trace.proofs.lines.step.Statement.{statement}
+use Rattle.trace.proofs.lines.step.Tie as tie
+
+-- where a call was found
+onward :
+    (c : tie.After-reading) →
+    let a = c .before .before .before .before .before .before .before .before .args in
+    Onward (a .words .now) (a .at .next) (a .at .next + c .reading .given .0 .1 .0)
+onward c =
+    let s = c .before .before .before .before .before .before .before .before in
+    found-onward (s .args .words .now) (s .args .at .next) _ _ (s .pre .0)
+    (sym (c .before .before .read .ensures) ∙ c .reading .given .1)
+
+mul-read : tie.Need-mul-read
+mul-read c = search needs
+
+sub-read : tie.Need-sub-read
+sub-read c = search needs
+
+part-read-start : tie.Need-part-read-start
+part-read-start c = search needs
+
+part-read-end : tie.Need-part-read-end
+part-read-end c = search needs
+
+read-requires : tie.Need-read-requires
+read-requires c κs = search needs
+
+enum-known-reading : tie.Need-enum-known-reading
+enum-known-reading c = search needs
+
+last-code-requires : tie.Need-last-code-requires
+last-code-requires c κs = search needs
+
+running-requires : tie.Need-running-requires
+running-requires c κs = search needs
+
+add-last-requires : tie.Need-add-last-requires
+add-last-requires c κs = search needs
+
+same-length : tie.Need-same-length
+same-length c = search needs
+
+same-length-2 : tie.Need-same-length-2
+same-length-2 c = search needs
+
+returns : tie.Need-returns
+returns c = search needs
+
+call-requires : tie.Need-call-requires
+call-requires c κs = search needs
+
+number-requires : tie.Need-number-requires
+number-requires c κs = search needs
+
+add-t14 : tie.Need-add-t14
+add-t14 c =
+    let o = onward (c .before .before .before .before .before .before .before .before .before) in
+    search needs
+
+wrapping-add-u64-requires : tie.Need-wrapping-add-u64-requires
+wrapping-add-u64-requires c κs = search needs
+
+running-requires-2 : tie.Need-running-requires-2
+running-requires-2 c κs = search needs
+
+add-requires : tie.Need-add-requires
+add-requires c κs = search needs
+
+same-length-3 : tie.Need-same-length-3
+same-length-3 c = search needs
+
+same-length-4 : tie.Need-same-length-4
+same-length-4 c = search needs
+
+same-length-5 : tie.Need-same-length-5
+same-length-5 c = search needs
+
+returns-2 : tie.Need-returns-2
+returns-2 c =
+    let o = onward (c .before .before .before .before .before .before .before .before .before .before .before .before
+    .before .before .before .before) in
+    (o .on, (o .within, search needs))
+
+pub step-spec : {M : Type 1} → statement M
+step-spec =
+    tie.close
+    (tie.spec
+    mul-read
+    sub-read
+    part-read-start
+    part-read-end
+    read-requires
+    enum-known-reading
+    last-code-requires
+    running-requires
+    add-last-requires
+    same-length
+    same-length-2
+    returns
+    call-requires
+    number-requires
+    add-t14
+    wrapping-add-u64-requires
+    running-requires-2
+    add-requires
+    same-length-3
+    same-length-4
+    same-length-5
+    returns-2)

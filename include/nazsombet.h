@@ -1,0 +1,132 @@
+/*
+ * Nazsombet: the kernel core of the realtime box, for C.
+ *
+ * The library is target/staticlib/libcore_c.a, built by `rt staticlib core_c` for x86-64 Linux. Of the C library it
+ * uses memset alone.
+ *
+ * Memory. The host owns all of it. It lends the tables (4,096 words) and a scratch (256 words); the library keeps no
+ * pointer and no state between two calls, allocates nothing and does no input or output. All that the core knows stands
+ * in the tables: they may be copied, stored and lent again elsewhere. What the scratch holds does not matter. Only this
+ * library writes sound tables; to change them by hand is found out, by 17, unless they happen to be sound again.
+ *
+ * Pointers. No pointer is null, not even with length 0. Each points to as many words as its length says, aligned as its
+ * type asks. What a function writes overlaps nothing else that it is lent. This is all that the library relies on: any
+ * length and any content is answered.
+ *
+ * Threads. The functions may run at the same time on different memory. While one runs nobody else writes what it was
+ * lent, nor reads what it writes: one caller at a time for a pair of tables and scratch.
+ *
+ * Numbers. Every function answers 0 where it did what was asked, or one of the numbers below. Those of 16 and more are
+ * refusals: they are tried in the order of the numbers, and they leave the tables as they were.
+ */
+#ifndef NAZSOMBET_H
+#define NAZSOMBET_H
+
+#include <stddef.h>
+#include <stdint.h>
+
+#ifdef __cplusplus
+extern "C" {
+#endif
+
+/* The words of the tables and of the scratch. */
+#define NAZSOMBET_TABLES 4096
+#define NAZSOMBET_SCRATCH 256
+
+/* What is answered. */
+#define NAZSOMBET_DONE 0
+#define NAZSOMBET_BLOCKED 1           /* the thread that called waits now */
+#define NAZSOMBET_BROKEN_OFF 2        /* delete, abort: the allowance is used up and work is left; call again */
+#define NAZSOMBET_LENGTH 16           /* the tables are not 4,096 words, or the scratch not 256: nothing is written */
+#define NAZSOMBET_UNSOUND 17          /* the tables are not sound: the scratch is zeroed, as by all that follow */
+#define NAZSOMBET_NO_CALL 18          /* numbers or words that are no call: number, unused part not 0, word missing */
+#define NAZSOMBET_RANGE 19            /* a number of the call is out of its range */
+#define NAZSOMBET_NOBODY_RUNS 20      /* a thread's call, 7 to 12, and none runs */
+#define NAZSOMBET_THREAD_ABSENT 21
+#define NAZSOMBET_THREAD_PRESENT 22
+#define NAZSOMBET_ENDPOINT_ABSENT 23
+#define NAZSOMBET_ENDPOINT_PRESENT 24 /* also where it is being deleted */
+#define NAZSOMBET_ENDPOINT_CLOSING 25 /* it is being deleted */
+#define NAZSOMBET_BADGE_ABORTED 26    /* send: that badge is under abort there */
+#define NAZSOMBET_LINE_TAKEN 27       /* wait: the line has a waiter */
+#define NAZSOMBET_ENDED 255           /* nazsombet_read alone: no word is left */
+
+/* The twelve calls. The host makes 1 to 6; 7 to 12 are those of the thread that runs. */
+#define NAZSOMBET_CREATE_THREAD 1   /* subject: thread 0..255; argument: priority 0..255, higher is more urgent */
+#define NAZSOMBET_DESTROY_THREAD 2  /* subject: thread */
+#define NAZSOMBET_SET_PRIORITY 3    /* subject: thread; argument: priority */
+#define NAZSOMBET_CREATE_ENDPOINT 4 /* subject: endpoint 0..63 */
+#define NAZSOMBET_INTERRUPT 5       /* subject: line 0..31 */
+#define NAZSOMBET_TICK 6            /* a tick of the clock, also where nobody runs */
+#define NAZSOMBET_SEND 7            /* subject: endpoint; badge and message, each below 2^28 */
+#define NAZSOMBET_RECEIVE 8         /* subject: endpoint */
+#define NAZSOMBET_YIELD 9
+#define NAZSOMBET_WAIT 10           /* subject: line */
+#define NAZSOMBET_DELETE 11         /* subject: endpoint; argument: allowance 1..65535, the waiters it may remove */
+#define NAZSOMBET_ABORT 12          /* subject: endpoint; argument: allowance, the waiters it may look at; badge */
+
+/* A call as plain numbers. What the call does not have is 0, or it is refused by 18. */
+struct nazsombet_numbers {
+    uint32_t number; /* 1 to 12 */
+    uint32_t subject;
+    uint32_t argument;
+    uint32_t badge;
+    uint32_t message;
+};
+
+/* An answer. A refusal is its number and three zeros. */
+struct nazsombet_answer {
+    uint32_t code;
+    uint32_t count;   /* delete, abort: the waiters removed or looked at; else 0 */
+    uint32_t badge;   /* of the message that a receive answered 0 took; else 0 */
+    uint32_t message; /* the same */
+};
+
+/* The library sees five words, and four: no compiler may lay them out in another way. */
+typedef char nazsombet_five_words[sizeof(struct nazsombet_numbers) == 20 ? 1 : -1];
+typedef char nazsombet_four_words[sizeof(struct nazsombet_answer) == 16 ? 1 : -1];
+
+/* The answer of nazsombet_running where no thread runs. */
+#define NAZSOMBET_NOBODY 256
+
+/*
+ * Makes the tables fresh, whatever they held: no thread, no endpoint, no pending line. 0, or 16 and they stay.
+ */
+uint32_t nazsombet_fresh(uint32_t *tables, size_t tables_length);
+
+/*
+ * Checks the tables, which are only read: 0 if they are sound, else 17; or 16. With 0 and 17 the scratch is zeroed.
+ */
+uint32_t nazsombet_check(const uint32_t *tables, size_t tables_length, uint32_t *scratch, size_t scratch_length);
+
+/*
+ * Takes a call. The answer is written whole, and its code is returned too. The tables are checked first, every time.
+ * With code 0, 1 or 2 the call is made, and the tables hold what came of it; with 16 and more they are as they were.
+ * The scratch is zeroed, but with 16. Afterwards another thread may run: ask nazsombet_running.
+ */
+uint32_t nazsombet_call(uint32_t *tables, size_t tables_length, uint32_t *scratch, size_t scratch_length,
+                        const struct nazsombet_numbers *call, struct nazsombet_answer *answer);
+
+/*
+ * Reads the call that begins at word *at of a journal. 0: the call is written, and *at goes to the first word behind
+ * it. 18 or 19: the words there are no call, or one that is out of range; 255: *at is at or past the last word. With
+ * these three *at stays, and the call is written as zeros. A call that was read is never refused by 18 or 19.
+ */
+uint32_t nazsombet_read(const uint32_t *journal, size_t journal_length, size_t *at, struct nazsombet_numbers *call);
+
+/*
+ * Writes a call as its journal words. 0: *count words, 1 to 3, and zeros behind them; 18 or 19: zeros and *count 0.
+ */
+uint32_t nazsombet_write(const struct nazsombet_numbers *call, uint32_t words[3], size_t *count);
+
+/*
+ * The thread that runs, 0 to 255, or 256 if none does. The tables are not checked: of unsound ones it answers some
+ * number, of tables that are not 4,096 words 256.
+ */
+uint32_t nazsombet_running(const uint32_t *tables, size_t tables_length);
+
+#ifdef __cplusplus
+}
+#endif
+
+#endif

@@ -1,0 +1,418 @@
+//! journals FOLDER: writes the test journals, NAME.words, and the listing of
+//! each, NAME.txt. What each is for stands in the folder's README.
+
+use second::{listing, write, Machine, Steer};
+use std::{env, fs, io, path::Path};
+
+/// A call's words; its numbers may be out of range.
+type Words = Vec<u32>;
+
+fn one(number: u32, subject: u32, argument: u32) -> Words {
+    vec![(0x10 + number) << 24 | subject << 16 | argument]
+}
+
+fn create(thread: u32, priority: u32) -> Words {
+    one(1, thread, priority)
+}
+
+fn destroy(thread: u32) -> Words {
+    one(2, thread, 0)
+}
+
+fn priority(thread: u32, priority: u32) -> Words {
+    one(3, thread, priority)
+}
+
+fn endpoint(endpoint: u32) -> Words {
+    one(4, endpoint, 0)
+}
+
+fn interrupt(line: u32) -> Words {
+    one(5, line, 0)
+}
+
+fn ticks(count: usize) -> Words {
+    one(6, 0, 0).repeat(count)
+}
+
+fn send(endpoint: u32, badge: u32, message: u32) -> Words {
+    [one(7, endpoint, 0), vec![0x2000_0000 + badge, 0x3000_0000 + message]].concat()
+}
+
+fn receive(endpoint: u32) -> Words {
+    one(8, endpoint, 0)
+}
+
+fn yields() -> Words {
+    one(9, 0, 0)
+}
+
+fn wait(line: u32) -> Words {
+    one(10, line, 0)
+}
+
+fn delete(endpoint: u32, allowance: u32) -> Words {
+    one(11, endpoint, allowance)
+}
+
+fn abort(endpoint: u32, allowance: u32, badge: u32) -> Words {
+    [one(12, endpoint, allowance), vec![0x2000_0000 + badge]].concat()
+}
+
+/// A new thread at level 10 that sends and is left queued.
+fn sender(thread: u32, endpoint: u32, badge: u32) -> Words {
+    [create(thread, 10), send(endpoint, badge, 100 + thread)].concat()
+}
+
+/// The largest badge, message and allowance.
+const TOP: u32 = (1 << 28) - 1;
+const ALL: u32 = 65_535;
+
+fn example() -> Words {
+    [
+        create(1, 10),
+        create(2, 10),
+        create(3, 20),
+        endpoint(0),
+        send(0, 7, 100),
+        send(0, 8, 200),
+        abort(0, 1, 7),
+        send(0, 7, 101),
+        receive(0),
+        abort(0, 5, 7),
+        destroy(3),
+        abort(0, 1, 7),
+    ]
+    .concat()
+}
+
+fn incident() -> Words {
+    [
+        create(2, 5),
+        endpoint(0),
+        send(0, 7, 100),
+        create(3, 5),
+        send(0, 8, 200),
+        create(4, 5),
+        send(0, 7, 101),
+        create(1, 10),
+        abort(0, 1, 7),
+        destroy(3),
+        create(5, 11),
+        send(0, 7, 300),
+        wait(0),
+        abort(0, 5, 7),
+        interrupt(0),
+        send(0, 7, 300),
+        receive(0),
+    ]
+    .concat()
+}
+
+fn endpoints() -> Words {
+    [
+        create(1, 10),
+        create(2, 5),
+        endpoint(63),
+        receive(63),
+        send(63, 1, 2),
+        send(62, 1, 2),
+        delete(63, 1),
+        receive(63),
+        endpoint(64),
+    ]
+    .concat()
+}
+
+fn lines() -> Words {
+    [
+        create(1, 10),
+        create(2, 9),
+        interrupt(31),
+        interrupt(31),
+        wait(31), // pending: done
+        wait(31), // thread 1 blocks
+        wait(31), // thread 2 is refused
+        interrupt(31),
+        interrupt(0),
+        wait(0),
+        wait(0),
+        wait(32),
+    ]
+    .concat()
+}
+
+fn priorities() -> Words {
+    [
+        create(1, 0),
+        create(2, 255), // displaces 1
+        create(3, 255), // waits for its turn
+        yields(),
+        yields(),
+        priority(2, 254), // 3 runs
+        priority(3, 254), // and goes on
+        create(4, 255),   // displaces 3, which goes behind 2
+        destroy(4),
+        create(5, 254),
+        priority(3, 254), // the same: 3 keeps its place before 5
+        yields(),
+        priority(3, 31), // to its new level's tail
+        create(6, 32),
+        destroy(5),
+        destroy(2),
+        destroy(6),
+        destroy(3),
+        destroy(1),
+        create(7, 256),
+    ]
+    .concat()
+}
+
+fn allowances() -> Words {
+    [
+        endpoint(0),
+        sender(2, 0, 7),
+        sender(3, 0, 7),
+        sender(4, 0, 8),
+        sender(5, 0, 7),
+        sender(6, 0, 7),
+        create(1, 20),
+        abort(0, 1, 7), // removes 2, broken off
+        abort(0, 1, 7), // removes 3
+        create(9, 21),
+        abort(0, 1, 7),   // 9 joins, keeps 4
+        abort(0, ALL, 7), // 9 finishes, so 1 gets a note
+        destroy(9),
+        abort(0, 1, 7),   // from the note
+        abort(0, 1, 7),   // a new one: 4 is looked at, nothing is left
+        abort(0, ALL, 8), // removes 4
+        abort(0, ALL, 8), // no sender
+        delete(0, ALL),
+        abort(0, 0, 7),
+    ]
+    .concat()
+}
+
+fn badges() -> Words {
+    [
+        endpoint(0),
+        sender(2, 0, 0),
+        sender(3, 0, TOP),
+        sender(4, 0, 0),
+        create(1, 20),
+        abort(0, 1, 0), // removes 2, broken off
+        create(5, 30),
+        abort(0, 2, TOP), // finishes that of badge 0, its own not yet begun
+        send(0, 0, 1),    // 5 blocks: badge 0 is free again
+        abort(0, 1, 0),   // 1 has a note
+        abort(0, 1, 8),   // keeps 3, broken off
+        create(6, 40),
+        abort(0, 3, TOP), // keeps 5 for badge 8; for its own, removes 3 and keeps 5
+        receive(0),       // 5's message
+        receive(0),       // 6 blocks
+        send(0, TOP, TOP),
+        wait(0),
+        send(0, TOP, TOP), // 5 blocks
+        receive(0),
+        vec![0x1700_0000, 0x3000_0000, 0x3000_0000], // badge 2^28 has no badge word
+    ]
+    .concat()
+}
+
+fn ticking() -> Words {
+    [
+        ticks(1), // nobody runs
+        create(1, 5),
+        create(2, 5),
+        create(3, 5),
+        ticks(5), // 1 goes to its tail
+        ticks(2),
+        yields(), // 2 has three left
+        ticks(5),
+        ticks(5),
+        ticks(2),
+        wait(0), // 2 has one left, blocked and woken too
+        interrupt(0),
+        ticks(10),
+        ticks(1),
+        destroy(1),
+        destroy(3),
+        ticks(6), // alone, it is chosen again
+    ]
+    .concat()
+}
+
+fn destroyed() -> Words {
+    [
+        endpoint(0),
+        endpoint(1),
+        sender(2, 0, 7),
+        sender(3, 0, 7),
+        sender(4, 0, 7),
+        sender(5, 0, 7),
+        create(1, 20),
+        abort(0, 1, 7), // removes 2; cursor at 3, end mark at 5
+        destroy(3),     // the cursor passes to 4
+        destroy(5),     // so does the end mark
+        create(5, 30),
+        send(0, 8, 205), // 5 is queued again, behind the end mark
+        send(0, 7, 1),   // refused: the abort stands
+        destroy(1),      // the owner
+        abort(0, 1, 7),  // 2 joins: removes 4, and nothing is left
+        abort(0, 1, 8),  // removes 5
+        wait(2),
+        send(1, 9, 1),
+        send(1, 9, 2),
+        create(6, 10),
+        abort(1, 1, 9), // removes 4; cursor and end mark at 2
+        destroy(2),     // nothing is left
+        send(1, 9, 3),  // refused all the same
+        abort(1, 1, 9), // ends it
+        send(1, 9, 4),
+        destroy(5), // the waiter on line 2
+        interrupt(2),
+        wait(2), // so it was pending
+        destroy(4),
+        destroy(6),
+        destroy(6),
+        endpoint(1),
+    ]
+    .concat()
+}
+
+fn deletes() -> Words {
+    [
+        endpoint(0),
+        sender(2, 0, 7),
+        sender(3, 0, 7),
+        sender(4, 0, 8),
+        sender(5, 0, 7),
+        create(1, 20),
+        abort(0, 1, 7), // removes 2
+        create(6, 30),
+        delete(0, 1), // ends the abort, removes 3, broken off: 1 gets a note
+        send(0, 8, 1),
+        receive(0),
+        abort(0, 1, 7),
+        endpoint(0),
+        wait(0),
+        abort(0, 1, 7), // from the note, though the endpoint is closing
+        abort(0, 1, 7),
+        delete(0, 1),   // 1 goes on: removes 4
+        delete(0, ALL), // removes 5
+        delete(0, 1),
+        endpoint(0),
+        receive(0), // 1 blocks
+        receive(0),
+        interrupt(0),
+        delete(0, 1), // 6 removes the receiver 1
+        destroy(1),
+        destroy(6),
+        delete(0, ALL), // 4 goes on: removes the receiver 2
+        endpoint(3),
+        send(3, 1, 1),
+        send(3, 1, 2),
+        create(7, 10),
+        delete(3, 1),
+        destroy(4),
+        destroy(5),
+        endpoint(3), // closing and empty
+        delete(3, 1),
+        endpoint(3),
+    ]
+    .concat()
+}
+
+fn refusals() -> Words {
+    [
+        yields(), // 20, and so the next five
+        send(0, 0, 0),
+        receive(0),
+        wait(0),
+        delete(0, 1),
+        abort(0, 1, 0),
+        destroy(1), // 21
+        priority(1, 1),
+        create(1, 10),
+        create(1, 11), // 22
+        send(0, 0, 0), // 23, and so the next three
+        receive(0),
+        delete(0, 1),
+        abort(0, 1, 0),
+        endpoint(0),
+        endpoint(0), // 24
+        create(2, 10),
+        create(3, 10),
+        create(4, 10),
+        send(0, 7, 1),
+        send(0, 7, 2),
+        abort(0, 1, 7),
+        send(0, 7, 3), // 26
+        send(0, 8, 3),
+        wait(1),
+        wait(1), // 27
+        delete(0, 1),
+        send(0, 7, 3), // 25, and so the next two
+        receive(0),
+        abort(0, 1, 7),
+        endpoint(0), // 24
+    ]
+    .concat()
+}
+
+/// Steered calls, many times longer than a buffer of words.
+fn long() -> Words {
+    let (mut steer, mut machine, mut words) = (Steer::new(6), Machine::fresh(), Vec::new());
+    for made in 0..6000 {
+        let call = steer.next(&machine);
+        let written = write(&call);
+        if written.code == 0 {
+            machine.call(&call);
+            words.extend(&written.words[..written.len]);
+        }
+        if made % 600 == 599 {
+            steer.new_list();
+        }
+    }
+    words
+}
+
+/// The journals: name, words, and the odd bytes behind them.
+fn journals() -> Vec<(&'static str, Words, &'static [u8])> {
+    let cut = |words: Words, left: usize| words[..left].to_vec();
+    vec![
+        ("example", example(), &[]),
+        ("incident", incident(), &[]),
+        ("endpoints", endpoints(), &[]),
+        ("lines", lines(), &[]),
+        ("priorities", priorities(), &[]),
+        ("allowances", allowances(), &[]),
+        ("badges", badges(), &[]),
+        ("ticks", ticking(), &[]),
+        ("destroyed", destroyed(), &[]),
+        ("deletes", deletes(), &[]),
+        ("refusals", refusals(), &[]),
+        ("empty", vec![], &[]),
+        ("one", vec![], &[0x11]),
+        ("two", vec![], &[0, 0]),
+        ("three", vec![], &[0x0A, 0, 1]),
+        ("odd", example(), &[0x0A, 0, 1]),
+        ("cut", cut(example(), 20), &[]),
+        ("cut_word", cut(example(), 20), &[7, 0, 0]),
+        ("wrong", [create(1, 10), vec![0x2000_0007], create(2, 20)].concat(), &[]),
+        ("range", [create(1, 10), endpoint(0), delete(0, 0), create(2, 20)].concat(), &[1]),
+        ("long", long(), &[]),
+    ]
+}
+
+fn main() -> io::Result<()> {
+    let folder = env::args().nth(1).expect("usage: journals FOLDER");
+    for (name, words, odd) in journals() {
+        let mut bytes: Vec<u8> = words.iter().flat_map(|w| w.to_le_bytes()).collect();
+        bytes.extend(odd);
+        let path = Path::new(&folder).join(name);
+        fs::write(path.with_extension("words"), &bytes)?;
+        fs::write(path.with_extension("txt"), listing(&bytes))?;
+    }
+    Ok(())
+}
