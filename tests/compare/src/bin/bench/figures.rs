@@ -5,26 +5,53 @@ use crate::scenes::Scene;
 use std::path::Path;
 use std::process::{Command, Stdio};
 
-const ROUNDS: u32 = 25;
+const ROUNDS: u32 = 40;
 const RUNS: u32 = 100;
 
-/// What was measured on one scene.
-#[derive(Clone, Default)]
+/// What was measured on one scene. Times of whole entries are the least of all
+/// runs. The clock alone takes as long as a step, so a step's time is the
+/// median of what a call takes longer than its check, on both sides.
+#[derive(Clone)]
 pub struct Figures {
     time: [f64; WORKS.len()],
     step: f64,
+    second_step: f64,
     count: Option<[f64; WORKS.len()]>,
 }
 
+/// Whose step: a call without its check.
+#[derive(Clone, Copy, Debug, PartialEq, Eq)]
+pub enum Step {
+    Core,
+    Second,
+}
+
+impl Step {
+    /// The check and the call.
+    fn works(self) -> (Work, Work) {
+        match self {
+            Step::Core => (Work::Check, Work::Call),
+            Step::Second => (Work::SecondCheck, Work::SecondCall),
+        }
+    }
+}
+
 impl Figures {
+    fn new() -> Figures {
+        Figures { time: [f64::MAX; WORKS.len()], step: 0.0, second_step: 0.0, count: None }
+    }
+
     /// Nanoseconds, without those of measuring.
     pub fn time(&self, work: Work) -> f64 {
         self.time[work as usize] - self.time[Work::Nothing as usize]
     }
 
-    /// Nanoseconds of a call without its check.
-    pub fn step_time(&self) -> f64 {
-        self.step
+    /// Nanoseconds of a step.
+    pub fn step_time(&self, step: Step) -> f64 {
+        match step {
+            Step::Core => self.step,
+            Step::Second => self.second_step,
+        }
     }
 
     /// Instructions, without those of measuring; none if nobody counted.
@@ -33,30 +60,36 @@ impl Figures {
         Some(counts[work as usize] - counts[Work::Nothing as usize])
     }
 
-    /// Instructions of a call without its check.
-    pub fn step_count(&self) -> Option<f64> {
-        Some(self.count(Work::Call)? - self.count(Work::Check)?)
+    /// Instructions of a step.
+    pub fn step_count(&self, step: Step) -> Option<f64> {
+        match step {
+            Step::Core => Some(self.count(Work::Call)? - self.count(Work::Check)?),
+            Step::Second => self.count(Work::SecondStep),
+        }
     }
 }
 
 /// Times every scene, in rounds, so that a slow moment spoils no figure.
 pub fn time(scenes: &[Scene]) -> Vec<Figures> {
     let mut bench = Bench::default();
-    let mut figures = vec![Figures::default(); scenes.len()];
-    let mut steps = vec![Vec::new(); scenes.len()];
-    for round in 0..ROUNDS {
+    let mut figures = vec![Figures::new(); scenes.len()];
+    let mut steps = vec![[Vec::new(), Vec::new()]; scenes.len()];
+    for _ in 0..ROUNDS {
         for (n, scene) in scenes.iter().enumerate() {
             bench.agree(scene);
             for work in WORKS {
-                let time = bench.time(scene, work, RUNS);
                 let least = &mut figures[n].time[work as usize];
-                *least = if round == 0 { time } else { time.min(*least) };
+                *least = least.min(bench.time(scene, work, RUNS));
             }
-            steps[n].extend(bench.steps(scene, RUNS));
+            for step in [Step::Core, Step::Second] {
+                let (check, call) = step.works();
+                steps[n][step as usize].extend(bench.steps(scene, check, call, RUNS));
+            }
         }
     }
-    for (figures, steps) in figures.iter_mut().zip(steps) {
-        figures.step = median(steps);
+    for (figures, [core, second]) in figures.iter_mut().zip(steps) {
+        figures.step = median(core);
+        figures.second_step = median(second);
     }
     figures
 }

@@ -1,6 +1,6 @@
 //! The figures as tables.
 
-use crate::figures::Figures;
+use crate::figures::{Figures, Step};
 use crate::measure::Work;
 use crate::scenes::{ALL, AT_QUEUE, CALLS, FILLS, SENDERS};
 use std::iter::once;
@@ -22,16 +22,27 @@ fn whole(number: Option<f64>) -> String {
     number.map_or(String::from("-"), |n| format!("{n:.0}"))
 }
 
+/// None where there is next to nothing to compare with.
 fn ratio(over: Option<f64>, under: Option<f64>) -> String {
+    let under = under.filter(|&under| under >= 1.0);
     over.zip(under).map_or(String::from("-"), |(over, under)| format!("{:.2}", over / under))
 }
 
 /// One way to measure: its name, a work's figure and a step's.
-type Unit = (&'static str, fn(&Figures, Work) -> Option<f64>, fn(&Figures) -> Option<f64>);
+#[derive(Clone, Copy)]
+struct Unit {
+    name: &'static str,
+    work: fn(&Figures, Work) -> Option<f64>,
+    step: fn(&Figures, Step) -> Option<f64>,
+}
 
 const UNITS: [Unit; 2] = [
-    ("nanoseconds", |f, work| Some(f.time(work)), |f| Some(f.step_time())),
-    ("instructions", |f, work| f.count(work), |f| f.step_count()),
+    Unit {
+        name: "nanoseconds",
+        work: |figures, work| Some(figures.time(work)),
+        step: |figures, step| Some(figures.step_time(step)),
+    },
+    Unit { name: "instructions", work: Figures::count, step: Figures::step_count },
 ];
 
 impl Report<'_> {
@@ -44,31 +55,33 @@ impl Report<'_> {
     }
 
     /// The calls on tables of one fill.
-    pub fn calls(&self, fill: usize, (_, figure, step): Unit) -> String {
+    fn calls(&self, fill: usize, unit: Unit) -> String {
         let mut text = head(&[
             "Call",
             "core: call",
             "its check",
             "its step",
-            "second machine: step",
-            "with its check",
+            "second machine: call",
+            "its check",
+            "its step",
+            "core : second, call",
             "core : second, step",
-            "core : second, whole",
         ]);
         for (number, name) in (1..).zip(CALLS) {
             let f = self.call(fill, number);
-            let own = |work| figure(f, work);
-            let whole_second = own(Work::Second).zip(own(Work::SecondCheck)).map(|(a, b)| a + b);
-            let figures = [own(Work::Call), own(Work::Check), step(f), own(Work::Second)];
-            let cells = figures.into_iter().chain(once(whole_second)).map(whole);
-            let ratios = [ratio(step(f), own(Work::Second)), ratio(own(Work::Call), whole_second)];
+            let (call, second) = ((unit.work)(f, Work::Call), (unit.work)(f, Work::SecondCall));
+            let [step, second_step] = [Step::Core, Step::Second].map(|whose| (unit.step)(f, whose));
+            let check = (unit.work)(f, Work::Check);
+            let second_check = (unit.work)(f, Work::SecondCheck);
+            let cells = [call, check, step, second, second_check, second_step].map(whole);
+            let ratios = [ratio(call, second), ratio(step, second_step)];
             text += &row(once(String::from(name)).chain(cells).chain(ratios));
         }
         text
     }
 
     /// The check beside passes over the tables.
-    pub fn passes(&self, (_, figure, _): Unit) -> String {
+    fn passes(&self, unit: Unit) -> String {
         let mut text = head(&[
             "Tables",
             "pass",
@@ -82,8 +95,8 @@ impl Report<'_> {
             "dearest call : sum",
         ]);
         for (fill, (name, _)) in FILLS.iter().enumerate() {
-            let dearest = self.dearest(fill, figure);
-            let own = |work| figure(self.call(fill, dearest), work);
+            let dearest = self.dearest(fill, unit);
+            let own = |work| (unit.work)(dearest, work);
             let works = [Work::Pass, Work::Sum, Work::Fresh, Work::Check, Work::SecondCheck];
             let cells = works.into_iter().chain(once(Work::Call)).map(|work| whole(own(work)));
             let ratios = [
@@ -96,26 +109,27 @@ impl Report<'_> {
         text
     }
 
-    /// The number of the call that costs most.
-    fn dearest(&self, fill: usize, figure: fn(&Figures, Work) -> Option<f64>) -> usize {
-        let cost = |number| figure(self.call(fill, number), Work::Call).unwrap_or(0.0);
-        (1..=12).max_by(|&a, &b| cost(a).total_cmp(&cost(b))).unwrap_or(1)
+    /// The figures of the call that costs most.
+    fn dearest(&self, fill: usize, unit: Unit) -> &Figures {
+        let cost = |figures: &Figures| (unit.work)(figures, Work::Call).unwrap_or(0.0);
+        let figures = (2..=CALLS.len()).map(|number| self.call(fill, number));
+        figures.fold(self.call(fill, 1), |a, b| if cost(b) > cost(a) { b } else { a })
     }
 
     /// Steps at a queue, by its length.
-    pub fn queues(&self, (_, figure, step): Unit) -> String {
+    fn queues(&self, unit: Unit) -> String {
         let mut text = head(&[&["Senders", "check"], &AT_QUEUE[..]].concat());
         for (length, senders) in SENDERS.iter().enumerate() {
             let cell = |what| {
-                let one = step(self.queue(0, what));
-                let here = step(self.queue(length, what));
+                let one = (unit.step)(self.queue(0, what), Step::Core);
+                let here = (unit.step)(self.queue(length, what), Step::Core);
                 match (what < ALL, length) {
                     (true, _) => whole(here),
                     (false, 0) => String::from("-"),
                     (false, _) => ratio(here.zip(one).map(|(h, o)| h - o), further(*senders)),
                 }
             };
-            let check = whole(figure(self.queue(length, 0), Work::Check));
+            let check = whole((unit.work)(self.queue(length, 0), Work::Check));
             let cells = [senders.to_string(), check].into_iter();
             text += &row(cells.chain((0..AT_QUEUE.len()).map(cell)));
         }
@@ -127,17 +141,17 @@ impl Report<'_> {
         let units = &UNITS[..1 + counted as usize];
         let mut text = String::new();
         for &unit in units {
-            text += &format!("\n## The check and plain passes, {}\n\n", unit.0);
+            text += &format!("\n## The check and plain passes, {}\n\n", unit.name);
             text += &self.passes(unit);
         }
         for (fill, (name, _)) in FILLS.iter().enumerate() {
             for &unit in units {
-                text += &format!("\n## The calls on {name} tables, {}\n\n", unit.0);
+                text += &format!("\n## The calls on {name} tables, {}\n\n", unit.name);
                 text += &self.calls(fill, unit);
             }
         }
         for &unit in units {
-            text += &format!("\n## Steps at a queue of senders, {}\n\n", unit.0);
+            text += &format!("\n## Steps at a queue of senders, {}\n\n", unit.name);
             text += &self.queues(unit);
         }
         text

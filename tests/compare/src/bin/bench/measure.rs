@@ -20,21 +20,24 @@ pub enum Work {
     Check,
     /// The core's call, the check in it.
     Call,
-    /// The second machine's call, without a check.
-    Second,
     /// The second machine's check.
     SecondCheck,
+    /// The second machine's call, after its check.
+    SecondCall,
+    /// The second machine's call alone.
+    SecondStep,
 }
 
-pub const WORKS: [Work; 8] = [
+pub const WORKS: [Work; 9] = [
     Work::Nothing,
     Work::Pass,
     Work::Sum,
     Work::Fresh,
     Work::Check,
     Work::Call,
-    Work::Second,
     Work::SecondCheck,
+    Work::SecondCall,
+    Work::SecondStep,
 ];
 
 /// Both sides, with the tables of a scene.
@@ -66,8 +69,12 @@ impl Bench {
             Work::Fresh => seen(self.core.fresh()),
             Work::Check => seen(self.core.check()),
             Work::Call => seen(self.core.call(black_box(self.numbers))),
-            Work::Second => seen(self.machine.call(black_box(&scene.call))),
             Work::SecondCheck => seen(self.machine.sound()),
+            Work::SecondCall => {
+                seen(self.machine.sound());
+                seen(self.machine.call(black_box(&scene.call)));
+            }
+            Work::SecondStep => seen(self.machine.call(black_box(&scene.call))),
         }
     }
 
@@ -88,14 +95,14 @@ impl Bench {
         (0..runs).map(run).fold(f64::MAX, f64::min)
     }
 
-    /// What a call takes longer than a check on the same tables, in many runs,
+    /// What a call takes longer than a check right before it, in many runs,
     /// each after a check that is not timed.
-    pub fn steps(&mut self, scene: &Scene, runs: u32) -> Vec<f64> {
+    pub fn steps(&mut self, scene: &Scene, check: Work, call: Work, runs: u32) -> Vec<f64> {
         let run = |_| {
             self.load(scene);
-            self.run(scene, Work::Check);
-            let check = self.once(scene, Work::Check);
-            self.once(scene, Work::Call) - check
+            self.run(scene, check);
+            let checked = self.once(scene, check);
+            self.once(scene, call) - checked
         };
         (0..runs).map(run).collect()
     }
