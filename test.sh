@@ -1,7 +1,7 @@
 #!/bin/sh
-# Runs all tests: the second machine's own tests; then every crate is proved from nothing, every must-fail edit is tried, every
-# program is run and what it writes is compared. The last line is 'N passed, M failed'; the exit status is 0 only where
-# nothing failed.
+# Runs all tests: the second machine's own; then every crate is proved from nothing, every must-fail edit is tried and
+# every program is run; then the journals are listed, by the program and by the host in C, and the library is tested
+# from Rust. The last line is 'N passed, M failed'; the exit status is 0 only where nothing failed.
 set -eu
 cd "$(dirname "$0")"
 need() {
@@ -12,5 +12,29 @@ need() {
 }
 need rt "the Rattle kit (rattle-kit-5b or newer)"
 need cargo "Rust (1.75 or newer)"
+need cc "a C compiler"
+
+passed=0
+failed=0
+log=$(mktemp)
+trap 'rm -f "$log" "$log.code"' EXIT
+
+# Runs a command whose last line is '... N passed, M failed' and adds the two numbers to the totals. A command that
+# fails and names no failure counts as one.
+counted() {
+    { code=0; "$@" 2>&1 || code=$?; echo "$code" >"$log.code"; } | tee "$log"
+    numbers=$(sed -n 's/^\(.*: \)\{0,1\}\([0-9][0-9]*\) passed, \([0-9][0-9]*\) failed$/\2 \3/p' "$log" | tail -n 1)
+    numbers=${numbers:-0 0}
+    if [ "$(cat "$log.code")" -ne 0 ] && [ "${numbers#* }" -eq 0 ]; then
+        numbers="${numbers% *} 1"
+    fi
+    passed=$((passed + ${numbers% *}))
+    failed=$((failed + ${numbers#* }))
+}
+
 CARGO_TARGET_DIR="$PWD/target/second" cargo test --offline --quiet --manifest-path tests/second/Cargo.toml
-exec rt ci
+counted rt ci
+counted sh tests/journals.sh target/bin/trace
+counted sh tests/c.sh
+echo "$passed passed, $failed failed"
+test "$failed" -eq 0

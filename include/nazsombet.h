@@ -2,12 +2,14 @@
  * Nazsombet: the kernel core of the realtime box, for C.
  *
  * The library is target/staticlib/libcore_c.a, built by `rt staticlib core_c` for x86-64 Linux. Of the C library it
- * uses memset alone.
+ * uses memset alone. What each function answers and leaves, for all lengths and contents, is proved of its source,
+ * crates/core_c/src/lib.rt. That these declarations fit it is tested only.
  *
  * Memory. The host owns all of it. It lends the tables (4,096 words) and a scratch (256 words); the library keeps no
- * pointer and no state between two calls, allocates nothing and does no input or output. All that the core knows stands
- * in the tables: they may be copied, stored and lent again elsewhere. What the scratch holds does not matter. Only this
- * library writes sound tables; to change them by hand is found out, by 17, unless they happen to be sound again.
+ * pointer and no state between two calls, allocates nothing and does no input or output. As compiled today it takes
+ * less than 1 KiB of stack. All that the core knows stands in the tables: they may be copied, stored and lent again
+ * elsewhere. What the scratch holds does not matter. Nobody but the library is to write the tables: a change by hand is
+ * found out, by 17, unless it happens to leave them sound.
  *
  * Pointers. No pointer is null, not even with length 0. Each points to as many words as its length says, aligned as its
  * type asks. What a function writes overlaps nothing else that it is lent. This is all that the library relies on: any
@@ -16,8 +18,8 @@
  * Threads. The functions may run at the same time on different memory. While one runs nobody else writes what it was
  * lent, nor reads what it writes: one caller at a time for a pair of tables and scratch.
  *
- * Numbers. Every function answers 0 where it did what was asked, or one of the numbers below. Those of 16 and more are
- * refusals: they are tried in the order of the numbers, and they leave the tables as they were.
+ * Numbers. Every function but nazsombet_running answers one of the numbers below. Those of 16 to 27 are refusals: they
+ * are tried in the order of the numbers, and they leave the tables as they were.
  */
 #ifndef NAZSOMBET_H
 #define NAZSOMBET_H

@@ -16,7 +16,8 @@ use Rattle.machine.proofs.Lists.{clash}
 use Rattle.machine.proofs.Mid.{sound-mid}
 use Rattle.machine.proofs.Debts.{mid-forget, mid-dropDebt, dropDebt-drops}
 use Rattle.machine.proofs.Looking.{mid-join}
-use Rattle.machine.proofs.Aborting.{running-present, join-status, clear, mine, unowed, unowned, owns-this}
+use Rattle.machine.specs.Mid.{clear, mine}
+use Rattle.machine.proofs.Aborting.{running-present, join-status, unowed, unowned, owns-this}
 use Rattle.layout.specs.Words.{statusCode, abortCode}
 use Rattle.layout.specs.Shows.{Shows}
 use Rattle.store.specs.Steps.{Shown, Does, Tells}

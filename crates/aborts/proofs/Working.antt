@@ -11,7 +11,7 @@ use Rattle.machine.specs.Endpoints.{dropDebt, endAbort}
 use Rattle.machine.specs.Results.{Result, Look, counted, accept}
 use Rattle.machine.specs.Aborts.{Looked, pendingAt, begin, ended, lookedOwn, workOwn, beginAfter, finished}
 use Rattle.machine.specs.Aborts.{lookedOther, workOther}
-use Rattle.machine.proofs.Mid.{Mid}
+use Rattle.machine.specs.Mid.{Mid}
 use Rattle.machine.proofs.Debts.{nothing-owns, live-present, mid-dropDebt, dropDebt-drops, mid-endAbort, endAbort-entry}
 use Rattle.machine.proofs.Debts.{endAbort-runs, endAbort-debt}
 use Rattle.machine.proofs.Looking.{mid-begin, mid-lookUpTo, steady-lookUpTo}

@@ -9,8 +9,7 @@ use Rattle.machine.specs.declared.Answer.{Answer}
 use Rattle.machine.specs.State.{State, nothing, Abort, live}
 use Rattle.machine.specs.Results.{Result, Look}
 use Rattle.machine.specs.Aborts.{Looked, pendingAt, lookUpTo, begin, join, ended, workOwn, abortAt}
-use Rattle.machine.proofs.Mid.{Mid}
-use Rattle.machine.proofs.Aborting.{Owed}
+use Rattle.machine.specs.Mid.{Mid, Owed}
 use Rattle.layout.specs.Shows.{Shows}
 use Rattle.results.specs.Results.{Performs}
 

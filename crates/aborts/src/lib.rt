@@ -3,7 +3,6 @@
 // allowance is used up. What is left stands in the tables, so the next call goes on from there.
 ghost use Prim.Native.Nat.{_+_, _≤_, _<_, _^_};
 ghost use mathlib.Core.Path.{_≡_};
-ghost use Rattle.machine.specs.Results.{counted};
 ghost use Rattle.machine.specs.Aborts.{look, workOwn, beginAfter, workOther, abortOpen, abort};
 ghost use Rattle.store.specs.Steps.{Shown, Does};
 ghost use Rattle.results.specs.Results.{Calling, Performs};
@@ -13,18 +12,6 @@ use machine::Answer;
 
 // The status of a live endpoint: one whose abort ends is live as before.
 const LIVE: u32 = 1;
-
-// A code and a count of looks.
-fn counted(code: u32, count: u32) -> Answer
-    ensures { λ r. ⌜ r ≡ counted code count ⌝ }
-{
-    Answer {
-        code,
-        count,
-        badge: 0,
-        message: 0,
-    }
-}
 
 // A look takes the cursor's waiter w: under the abort's badge it is removed, else it is kept and the cursor moves on.
 fn look(tables: &mut [u32], e: usize, w: usize)
@@ -65,11 +52,11 @@ fn end_own(tables: &mut [u32], t: usize, e: usize, count: u32) -> Answer
 {
     let cursor = store::cursor(tables, e);
     if cursor != 0 {
-        return results::accept(tables, counted(2, count));
+        return results::accept(tables, results::counted(2, count));
     }
     debts::drop_debt(tables, t);
     debts::end_abort(tables, e, LIVE);
-    results::accept(tables, counted(0, count))
+    results::accept(tables, results::counted(0, count))
 }
 
 // The call's own abort works; the call's earlier looks are counted with its own.
@@ -113,7 +100,7 @@ fn begin_after(
         (beginAfter left t e badge) (now (tables .exit)) ⌝ }
 {
     if left == 0 {
-        return results::accept(tables, counted(2, earlier));
+        return results::accept(tables, results::counted(2, earlier));
     }
     begin_own(tables, t, e, left, badge, earlier)
 }
@@ -127,7 +114,7 @@ fn work_other(tables: &mut [u32], t: usize, e: usize, allowance: u32, badge: u32
     let n = look_up_to(tables, e, allowance);
     let pending = store::cursor(tables, e);
     if pending != 0 {
-        return results::accept(tables, counted(2, n));
+        return results::accept(tables, results::counted(2, n));
     }
     debts::end_abort(tables, e, LIVE);
     let rest = allowance - n;

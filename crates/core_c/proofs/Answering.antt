@@ -3,16 +3,14 @@
 use Prim.Native.Nat.{ℕ, zero, suc}
 use mathlib.Core.Path.{_≡_, refl, sym, ap, _∙_}
 use mathlib.Core.List.{List}
-use mathlib.Core.Option.{Option, none, some}
-use native.Mathlib.Omega.{arith}
+use mathlib.Core.Option.{Option, none}
 use Rattle.machine.specs.declared.Answer.{Answer}
 use Rattle.machine.specs.declared.Call.{Call}
 use Rattle.machine.specs.Results.{plain}
 use Rattle.tables.specs.Entries.{Checked, checked}
 use Rattle.journal.specs.declared.types.Written.{Written}
-use Rattle.kernel.specs.Entry.{Called, called}
+use Rattle.kernel.specs.Entry.{Called}
 use Rattle.core_c.specs.declared.types.Named.{Named}
-use Rattle.core_c.specs.declared.types.Named.the-variants.{One, Nothing}
 use Rattle.core_c.specs.Numbers.{callIn, named, nameOf}
 use Rattle.core_c.specs.Entries.{Answered, refusal, calledFor, four, asAnswered, answered, writtenFor}
 use Rattle.core_c.proofs.Naming.{name-named}

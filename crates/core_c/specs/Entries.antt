@@ -26,8 +26,8 @@ abbrev pub refusal : ℕ → ℕ
 refusal zero = 18
 refusal (suc n) = suc n
 
--- A call is taken as the core takes it. Where none is named, the tables are checked and stay, and the scratch is left as
--- the check leaves it.
+-- A call is taken as the core takes it. Where none is named, the tables are checked and stay, and the scratch is left
+-- as the check leaves it.
 abbrev pub calledFor : Option Call → List ℕ → List ℕ → Called
 calledFor (some c) m scratch = called m scratch c
 calledFor none m scratch =
@@ -45,8 +45,8 @@ asAnswered r =
 unfoldable pub answered : List ℕ → List ℕ → List ℕ → Answered
 answered m scratch numbers = asAnswered (calledFor (callIn numbers) m scratch)
 
--- Read: 0, the first word not yet read and the call's numbers; the reader's 18 or 19, its place and zeros; at the end of
--- the journal 255, the place as it was and zeros.
+-- Read: 0, the first word not yet read and the call's numbers; the reader's 18 or 19, its place and zeros; at the end
+-- of the journal 255, the place as it was and zeros.
 abbrev pub asReading : ℕ → Read → Reading
 asReading at (Found c next) = record { code = 0; at = next; call = numbersOf c }
 asReading at (Refused code place) = record { code = code; at = place; call = 0 ∷ 0 ∷ 0 ∷ 0 ∷ 0 ∷ [] }

@@ -57,6 +57,7 @@ fn refuse(tables: &[u32], scratch: &mut [u32]) -> Answer
     results::plain(18)
 }
 
+// Takes the call that the numbers name, if they name one.
 fn take(tables: &mut [u32], scratch: &mut [u32], named: Named) -> Answer
     ensures { λ r. ⌜ _≡_ {A = Called}
         (record { answer = r; tables = now (tables .exit); scratch = now (scratch .exit) })
@@ -123,6 +124,7 @@ pub extern "C" fn nazsombet_read(journal: &[u32], at: &mut usize, call: &mut [u3
     reading.code
 }
 
+// The words of the call that the numbers name, if they name one.
 fn write(named: Named) -> Written
     ensures { λ r. ⌜ r ≡ writtenFor (nameOf named) ⌝ }
 {

@@ -1,5 +1,5 @@
-// What the parts of an entry point hand on to it. A module of its own: a type and a function of one name could not stand
-// in one.
+// What the entry points' parts hand to each other. A module of its own: a type and a function of one name could not
+// stand in one.
 use machine::Call;
 
 // The call that five numbers name, if they name one.

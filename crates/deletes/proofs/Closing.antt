@@ -10,7 +10,7 @@ use Rattle.machine.specs.Lists.{Mem}
 use Rattle.machine.specs.State.{State, missing, closing, Endpoint, missingEndpoint, setEndpoint}
 use Rattle.machine.specs.Endpoints.{ownerOf, wakeFrom, dropDebt, endAbort}
 use Rattle.machine.specs.Aborts.{oneMore, removeUpTo}
-use Rattle.machine.proofs.Mid.{Mid}
+use Rattle.machine.specs.Mid.{Mid}
 use Rattle.machine.proofs.Keeping.{mid-entry}
 use Rattle.machine.proofs.Ready.{none-some}
 use Rattle.machine.proofs.Debts.{closing-present, closing-live, mid-dropDebt, dropDebt-drops, mid-endAbort}

@@ -4,7 +4,7 @@ use mathlib.Core.Path.{_≡_}
 use mathlib.Core.List.{List}
 use Rattle.machine.specs.State.{State, closing}
 use Rattle.machine.specs.Aborts.{Removal, removeUpTo}
-use Rattle.machine.proofs.Mid.{Mid}
+use Rattle.machine.specs.Mid.{Mid}
 use Rattle.layout.specs.Shows.{Shows}
 
 -- A state in the middle of a call, with e closing.

@@ -16,6 +16,8 @@ use Rattle.machine.specs.State.{State, freshState}
 use Rattle.machine.specs.Machine.{step}
 use Rattle.machine.specs.Sound.{Sound}
 use Rattle.machine.specs.History.{History, Run, freshRun, runFrom, historyOf, recorded, told}
+use Rattle.machine.specs.Claim.{Claim}
+use Rattle.machine.proofs.Demand.{demand}
 use Rattle.machine.proofs.Steps.{step-sound, fresh-sound}
 use Rattle.layout.specs.Words.{image}
 use Rattle.layout.specs.Tables.{stateOf}
@@ -76,3 +78,14 @@ unfolding freshened
 fresh-turns m scratch calls n k =
     let e = turns-same calls freshRun scratch fresh-sound k in
     rw (eq-eqb (length m) 4096 n) (e .answers, e .tables)
+
+-- Demand 3 of the code: the answers that the entry gives to a list of calls, from fresh tables and with any scratch of
+-- 256 words, are those of the list's history, and of that the claim holds.
+pub record Demanded (m scratch : List ℕ) (calls : List Call) : Type 0 where
+  pub answers : turns calls (freshened m .tables) scratch .answers ≡ historyOf calls .answers
+  pub claim : Claim calls (historyOf calls)
+
+pub demand-kept :
+    (m scratch : List ℕ) (calls : List Call) → length m ≡ 4096 → length scratch ≡ 256 → Demanded m scratch calls
+demand-kept m scratch calls n k =
+    record { answers = fresh-turns m scratch calls n k .0; claim = demand calls }

@@ -18,7 +18,8 @@ use Rattle.machine.specs.Aborts.{beginAfter, finished, lookedOther, work
 use Rattle.machine.specs.Aborts.{dropUnless, dropOther, abortOpen, abortAt, hasNote, abortUnless, abort}
 use Rattle.machine.specs.Sound.{Sound, Present}
 use Rattle.machine.proofs.Lists.{put-same, clash}
-use Rattle.machine.proofs.Mid.{Mid, sound-mid}
+use Rattle.machine.specs.Mid.{Mid, Owed, clear, mine}
+use Rattle.machine.proofs.Mid.{sound-mid}
 use Rattle.machine.proofs.Debts.{nothing-owns, live-present, mid-forget, mid-dropDebt, dropDebt-drops}
 use Rattle.machine.proofs.Ready.{none-some}
 use Rattle.machine.proofs.Debts.{mid-endAbort, endAbort-entry, endAbort-runs, endAbort-debt}
@@ -117,11 +118,6 @@ module _ (t e b : ℕ) (h : b < 2 ^ 28) where
         status = F .entry e .status ∙ O .status;
       })
       (F .debt t ∙ d)
-
--- The caller's debt before the work: none, or the ownership of the abort of badge b at e.
-pub data Owed (t e b : ℕ) (s : State) : Type 0 where
-  clear : s .threads t .debt ≡ nothing → Owed t e b s
-  mine : s .threads t .debt ≡ owns e → underAbort b (s .endpoints e .abort) ≡ true → Owed t e b s
 
 -- No abort of badge b stands at e, or none with an owner: there is no debt.
 

@@ -15,7 +15,8 @@ use Rattle.machine.specs.Scheduling.{enqueue, standDown, occupied, highe
 use Rattle.machine.specs.Scheduling.{dispatchAt, dispatch, above, displace, chooseFor, choose}
 use Rattle.machine.specs.Sound.{Sound, Chosen, Ready}
 use Rattle.machine.proofs.Lists.{clash, put-same, same, other, same?}
-use Rattle.machine.proofs.Mid.{Mid, sound-mid}
+use Rattle.machine.specs.Mid.{Mid}
+use Rattle.machine.proofs.Mid.{sound-mid}
 use Rattle.machine.proofs.Parts.{Levels, parts, whole}
 use Rattle.machine.proofs.Ready.{put-else, none-some, some-one, levels-run}
 use Rattle.machine.proofs.Sites.{differ}

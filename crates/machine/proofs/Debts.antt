@@ -15,7 +15,7 @@ use Rattle.machine.specs.Endpoints.{ownerOf, withOwner, dropped, dropDeb
 use Rattle.machine.specs.Sound.{Part, Owners}
 use Rattle.machine.proofs.Ready.{none-some, some-one}
 use Rattle.machine.proofs.Lists.{put-all, put-same}
-use Rattle.machine.proofs.Mid.{Mid}
+use Rattle.machine.specs.Mid.{Mid}
 use Rattle.machine.proofs.Keeping.{Keeps, keeps-self, May, Fits, may-stay, fits-stay, bearing, owing, owing-same}
 use Rattle.machine.proofs.Keeping.{owing-other, keeps-debt, keeps-both, mid-debt, mid-entry, mid-both}
 

@@ -10,7 +10,8 @@ use Rattle.machine.specs.State.{State, Status, missing, live, closing, E
 use Rattle.machine.specs.Endpoints.{ownerOf, wakeFrom, dropDebt, endAbort}
 use Rattle.machine.specs.Aborts.{Removal, oneMore, removeUpTo, deleted, deleteFrom, deleteAt, delete}
 use Rattle.machine.specs.Sound.{Sound}
-use Rattle.machine.proofs.Mid.{Mid, sound-mid}
+use Rattle.machine.specs.Mid.{Mid}
+use Rattle.machine.proofs.Mid.{sound-mid}
 use Rattle.machine.proofs.Keeping.{mid-entry}
 use Rattle.machine.proofs.Debts.{live-present, closing-present, closing-live, mid-dropDebt}
 use Rattle.machine.proofs.Ready.{none-some}

@@ -13,7 +13,7 @@ use Rattle.machine.specs.State.{State, Thread, Abort, closing, Endpoint,
 use Rattle.machine.specs.Endpoints.{ownerOf, wakeFrom, dropDebt, note, endAbort}
 use Rattle.machine.specs.Aborts.{Removal, oneMore, removeUpTo, deleted, deleteFrom}
 use Rattle.machine.specs.History.{Aborting, Ended, isAccepted}
-use Rattle.machine.proofs.Mid.{Mid}
+use Rattle.machine.specs.Mid.{Mid}
 use Rattle.machine.proofs.Debts.{live-present, closing-live, mid-dropDebt, endAbort-entry}
 use Rattle.machine.proofs.Ready.{none-some}
 use Rattle.machine.proofs.Standing.{Both, Core}

@@ -22,7 +22,7 @@ use Rattle.machine.specs.Claim.{In, isOld}
 use Rattle.machine.proofs.Lists.{Same, same, other, same?, clash, mem-only, only-keep, distinct-only, put-all}
 use Rattle.machine.proofs.Lists.{put-same}
 use Rattle.machine.proofs.Sublists.{sub-refl, map-mem, distinct-map, entry-below}
-use Rattle.machine.proofs.Mid.{Mid}
+use Rattle.machine.specs.Mid.{Mid}
 use Rattle.machine.proofs.Debts.{noted-owns}
 use Rattle.machine.proofs.Standing.{callOf, sends-call, Made, Stood, Both, Over, Noted, Core, stood-exact}
 use Rattle.machine.proofs.Leaving.{Fewer, core-at}

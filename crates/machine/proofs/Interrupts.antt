@@ -11,7 +11,8 @@ use Rattle.machine.specs.Endpoints.{dropDebt}
 use Rattle.machine.specs.Machine.{fire, interrupt, waitAt, wait}
 use Rattle.machine.specs.Sound.{Sound}
 use Rattle.machine.proofs.Lists.{put-same}
-use Rattle.machine.proofs.Mid.{Mid, sound-mid}
+use Rattle.machine.specs.Mid.{Mid}
+use Rattle.machine.proofs.Mid.{sound-mid}
 use Rattle.machine.proofs.Parts.{parts, whole}
 use Rattle.machine.proofs.Ready.{put-else}
 use Rattle.machine.proofs.Sites.{not-awaited, lines-set}

@@ -19,11 +19,12 @@ use Rattle.machine.specs.Aborts.{begin, joinAs, join, workOwn, underBadg
 use Rattle.machine.specs.Aborts.{dropOther, abortOpen}
 use Rattle.machine.specs.History.{Aborting, Ended, Walk, ownerIn, walk}
 use Rattle.machine.proofs.Lists.{put-same}
-use Rattle.machine.proofs.Mid.{Mid}
+use Rattle.machine.specs.Mid.{Mid}
 use Rattle.machine.proofs.Keeping.{Keeps, keeps-self, keeps-both}
 use Rattle.machine.proofs.Debts.{noted-owns, mid-dropDebt, dropDebt-drops}
 use Rattle.machine.proofs.Looking.{mid-join}
-use Rattle.machine.proofs.Aborting.{running-present, join-status, Owed, clear, mine, unowed, unowned}
+use Rattle.machine.specs.Mid.{Owed, clear, mine}
+use Rattle.machine.proofs.Aborting.{running-present, join-status, unowed, unowned}
 use Rattle.machine.proofs.Aborting.{owns-this}
 use Rattle.machine.proofs.Standing.{Both, Core}
 use Rattle.machine.proofs.Leaving.{Leaves, leaves-self, leaves-then, leaves-debt, leaves-endpoint}

@@ -11,7 +11,7 @@ use Rattle.machine.specs.State.{Endpoint, missingEndpoint, setThread, se
 use Rattle.machine.specs.Endpoints.{ownerOf}
 use Rattle.machine.specs.Sound.{Present, DebtInRange, Numbers, Part, Ranges, Queues, Owners, Outcomes}
 use Rattle.machine.proofs.Lists.{put-all, put-same, put-other}
-use Rattle.machine.proofs.Mid.{Mid}
+use Rattle.machine.specs.Mid.{Mid}
 
 -- Every thread keeps all but its debt, every endpoint its queue; runs, levels and lines are as they were.
 pub record Keeps (s s′ : State) : Type 0 where

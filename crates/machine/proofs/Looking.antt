@@ -17,7 +17,7 @@ use Rattle.machine.specs.Aborts.{hits, lookAt, look, after, pendingAt, l
 use Rattle.machine.specs.Sound.{Present, Queued, Part}
 use Rattle.machine.proofs.Lists.{put-all, clash, distinct-left, distinct-right, without-first, mem-keep}
 use Rattle.machine.proofs.Lists.{mem-only, only-keep, only-all}
-use Rattle.machine.proofs.Mid.{Mid}
+use Rattle.machine.specs.Mid.{Mid}
 use Rattle.machine.proofs.Keeping.{Fits, May, bearing, mid-entry, mid-both}
 use Rattle.machine.proofs.Debts.{nothing-owns, owners-claim, abort-live, fits-some, fits-owner}
 use Rattle.machine.proofs.Waking.{mid-wakeFrom}

@@ -10,7 +10,7 @@ use Rattle.machine.specs.State.{State, Thread, Place, absent, able, send
 use Rattle.machine.specs.State.{Endpoint, missing, live, Line, quiet, awaited, absentThread, missingEndpoint}
 use Rattle.machine.specs.Endpoints.{ownerOf}
 use Rattle.machine.specs.Sound.{Stores, Numbers}
-use Rattle.machine.proofs.Mid.{Mid}
+use Rattle.machine.specs.Mid.{Mid}
 
 -- Of thread t with the entry x.
 pub record Entry (t : ℕ) (x : Thread) : Type 0 where

@@ -26,7 +26,7 @@ use Rattle.machine.specs.History.{reportIf}
 use Rattle.machine.specs.Claim.{In}
 use Rattle.machine.proofs.Lists.{put-same}
 use Rattle.machine.proofs.Sublists.{only-agree}
-use Rattle.machine.proofs.Mid.{Mid}
+use Rattle.machine.specs.Mid.{Mid}
 use Rattle.machine.proofs.Keeping.{Keeps, keeps-place, keeps-entry, keeps-both}
 use Rattle.machine.proofs.Debts.{nothing-owns, mid-dropDebt, dropDebt-drops}
 use Rattle.machine.proofs.Looking.{mid-begin, Steady, steady-lookUpTo}

@@ -20,7 +20,8 @@ use Rattle.machine.specs.Machine.{destroyIf, destroyThread, moveReady, c
 use Rattle.machine.specs.Machine.{leaveTicks, tickFor, tick, yield}
 use Rattle.machine.specs.Sound.{Sound}
 use Rattle.machine.proofs.Lists.{clash, put-same, put-other, put-all}
-use Rattle.machine.proofs.Mid.{Mid, sound-mid}
+use Rattle.machine.specs.Mid.{Mid}
+use Rattle.machine.proofs.Mid.{sound-mid}
 use Rattle.machine.proofs.Parts.{At, Entry, Levels, Site, Lines, parts, whole}
 use Rattle.machine.proofs.Ready.{Else, put-else, put-keeps, put-place, none-some, some-one, levels-aside}
 use Rattle.machine.proofs.Ready.{levels-runs, levels-stop, levels-join, levels-leave}

@@ -17,7 +17,8 @@ use Rattle.machine.specs.Machine.{createAt, createEndpoint, sendTo, send
 use Rattle.machine.specs.Machine.{receiveAt, receive}
 use Rattle.machine.specs.Sound.{Sound, Queued}
 use Rattle.machine.proofs.Lists.{put-all, mem-only, only-keep}
-use Rattle.machine.proofs.Mid.{Mid, sound-mid}
+use Rattle.machine.specs.Mid.{Mid}
+use Rattle.machine.proofs.Mid.{sound-mid}
 use Rattle.machine.proofs.Parts.{At, Site, parts, whole}
 use Rattle.machine.proofs.Ready.{none-some, some-one, put-keeps}
 use Rattle.machine.proofs.Sites.{owned-same}

@@ -34,7 +34,8 @@ use Rattle.machine.proofs.Leaving.{Leaves, no-call, no-note, leaves-cle
 use Rattle.machine.proofs.Leaving.{leaves-thread, leaves-endpoint, leaves-queue, leaves-wakeFrom}
 use Rattle.machine.proofs.Leaving.{leaves-dropDebt}
 use Rattle.machine.proofs.Blocking.{Blocks, stays-choose, leaves-choose}
-use Rattle.machine.proofs.Mid.{Mid, sound-mid}
+use Rattle.machine.specs.Mid.{Mid}
+use Rattle.machine.proofs.Mid.{sound-mid}
 
 pub data Turn (s : State) (c : Call) (r : Result) : Type 0 where
   idle : Leaves s (r .state) → queues? c (r .answer .code) ≡ false → Turn s c r

@@ -14,7 +14,7 @@ use Rattle.machine.specs.Scheduling.{enqueue, standDown, wake, block}
 use Rattle.machine.specs.Endpoints.{underAbort, ownerOf, joinEndpoint, leaveEndpoint, wakeFrom}
 use Rattle.machine.specs.Sound.{Queued, Numbers, Stores}
 use Rattle.machine.proofs.Lists.{put-same, put-other, put-all}
-use Rattle.machine.proofs.Mid.{Mid}
+use Rattle.machine.specs.Mid.{Mid}
 use Rattle.machine.proofs.Parts.{At, Entry, Levels, Site, parts, whole}
 use Rattle.machine.proofs.Ready.{Else, put-else, put-keeps, put-place, levels-stop, levels-join}
 use Rattle.machine.proofs.Sites.{differ, not-at, at-one, left, left-owner, joined, not-awaited, site-aside}

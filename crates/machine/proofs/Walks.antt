@@ -25,7 +25,7 @@ use Rattle.machine.proofs.Lists.{only-hit, only-miss, only-none}
 use Rattle.machine.proofs.Sublists.{Sub, take, sub-trans, sub-mem, sub-distinct, sub-map, sub-after}
 use Rattle.machine.proofs.Sublists.{sub-without, only-append, only-without, isIn-true, mem-isIn, not-isIn}
 use Rattle.machine.proofs.Sublists.{mem-map, map-mem, map-without}
-use Rattle.machine.proofs.Mid.{Mid}
+use Rattle.machine.specs.Mid.{Mid}
 use Rattle.machine.proofs.Looking.{mid-look}
 use Rattle.machine.proofs.Standing.{sends-call, Stood, Both, Core}
 use Rattle.machine.proofs.Leaving.{Fewer, fewer-sends, leaves-wakeFrom, core-at}

@@ -12,7 +12,7 @@ use Rattle.machine.specs.State.{Endpoint, missingEndpoint, setLine}
 use Rattle.machine.specs.Endpoints.{ownerOf, pendingOf}
 use Rattle.machine.specs.Scheduling.{unqueue}
 use Rattle.machine.specs.Sound.{Present, Ready, Queued, Part}
-use Rattle.machine.proofs.Mid.{Mid}
+use Rattle.machine.specs.Mid.{Mid}
 use Rattle.machine.proofs.Lists.{Same, same, other, same?, put-same, put-other, mem-left, mem-right, mem-without}
 use Rattle.machine.proofs.Sites.{differ, not-at}
 use Rattle.machine.proofs.Aborting.{running-present}

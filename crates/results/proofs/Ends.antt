@@ -16,6 +16,12 @@ use Rattle.results.specs.Results.{Performs, Accepts}
 pub accepted : {m n : List ℕ} {a : Answer} → Does m n Chooses choose → Accepts m a a Chooses n
 accepted D = record { performs = λ looks. record { answers = λ s M h. refl; shows = λ s M h. D .shows s M h } }
 
+-- An accepted call that has no looks.
+pub answered :
+    {m n : List ℕ} {a b : Answer} (k : Answer) → a ≡ k → Accepts m a b Chooses n
+    → Performs m n b Chooses (accept k [])
+answered {m} {n} {b = b} k e A = subst (λ (x : Answer). Performs m n b Chooses (accept x [])) e (A .performs [])
+
 -- A refusal leaves the memory.
 pub refused :
     {m : List ℕ} {P : State → Type 0} {a : Answer} (code : ℕ) → a ≡ plain code → Performs m m a P (refuse code)

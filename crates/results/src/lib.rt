@@ -1,10 +1,10 @@
 // How a call ends: refused, or accepted, after which somebody is chosen once. What a call's steps ask follows from the
 // soundness of the state, in proofs/Conditions.
 ghost use mathlib.Core.Path.{_≡_};
-ghost use Rattle.machine.specs.Results.{plain};
+ghost use Rattle.machine.specs.Results.{plain, counted, done};
 ghost use Rattle.store.specs.Steps.{Shown};
 ghost use Rattle.queues.specs.Queues.{Chooses};
-ghost use Rattle.results.specs.Results.{Accepts, answerOf};
+ghost use Rattle.results.specs.Results.{Performs, Accepts};
 use machine::Answer;
 
 // A code alone, with three zeros.
@@ -19,6 +19,18 @@ pub fn plain(code: u32) -> Answer
     }
 }
 
+// A code and a count.
+pub fn counted(code: u32, count: u32) -> Answer
+    ensures { λ r. ⌜ r ≡ counted code count ⌝ }
+{
+    Answer {
+        code,
+        count,
+        badge: 0,
+        message: 0,
+    }
+}
+
 // An accepted call is answered after somebody is chosen.
 pub fn accept(tables: &mut [u32], answer: Answer) -> Answer
     requires { ⌜ Shown (now tables) Chooses ⌝ }
@@ -26,4 +38,13 @@ pub fn accept(tables: &mut [u32], answer: Answer) -> Answer
 {
     queues::choose(tables);
     answer
+}
+
+// The call is done: code 0.
+pub fn done(tables: &mut [u32]) -> Answer
+    requires { ⌜ Shown (now tables) Chooses ⌝ }
+    ensures { λ r. ⌜ Performs (now (tables .entry)) (now (tables .exit)) r Chooses done ⌝ }
+{
+    let answer = plain(0);
+    accept(tables, answer)
 }

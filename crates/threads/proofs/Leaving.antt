@@ -14,7 +14,7 @@ use Rattle.machine.specs.Scheduling.{unqueue}
 use Rattle.machine.specs.Endpoints.{leaveEndpoint}
 use Rattle.machine.specs.Machine.{isRunning, leaveReady, leave}
 use Rattle.machine.specs.Sound.{Present, Queued}
-use Rattle.machine.proofs.Mid.{Mid}
+use Rattle.machine.specs.Mid.{Mid}
 use Rattle.machine.proofs.Sites.{not-awaited}
 use Rattle.layout.specs.Words.{placeCode}
 use Rattle.layout.specs.Shows.{Shows}

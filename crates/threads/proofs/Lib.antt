@@ -1,5 +1,4 @@
 -- The lemmas of the calls on threads, in the order to read them. A function's proof stands in a folder of its name.
-pub mod Answering
 pub mod Runner
 pub mod Places
 pub mod Leaving

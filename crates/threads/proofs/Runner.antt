@@ -13,7 +13,7 @@ use Rattle.machine.specs.Scheduling.{enqueue, unqueue, standDown}
 use Rattle.machine.specs.Endpoints.{passing, leaveEndpoint}
 use Rattle.machine.specs.Machine.{isRunning, leaveReady, leave}
 use Rattle.machine.proofs.Lists.{put-all, mem-snoc, mem-without}
-use Rattle.machine.proofs.Mid.{Mid}
+use Rattle.machine.specs.Mid.{Mid}
 use Rattle.machine.proofs.Ready.{none-some}
 use Rattle.machine.proofs.Sites.{not-at}
 use Rattle.machine.proofs.Aborting.{running-present}

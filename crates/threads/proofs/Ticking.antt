@@ -12,14 +12,18 @@ use Rattle.machine.specs.Endpoints.{dropDebt}
 use Rattle.machine.specs.Results.{done}
 use Rattle.machine.specs.Machine.{leaveTicks, tickFor, tick, yield}
 use Rattle.machine.proofs.Lists.{put-same}
-use Rattle.machine.proofs.Mid.{Mid, sound-mid}
+use Rattle.machine.specs.Mid.{Mid}
+use Rattle.machine.proofs.Mid.{sound-mid}
 use Rattle.machine.proofs.Aborting.{running-present}
 use Rattle.machine.proofs.Debts.{mid-dropDebt, dropDebt-drops}
 use Rattle.layout.specs.Words.{linkOf, queuesOf}
 use Rattle.layout.specs.Shows.{Shows}
 use Rattle.store.specs.Steps.{Shown, Does, Tells}
 use Rattle.store.specs.Store.{IsThread, Any, ticking}
-use Rattle.store.specs.Readings.{ticksIn, runningIn}
+use Rattle.store.specs.Readings.{runningIn}
+use Rattle.blocks.specs.declared.Block.{Block}
+use Rattle.blocks.specs.Blocks.{refilled, tickedBlock, Loads, IsBlock, Stores}
+use Rattle.blocks.proofs.Moves.{ticks-told, ticked-block, ticked-thread}
 use Rattle.queues.specs.Queues.{Loose, Chooses}
 use Rattle.queues.proofs.Joining.{shown-next, and-then}
 use Rattle.debts.specs.Debts.{Debtor}
@@ -51,7 +55,7 @@ module _ {t : ℕ} (s : State) (h : Caller t s) where
 pub caller-asked : {m : List ℕ} {t : ℕ} → Shown m (Caller t) → Shown m (IsThread t)
 caller-asked S = shown-for S caller-small
 
-some-left : (t : ℕ) (s : State) (k : ℕ) → 1 ≤ k → ticking t k s ≡ leaveTicks k t s
+some-left : (t : ℕ) (s : State) (k : ℕ) → 1 ≤ k → ticking t (refilled k) s ≡ leaveTicks k t s
 unfolding leaveTicks
 some-left t s zero h = absurd (omega arith)
 some-left t s (suc k) h = refl
@@ -61,48 +65,47 @@ least zero k z = absurd (omega arith)
 least (suc zero) k z = absurd (z refl)
 least (suc (suc r)) k z = omega arith
 
--- A tick taken: the number 1 is that of the last.
-module _ {m : List ℕ} {t r : ℕ} (T : Tells m (IsThread t) r (ticksIn t)) where
-  told : (s : State) → Shows m s → Caller t s → r ≡ s .threads t .ticks
-  told s M h = T .tells s M (caller-small s h)
+-- A tick taken, by the thread's block b: the number 1 is that of the last.
+module _ {m : List ℕ} {t : ℕ} {b r : Block} (L : Loads m t b) (e : r ≡ tickedBlock b) where
+  told : (s : State) → Shows m s → Caller t s → b .ticks ≡ s .threads t .ticks
+  told s M h = ticks-told L .tells s M (caller-small s h)
 
-  pub ticks-least : Shown m (Caller t) → 1 ≤ r
-  ticks-least S =
-      omega (arith, told (S .state) (S .shows) (S .holds), caller-least (S .state) (S .holds))
+  pub store-asked : Shown m (Caller t) → Shown m (IsThread t) × IsBlock r
+  store-asked S = ticked-block L e (caller-asked S)
 
-  module _ {n : List ℕ} where
-    filled : (k : ℕ) → Does m n (IsThread t) (ticking t k) → Does m n (Caller t) (ticking t k)
-    filled k D = does-for D caller-small
+  module _ {n : List ℕ} (D : Stores m t r n) where
+    taken : Does m n (Caller t) (ticking t (refilled (b .ticks - 1)))
+    taken = does-for (ticked-thread L e D) caller-small
 
-    pub stand-asked : (k : ℕ) → Does m n (IsThread t) (ticking t k) → Shown m (Caller t) → Shown n (Loose t)
-    stand-asked k D S = shown-next (filled k D) (λ s M h. ticked-loose s h k) S
+    pub stand-asked : Shown m (Caller t) → Shown n (Loose t)
+    stand-asked S = shown-next taken (λ s M h. ticked-loose s h (refilled (b .ticks - 1))) S
 
     pub last-tick :
-        {o : List ℕ} → r ≡ 1 → Does m n (IsThread t) (ticking t 5) → Does n o (Loose t) (standDown t)
-        → Does m o (Caller t) (tickFor (some t))
+        {o : List ℕ} → b .ticks ≡ 1 → Does n o (Loose t) (standDown t) → Does m o (Caller t) (tickFor (some t))
     unfolding tickFor leaveTicks
-    last-tick {o} z D E =
+    last-tick {o} z E =
         record {
           shows = λ s M h.
-              let e : zero ≡ s .threads t .ticks - 1 = omega (arith, told s M h) in
-              subst (λ (k : ℕ). Shows o (leaveTicks k t s)) e
-              (and-then (filled 5 D) (λ s M h. ticked-loose s h 5) E .shows s M h);
+              let k : zero ≡ s .threads t .ticks - 1 = omega (arith, told s M h) in
+              let j : refilled (b .ticks - 1) ≡ 5 = ap (λ (y : ℕ). refilled (y - 1)) z in
+              subst (λ (y : ℕ). Shows o (leaveTicks y t s)) k
+              (subst (λ (y : ℕ). Shows o (standDown t (ticking t y s))) j
+              (and-then taken (λ s M h. ticked-loose s h (refilled (b .ticks - 1))) E .shows s M h));
         }
 
-    pub one-tick :
-        (r ≡ 1 → ⊥) → Does m n (IsThread t) (ticking t (r - 1)) → Does m n (Caller t) (tickFor (some t))
+    pub one-tick : (b .ticks ≡ 1 → ⊥) → Does m n (Caller t) (tickFor (some t))
     unfolding tickFor
-    one-tick z D =
+    one-tick z =
         record {
           shows = λ s M h.
-              let e = told s M h in
-              subst (λ (k : ℕ). Shows n (leaveTicks (k - 1) t s)) e
-              (subst (λ (y : State). Shows n y) (some-left t s (r - 1) (more s e (caller-least s h)))
-              (D .shows s M (caller-small s h)));
+              let k = told s M h in
+              subst (λ (y : ℕ). Shows n (leaveTicks (y - 1) t s)) k
+              (subst (λ (y : State). Shows n y) (some-left t s (b .ticks - 1) (more s k (caller-least s h)))
+              (taken .shows s M h));
         }
       where
-        more : (s : State) → r ≡ s .threads t .ticks → 1 ≤ s .threads t .ticks → 1 ≤ r - 1
-        more s e k = least r (subst (λ (x : ℕ). 1 ≤ x) (sym e) k) z
+        more : (s : State) → b .ticks ≡ s .threads t .ticks → 1 ≤ s .threads t .ticks → 1 ≤ b .ticks - 1
+        more s k j = least (b .ticks) (subst (λ (y : ℕ). 1 ≤ y) (sym k) j) z
 
 -- The thread that runs, if one does.
 module _ {m : List ℕ} {link : ℕ} (L : Tells m Any link runningIn) where

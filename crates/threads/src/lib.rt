@@ -2,7 +2,6 @@
 // the words show what the machine's call does, and answers what it answers; the numbers are in range.
 ghost use Prim.Native.Nat.{_≤_};
 ghost use mathlib.Core.Option.{some};
-ghost use Rattle.machine.specs.Results.{done};
 ghost use Rattle.machine.specs.Machine.{createThread, destroyThread, setPriority, tickFor, tick as ticking, yield};
 ghost use Rattle.store.specs.Steps.{Shown, Does};
 ghost use Rattle.store.specs.Store.{IsThread};
@@ -12,15 +11,6 @@ ghost use Rattle.results.specs.Results.{Asked, Calling, Performs};
 ghost use Rattle.threads.specs.Threads.{readyIn, Able, leavingReady, Goes, leaving, Changes, changing};
 ghost use Rattle.threads.specs.Threads.{tickingFor, InRange};
 use machine::Answer;
-
-// The call is accepted, with code 0.
-fn accepted(tables: &mut [u32]) -> Answer
-    requires { ⌜ Shown (now tables) Chooses ⌝ }
-    ensures { λ r. ⌜ Performs (now (tables .entry)) (now (tables .exit)) r Chooses done ⌝ }
-{
-    let answer = results::plain(0);
-    results::accept(tables, answer)
-}
 
 // Whether thread t is ready: able, and not the one that runs.
 fn is_ready(tables: &[u32], t: usize) -> bool
@@ -47,7 +37,7 @@ pub fn create_thread(tables: &mut [u32], t: usize, p: u32) -> Answer
     }
     store::new_thread(tables, t, p);
     queues::enqueue(tables, t);
-    accepted(tables)
+    results::done(tables)
 }
 
 // An able thread t stops running, or leaves its level's queue.
@@ -95,7 +85,7 @@ pub fn destroy_thread(tables: &mut [u32], t: usize) -> Answer
     debts::drop_debt(tables, t); // the abort that it owned stands without an owner
     leave(tables, t, place);
     store::clear_thread(tables, t);
-    accepted(tables)
+    results::done(tables)
 }
 
 // Thread t gets another priority, and goes to the new tail if it is ready.
@@ -124,24 +114,25 @@ pub fn set_priority(tables: &mut [u32], t: usize, p: u32) -> Answer
     }
     let old = store::priority(tables, t);
     if old == p {
-        return accepted(tables);
+        return results::done(tables);
     }
     change(tables, t, p);
-    accepted(tables)
+    results::done(tables)
 }
 
-// The running thread u has a tick less; at the last it has 5 again and goes to its tail.
+// The running thread u has a tick less; at the last it has 5 again and goes to its tail. The tick changes the thread's
+// block where it is lent.
 fn take_tick(tables: &mut [u32], u: usize)
     requires { ⌜ Shown (now tables) (Calling u (Unit {0})) ⌝ }
     ensures { λ _. ⌜ Does (now (tables .entry)) (now (tables .exit)) (Calling u (Unit {0})) (tickFor (some u)) ⌝ }
 {
-    let left = store::ticks(tables, u);
-    if left == 1 {
-        store::set_ticks(tables, u, 5);
-        queues::stand_down(tables, u);
+    let block = blocks::load(tables, u);
+    let after = blocks::lend_to_tick(block);
+    blocks::store(tables, u, after);
+    if block.ticks != 1 {
         return;
     }
-    store::set_ticks(tables, u, left - 1);
+    queues::stand_down(tables, u);
 }
 
 // The thread that runs, if one does, has a tick less.
@@ -162,7 +153,7 @@ pub fn tick(tables: &mut [u32]) -> Answer
     ensures { λ r. ⌜ Performs (now (tables .entry)) (now (tables .exit)) r (Asked (Unit {0})) ticking ⌝ }
 {
     tick_running(tables);
-    accepted(tables)
+    results::done(tables)
 }
 
 // 9: the running thread t goes to its level's tail.
@@ -172,5 +163,5 @@ pub fn yield_running(tables: &mut [u32], t: usize) -> Answer
 {
     debts::drop_debt(tables, t); // an accepted call of the owner drops it
     queues::stand_down(tables, t);
-    accepted(tables)
+    results::done(tables)
 }

@@ -5,7 +5,7 @@ use mathlib.Core.Path.{_≡_, ap}
 use mathlib.Core.Bool.{Bool, true, false}
 use mathlib.Core.List.{List}
 use native.Mathlib.Omega.{arith}
-use lib.ListN.{length, take, drop, length-take}
+use lib.ListN.{length, drop, length-take, length-drop}
 use Rattle.machine.specs.declared.Call.{Call}
 use Rattle.machine.specs.declared.Call.the-variants.{CreateThread, DestroyThread, SetPriority, CreateEndpoint}
 use Rattle.machine.specs.declared.Call.the-variants.{Interrupt, Tick, Send, Receive, Yield, Wait, Delete, Abort}
@@ -35,13 +35,12 @@ pub record Onward (words : List ℕ) (from next : ℕ) : Type 0 where
   pub on : from + 1 ≤ next
   pub within : next ≤ length words
 
--- So it does after a call that stands at the front of the rest of the words.
+-- So it does after a call that was read at the place.
 pub found-onward :
     (words : List ℕ) (from : ℕ) (c : Call) (next : ℕ) → from ≤ length words →
-    readAt (take (length words - from) (drop from words)) 0 ≡ Found c next → Onward words from (from + next)
+    readAt words from ≡ Found c next → Onward words from next
 found-onward words from c next h e =
-    let rest = take (length words - from) (drop from words) in
-    let w = writes-what-was-read rest 0 c next e in
+    let w = writes-what-was-read words from c next e in
     record {
       on = omega (arith, w .up-to, some-words c);
       within =
@@ -49,8 +48,8 @@ found-onward words from c next h e =
             arith,
             h,
             w .up-to,
-            length-take (length (wordsOf c)) rest,
-            length-take (length words - from) (drop from words),
+            length-take (length (wordsOf c)) (drop from words),
+            length-drop from words,
             ap length (w .words),
           );
     }

@@ -94,7 +94,7 @@ fn step(
     ensures { λ r. ⌜ r .used ≤ length (now (out .entry)) ⌝ }
 {
     let from = at.next;
-    let reading = journal::read(&words[from..], 0);
+    let reading = reader::read(words, from);
     let Read::Found { call, next } = reading else {
         let code = last_code(reading, odd);
         return Cursor {
@@ -107,7 +107,7 @@ fn step(
     let answer = kernel::call(tables, scratch, call);
     let number = machine::number(call);
     Cursor {
-        next: from + next,
+        next,
         // No run makes so many calls that it wraps.
         index: std::num::wrapping_add_u64(at.index, 1),
         used: add(out, at.used, at.index, number, answer, running(tables)),

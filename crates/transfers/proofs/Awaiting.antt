@@ -19,7 +19,7 @@ use Rattle.debts.specs.Debts.{Debtor}
 use Rattle.results.specs.Results.{Calling, Performs}
 use Rattle.results.proofs.Ends.{refused, performs-as, performs-after}
 use Rattle.transfers.specs.Transfers.{Dropped, Suspends}
-use Rattle.transfers.proofs.Finishing.{shown-after}
+use Rattle.queues.proofs.Joining.{shown-next}
 use Rattle.transfers.proofs.Callers.{calling-thread, dropped-mid, dropped-first}
 use Rattle.transfers.proofs.Firing.{line-of, line-chooses}
 
@@ -48,7 +48,7 @@ module _ {n o : List ℕ} {t l : ℕ} where
   pub taken-asked : {code : ℕ} → Lines n l code o → Shown n (Dropped t (l ≤ 31)) → Shown o Chooses
   taken-asked {code} W S =
       let v = line-of code in
-      shown-after (lined (v .0) (v .1) W) (λ s M h. line-chooses l (v .0) (dropped-mid h)) S
+      shown-next (lined (v .0) (v .1) W) (λ s M h. line-chooses l (v .0) (dropped-mid h)) S
 
   taken :
       {p : List ℕ} {a : Answer} → Lines n l 0 o → Performs o p a Chooses done
@@ -58,7 +58,7 @@ module _ {n o : List ℕ} {t l : ℕ} where
   pub waiter-asked : {code : ℕ} → Lines n l code o → Shown n (Dropped t (l ≤ 31)) → Shown o (IsThread t)
   waiter-asked {code} W S =
       let v = line-of code in
-      shown-after (lined (v .0) (v .1) W) (λ s M h. calling-thread (h .calling)) S
+      shown-next (lined (v .0) (v .1) W) (λ s M h. calling-thread (h .calling)) S
 
   awaits :
       {p : List ℕ} {a : Answer} → Lines n l (2 + t) o → Suspends o t (130 + l) 0 0 a p

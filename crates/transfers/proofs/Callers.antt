@@ -8,7 +8,8 @@ use Rattle.machine.specs.declared.Answer.{Answer}
 use Rattle.machine.specs.State.{State}
 use Rattle.machine.specs.Endpoints.{dropDebt}
 use Rattle.machine.specs.Results.{Result}
-use Rattle.machine.proofs.Mid.{Mid, sound-mid}
+use Rattle.machine.specs.Mid.{Mid}
+use Rattle.machine.proofs.Mid.{sound-mid}
 use Rattle.machine.proofs.Debts.{mid-dropDebt, dropDebt-drops}
 use Rattle.store.specs.Steps.{Shown, Does}
 use Rattle.debts.specs.Debts.{Debtor}
@@ -16,7 +17,7 @@ use Rattle.results.specs.Results.{Calling, Performs}
 use Rattle.results.proofs.Ends.{performs-after, does-for, shown-for}
 use Rattle.results.proofs.Conditions.{running-thread, running-debtor}
 use Rattle.transfers.specs.Transfers.{Dropped}
-use Rattle.transfers.proofs.Finishing.{shown-after}
+use Rattle.queues.proofs.Joining.{shown-next}
 
 module _ {t : ℕ} {N : Type 0} {s : State} (C : Calling t N s) where
   pub calling-thread : t ≤ 255
@@ -48,7 +49,7 @@ module _ {m n : List ℕ} {t : ℕ} (D : Does m n (Debtor t) (dropDebt t)) where
   drops = does-for D (λ s h. calling-debtor h)
 
   pub dropped-asked : {N : Type 0} → Shown m (Calling t N) → Shown n (Dropped t N)
-  dropped-asked S = shown-after drops (λ s M h. calling-dropped h) S
+  dropped-asked S = shown-next drops (λ s M h. calling-dropped h) S
 
   pub dropped-first :
       {N : Type 0} {o : List ℕ} {a : Answer} {f : State → Result} → Performs n o a (Dropped t N) f

@@ -10,7 +10,8 @@ use Rattle.machine.specs.Lists.{Mem}
 use Rattle.machine.specs.State.{State, Status, missing, live, closing, Endpoint}
 use Rattle.machine.specs.Results.{plain, done}
 use Rattle.machine.specs.Machine.{createAt, createEndpoint}
-use Rattle.machine.proofs.Mid.{Mid, sound-mid}
+use Rattle.machine.specs.Mid.{Mid}
+use Rattle.machine.proofs.Mid.{sound-mid}
 use Rattle.machine.proofs.Lists.{put-all}
 use Rattle.machine.proofs.Sites.{not-at}
 use Rattle.machine.proofs.Debts.{live-present}
@@ -22,7 +23,7 @@ use Rattle.queues.specs.Queues.{Loose, Chooses}
 use Rattle.results.specs.Results.{Asked, Performs}
 use Rattle.results.proofs.Ends.{refused, performs-as, performs-after, does-for}
 use Rattle.results.proofs.Conditions.{free-of, running-loose}
-use Rattle.transfers.proofs.Finishing.{shown-after}
+use Rattle.queues.proofs.Joining.{shown-next}
 
 -- A status has no waiter come or go.
 standing-chooses : {s : State} (e : ℕ) (x : Status) → Mid s → Chooses (standing e x s)
@@ -61,7 +62,7 @@ module _ {m : List ℕ} {e r : ℕ} (T : Tells m (IsEndpoint e) r (statusIn e)) 
     made = does-for (W .does live refl) (λ s h. h .numbers)
 
     pub made-asked : Shown m (Asked (e ≤ 63)) → Shown n Chooses
-    made-asked S = shown-after made (λ s M h. standing-chooses e live (sound-mid (h .sound))) S
+    made-asked S = shown-next made (λ s M h. standing-chooses e live (sound-mid (h .sound))) S
 
     pub created :
         {o : List ℕ} {a : Answer} → r ≡ 0 → Performs n o a Chooses done

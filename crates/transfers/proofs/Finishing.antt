@@ -14,26 +14,10 @@ use Rattle.layout.specs.Shows.{Shows}
 use Rattle.store.specs.Steps.{Shown, Does}
 use Rattle.store.specs.Store.{IsThread}
 use Rattle.queues.specs.Queues.{Chooses, Blocks}
+use Rattle.queues.proofs.Joining.{shown-next}
 use Rattle.results.specs.Results.{Performs, Accepts}
-use Rattle.results.proofs.Ends.{performs-after}
+use Rattle.results.proofs.Ends.{answered, performs-after}
 use Rattle.transfers.specs.Transfers.{Suspends}
-
--- An accepted call that has no looks.
-pub answered :
-    {m n : List ℕ} {a b : Answer} (k : Answer) → a ≡ k → Accepts m a b Chooses n
-    → Performs m n b Chooses (accept k [])
-answered {m} {n} {b = b} k e A = subst (λ (x : Answer). Performs m n b Chooses (accept x [])) e (A .performs [])
-
--- What holds after a step.
-pub shown-after :
-    {m n : List ℕ} {P Q : State → Type 0} {op : State → State} → Does m n P op
-    → ((s : State) → Shows m s → P s → Q (op s)) → Shown m P → Shown n Q
-shown-after {op = op} D q S =
-    record {
-      state = op (S .state);
-      shows = D .shows (S .state) (S .shows) (S .holds);
-      holds = q (S .state) (S .shows) (S .holds);
-    }
 
 -- Every number is that of a place.
 place-of : (c : ℕ) → (p : Place) × (placeCode p ≡ c)
@@ -50,7 +34,7 @@ module _ {m n : List ℕ} {t code b x : ℕ} (B : Blocks m t code b x n) where
   pub blocked-asked : Shown m (IsThread t) → Shown n Chooses
   blocked-asked S =
       let v = place-of code in
-      shown-after (B .does (v .0) (v .1)) (λ s M h. blocked-chooses t (v .0) b x s) S
+      shown-next (B .does (v .0) (v .1)) (λ s M h. blocked-chooses t (v .0) b x s) S
 
   pub suspended : {a r : Answer} {o : List ℕ} → a ≡ plain 1 → Accepts n a r Chooses o → Suspends m t code b x r o
   suspended {a} {r} {o} e A =

@@ -9,7 +9,8 @@ use Rattle.machine.specs.State.{State, Line, quiet, pending, awaited, setLine}
 use Rattle.machine.specs.Scheduling.{wake}
 use Rattle.machine.specs.Results.{done}
 use Rattle.machine.specs.Machine.{fire, interrupt}
-use Rattle.machine.proofs.Mid.{Mid, sound-mid}
+use Rattle.machine.specs.Mid.{Mid}
+use Rattle.machine.proofs.Mid.{sound-mid}
 use Rattle.machine.proofs.Waking.{mid-wakeLine}
 use Rattle.layout.specs.Words.{lineCode, queuesOf}
 use Rattle.layout.specs.Shows.{Shows}
@@ -21,7 +22,7 @@ use Rattle.results.specs.Results.{Asked, Performs}
 use Rattle.results.proofs.Ends.{performs-as, performs-after}
 use Rattle.results.proofs.Conditions.{running-loose, mid-chooses, awaited-loose}
 use Rattle.transfers.specs.Transfers.{firing}
-use Rattle.transfers.proofs.Finishing.{shown-after}
+use Rattle.queues.proofs.Joining.{shown-next}
 
 -- Every number is that of a line.
 pub line-of : (c : ℕ) → (x : Line) × (lineCode x ≡ c)
@@ -113,7 +114,7 @@ fired-chooses l s h = go (s .lines l) refl
 
 module _ {m n : List ℕ} {l : ℕ} (F : Does m n (Asked (l ≤ 31)) (firing l)) where
   pub fired-asked : Shown m (Asked (l ≤ 31)) → Shown n Chooses
-  fired-asked S = shown-after F (λ s M h. fired-chooses l s h) S
+  fired-asked S = shown-next F (λ s M h. fired-chooses l s h) S
 
   pub interrupted :
       {o : List ℕ} {a : Answer} → Performs n o a Chooses done → Performs m o a (Asked (l ≤ 31)) (interrupt l)

@@ -12,7 +12,7 @@ use Rattle.machine.specs.State.{State, Place, sending, receiving}
 use Rattle.machine.specs.Endpoints.{isSending, isReceiving, dropDebt}
 use Rattle.machine.specs.Sound.{Queued}
 use Rattle.machine.proofs.Lists.{only-nil, only-all, only-none, mem-only}
-use Rattle.machine.proofs.Mid.{Mid}
+use Rattle.machine.specs.Mid.{Mid}
 use Rattle.machine.proofs.Keeping.{Keeps, keeps-place}
 use Rattle.machine.proofs.Debts.{dropDebt-drops}
 use Rattle.layout.specs.Words.{placeCode, firstOf, queuesOf}

@@ -25,7 +25,7 @@ use Rattle.results.specs.Results.{Calling, Performs}
 use Rattle.results.proofs.Ends.{refused, performs-as, performs-after}
 use Rattle.results.proofs.Conditions.{mid-chooses, mid-alike, queued-waits}
 use Rattle.transfers.specs.Transfers.{Dropped, FirstAt, Suspends, firstReceiver, handing}
-use Rattle.transfers.proofs.Finishing.{shown-after}
+use Rattle.queues.proofs.Joining.{shown-next}
 use Rattle.transfers.proofs.Callers.{dropped-mid, dropped-first}
 use Rattle.transfers.proofs.Firsts.{first-none, first-some, first-queued, kind-kept}
 use Rattle.transfers.proofs.Queueing.{is-missing, is-closing, is-live, queued}
@@ -72,7 +72,7 @@ module _ {m : List ℕ} {t e b x r : ℕ} (F : FirstAt m e (66 + e) r) where
           (λ k. absurd (k refl)))
 
       pub handed-asked : Shown m (Dropped t (Sent e b x)) → Shown n Chooses
-      handed-asked S = shown-after wakes chooses S
+      handed-asked S = shown-next wakes chooses S
 
       pub handed :
           {o : List ℕ} {a : Answer} → Performs n o a Chooses done

@@ -18,7 +18,7 @@ use Rattle.results.specs.Results.{Performs}
 use Rattle.results.proofs.Ends.{performs-after, shown-for}
 use Rattle.results.proofs.Conditions.{running-comes, mid-alike}
 use Rattle.transfers.specs.Transfers.{Dropped, Suspends}
-use Rattle.transfers.proofs.Finishing.{shown-after}
+use Rattle.queues.proofs.Joining.{shown-next}
 use Rattle.transfers.proofs.Callers.{calling-thread, dropped-mid, dropped-runs}
 
 -- The statuses by their numbers.
@@ -54,7 +54,7 @@ module _ {t e : ℕ} {N : Type 0} (n : N → e ≤ 63) where
     joins = record { shows = λ s M h. J .shows s M (comes s h) }
 
     pub joined-asked : Shown m (Dropped t N) → Shown o (IsThread t)
-    joined-asked S = shown-after joins (λ s M h. calling-thread (h .calling)) S
+    joined-asked S = shown-next joins (λ s M h. calling-thread (h .calling)) S
 
     pub queued :
         {code b x : ℕ} {a : Answer} {k : List ℕ} (p : Place) → placeCode p ≡ code → Suspends o t code b x a k

@@ -23,7 +23,7 @@ use Rattle.results.specs.Results.{Calling, Performs, Accepts, answerOf}
 use Rattle.results.proofs.Ends.{refused, performs-as, performs-for, shown-for}
 use Rattle.results.proofs.Conditions.{mid-chooses, mid-alike, queued-waits, queued-present, present-thread}
 use Rattle.transfers.specs.Transfers.{Dropped, Takes, FirstAt, Suspends, taking, takingFrom}
-use Rattle.transfers.proofs.Finishing.{shown-after}
+use Rattle.queues.proofs.Joining.{shown-next}
 use Rattle.transfers.proofs.Callers.{dropped-mid, dropped-first}
 use Rattle.transfers.proofs.Firsts.{first-none, first-some, first-queued, kind-kept}
 use Rattle.transfers.proofs.Queueing.{is-missing, is-closing, is-live, queued}
@@ -53,7 +53,7 @@ module _ {u e : ℕ} where
     wakes = record { shows = λ s M h. W .shows s M (sender-waits s h) }
 
     pub taken-asked : Shown m (Takes u e) → Shown n Chooses
-    taken-asked S = shown-after wakes (λ s M h. chooses s h) S
+    taken-asked S = shown-next wakes (λ s M h. chooses s h) S
 
     pub taken :
         {o : List ℕ} {a : Answer} {b x : ℕ} → Tells m (IsThread u) b (badgeIn u) → Tells m (IsThread u) x (messageIn u)

@@ -1,7 +1,6 @@
 // The calls that make endpoints, hand messages over and wait for interrupt lines: 4, 5, 7, 8 and 10. Each is refused
 // with nothing changed, or makes the steps of the machine's call in their order and ends in one choice of who runs.
 ghost use Prim.Native.Nat.{_≤_, _<_, _^_};
-ghost use Rattle.machine.specs.Results.{done as finishing};
 ghost use Rattle.machine.specs.Machine.{createEndpoint, interrupt as interrupting, send as sending};
 ghost use Rattle.machine.specs.Machine.{receive as receiving, wait as waiting};
 ghost use Rattle.store.specs.Steps.{Shown, Does};
@@ -12,15 +11,6 @@ ghost use Rattle.results.specs.Results.{Asked, Calling, Performs};
 ghost use Rattle.transfers.specs.Transfers.{Dropped, Takes, FirstAt, Suspends, firing, handing, taking};
 ghost use Rattle.transfers.specs.Transfers.{takingFrom};
 use machine::Answer;
-
-// The call is done: code 0.
-fn done(tables: &mut [u32]) -> Answer
-    requires { ⌜ Shown (now tables) Chooses ⌝ }
-    ensures { λ r. ⌜ Performs (now (tables .entry)) (now (tables .exit)) r Chooses finishing ⌝ }
-{
-    let answer = results::plain(0);
-    results::accept(tables, answer)
-}
 
 // The running thread t blocks at a place: code 1.
 fn suspend(tables: &mut [u32], t: usize, place: u32, badge: u32, message: u32) -> Answer
@@ -42,7 +32,7 @@ pub fn create_endpoint(tables: &mut [u32], e: usize) -> Answer
         return results::plain(24);
     }
     store::set_status(tables, e, 1);
-    done(tables)
+    results::done(tables)
 }
 
 // The waiter on line l is woken, or the line is pending.
@@ -68,7 +58,7 @@ pub fn interrupt(tables: &mut [u32], l: usize) -> Answer
     ensures { λ r. ⌜ Performs (now (tables .entry)) (now (tables .exit)) r (Asked (l ≤ 31)) (interrupting l) ⌝ }
 {
     fire(tables, l);
-    done(tables)
+    results::done(tables)
 }
 
 // The link to the first waiter at endpoint e if it is at this place, sending or receiving; otherwise 0, and no waiter
@@ -100,7 +90,7 @@ fn hand(tables: &mut [u32], t: usize, e: usize, badge: u32, message: u32) -> Ans
         return suspend(tables, t, (2 + e) as u32, badge, message);
     }
     queues::wake_from(tables, e, (link - 1) as usize, 2, badge, message);
-    done(tables)
+    results::done(tables)
 }
 
 // 7: the running thread t sends to endpoint e.
@@ -182,7 +172,7 @@ pub fn wait(tables: &mut [u32], t: usize, l: usize) -> Answer
     debts::drop_debt(tables, t);
     if line == 1 {
         store::set_line(tables, l, 0);
-        return done(tables);
+        return results::done(tables);
     }
     store::set_line(tables, l, (2 + t) as u32);
     suspend(tables, t, (130 + l) as u32, 0, 0)

@@ -17,7 +17,10 @@ same-length-2 : tie.Need-same-length-2
 same-length-2 c = search needs
 
 returns : tie.Need-returns
-returns c = answered-is _ _ _ _ (c .before .before .before .before .before .take .result) _ _ (c .before .before .before .before .before .before .before .before .call-in .ensures) (c .before .before .before .before .before .take .ensures)
+returns c =
+    let taken = c .before .before .before .before .before in
+    answered-is _ _ _ _ (taken .take .result) _ _ (taken .before .before .before .call-in .ensures)
+    (taken .take .ensures)
 
 pub nazsombet-call-spec : {M : Type 1} → statement M
 nazsombet-call-spec =

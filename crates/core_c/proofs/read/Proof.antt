@@ -1,6 +1,6 @@
 -- By the three answers of the reader. Assumes nothing.
-use mathlib.Core.Path.{sym, ap, _∙_}
-use Rattle.core_c.specs.Entries.{reading, asReading}
+use mathlib.Core.Path.{sym, _∙_}
+use Rattle.core_c.specs.Entries.{reading}
 use borrow.Author.Needs.{needs}
 use Rattle.core_c.proofs.read.Statement.{statement}
 use Rattle.core_c.proofs.read.Tie as tie
@@ -22,7 +22,9 @@ enum-told c = search needs
 
 returns : tie.Need-returns
 unfolding reading
-returns c = rw (sym (c .before .before .before .before .read .ensures) ∙ c .before .before .call .given .1, c .numbers-of .ensures)
+returns c =
+    let found = c .before .before in
+    rw (sym (found .before .before .read .ensures) ∙ found .call .given .1, c .numbers-of .ensures)
 
 returns-2 : tie.Need-returns-2
 unfolding reading

@@ -1,7 +1,4 @@
 -- By whether a call is named. Assumes nothing.
-use mathlib.Core.Path.{sym, ap, _∙_}
-use Rattle.core_c.specs.Numbers.{nameOf}
-use Rattle.core_c.specs.Entries.{writtenFor}
 use borrow.Author.Needs.{needs}
 use Rattle.core_c.proofs.write.Statement.{statement}
 use Rattle.core_c.proofs.write.Tie as tie

@@ -23,8 +23,8 @@ new-thread-requires c κs = search needs
 enqueue-requires : tie.Need-enqueue-requires
 enqueue-requires c κs = search enqueue-asked
 
-accepted-requires : tie.Need-accepted-requires
-accepted-requires c κs = search create-chooses
+done-requires : tie.Need-done-requires
+done-requires c κs = search create-chooses
 
 same-length-2 : tie.Need-same-length-2
 same-length-2 c = search needs
@@ -42,6 +42,6 @@ create-thread-spec =
     returns
     new-thread-requires
     enqueue-requires
-    accepted-requires
+    done-requires
     same-length-2
     returns-2)

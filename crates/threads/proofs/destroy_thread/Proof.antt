@@ -30,8 +30,8 @@ clear-thread-requires c κs =
     clear-asked (d .before .before .before .place .ensures) (d .before .before .if1 .left) (d .drop-debt .ensures)
     (c .before .before .before .leave .ensures) (d .before .before .before .before .before .before .pre)
 
-accepted-requires : tie.Need-accepted-requires
-accepted-requires c κs = search destroy-chooses
+done-requires : tie.Need-done-requires
+done-requires c κs = search destroy-chooses
 
 same-length-2 : tie.Need-same-length-2
 same-length-2 c = search needs
@@ -50,6 +50,6 @@ destroy-thread-spec =
     drop-debt-requires
     leave-requires
     clear-thread-requires
-    accepted-requires
+    done-requires
     same-length-2
     returns-2)

@@ -21,8 +21,8 @@ returns c = search priority-refused
 priority-requires : tie.Need-priority-requires
 priority-requires c κs = search needs
 
-accepted-requires : tie.Need-accepted-requires
-accepted-requires c κs =
+done-requires : tie.Need-done-requires
+done-requires c κs =
     same-asked (c .before .before .before .before .before .before .before .before .pre)
 
 same-length-2 : tie.Need-same-length-2
@@ -36,8 +36,8 @@ change-requires c κs =
     let d = c .before .before .before .before in
     change-asked _ (d .before .place .ensures) (d .if1 .left) (d .before .before .before .before .pre)
 
-accepted-requires-2 : tie.Need-accepted-requires-2
-accepted-requires-2 c κs =
+done-requires-2 : tie.Need-done-requires-2
+done-requires-2 c κs =
     let d = c .before .before .before .before .before .before in
     priority-chooses _ (d .before .before .before .place .ensures) (d .before .before .if1 .left) (d .priority .ensures)
     (c .before .before .before .change .ensures) (d .before .before .before .before .before .before .pre)
@@ -57,10 +57,10 @@ set-priority-spec =
     same-length
     returns
     priority-requires
-    accepted-requires
+    done-requires
     same-length-2
     returns-2
     change-requires
-    accepted-requires-2
+    done-requires-2
     same-length-3
     returns-3)

@@ -1,47 +1,45 @@
--- At the last tick the thread has 5 again and stands down.
+-- The block after the tick is stored back; at the last tick the thread stands down.
 -- Assumes nothing.
 use borrow.Author.Needs.{needs}
-use Rattle.threads.proofs.Ticking.{caller-asked, stand-asked, last-tick, ticks-least, one-tick}
+use Rattle.threads.proofs.Ticking.{caller-asked, store-asked, one-tick, stand-asked, last-tick}
 use Rattle.threads.proofs.take_tick.Statement.{statement}
 use Rattle.threads.proofs.take_tick.Tie as tie
 
-ticks-requires : tie.Need-ticks-requires
-ticks-requires c κs = search caller-asked
+load-requires : tie.Need-load-requires
+load-requires c κs = search caller-asked
 
-set-ticks-requires : tie.Need-set-ticks-requires
-set-ticks-requires c κs = search caller-asked
+lend-to-tick-requires : tie.Need-lend-to-tick-requires
+lend-to-tick-requires c κs = search needs
 
-stand-down-requires : tie.Need-stand-down-requires
-stand-down-requires c κs = search stand-asked
+store-requires : tie.Need-store-requires
+store-requires c κs =
+    let d = c .before .before in
+    store-asked (d .load .ensures) (c .before .lend-to-tick .ensures) (d .before .before .before .pre)
 
 same-length : tie.Need-same-length
 same-length c = search needs
 
 returns : tie.Need-returns
-returns c = search last-tick
+returns c = search one-tick
 
-sub-set-ticks : tie.Need-sub-set-ticks
-sub-set-ticks c = search ticks-least
-
-set-ticks-requires-2 : tie.Need-set-ticks-requires-2
-set-ticks-requires-2 c κs = search caller-asked
+stand-down-requires : tie.Need-stand-down-requires
+stand-down-requires c κs = search stand-asked
 
 same-length-2 : tie.Need-same-length-2
 same-length-2 c = search needs
 
 returns-2 : tie.Need-returns-2
-returns-2 c = search one-tick
+returns-2 c = search last-tick
 
 pub take-tick-spec : {M : Type 1} → statement M
 take-tick-spec =
     tie.close
     (tie.spec
-    ticks-requires
-    set-ticks-requires
-    stand-down-requires
+    load-requires
+    lend-to-tick-requires
+    store-requires
     same-length
     returns
-    sub-set-ticks
-    set-ticks-requires-2
+    stand-down-requires
     same-length-2
     returns-2)

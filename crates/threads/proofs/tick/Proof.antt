@@ -8,8 +8,8 @@ use Rattle.threads.proofs.tick.Tie as tie
 tick-running-requires : tie.Need-tick-running-requires
 tick-running-requires c κs = search needs
 
-accepted-requires : tie.Need-accepted-requires
-accepted-requires c κs = search tick-chooses
+done-requires : tie.Need-done-requires
+done-requires c κs = search tick-chooses
 
 same-length : tie.Need-same-length
 same-length c = search needs
@@ -18,4 +18,4 @@ returns : tie.Need-returns
 returns c = search ticked
 
 pub tick-spec : {M : Type 1} → statement M
-tick-spec = tie.close (tie.spec tick-running-requires accepted-requires same-length returns)
+tick-spec = tie.close (tie.spec tick-running-requires done-requires same-length returns)

@@ -11,8 +11,8 @@ drop-debt-requires c κs = search yield-asked
 stand-down-requires : tie.Need-stand-down-requires
 stand-down-requires c κs = search down-asked
 
-accepted-requires : tie.Need-accepted-requires
-accepted-requires c κs = search yield-chooses
+done-requires : tie.Need-done-requires
+done-requires c κs = search yield-chooses
 
 same-length : tie.Need-same-length
 same-length c = search needs
@@ -23,4 +23,4 @@ returns c = search yielded
 pub yield-running-spec : {M : Type 1} → statement M
 yield-running-spec =
     tie.close
-    (tie.spec drop-debt-requires stand-down-requires accepted-requires same-length returns)
+    (tie.spec drop-debt-requires stand-down-requires done-requires same-length returns)

@@ -1,6 +1,5 @@
 -- `trace::lines::step` is safe: a call that is found ends within the words, behind the place it was read at.
 -- Assumes nothing.
-use Prim.Native.Nat.{_+_}
 use mathlib.Core.Path.{sym, _∙_}
 use borrow.Author.Needs.{needs}
 use Rattle.trace.proofs.Reading.{Onward, found-onward}
@@ -10,24 +9,12 @@ use Rattle.trace.proofs.lines.step.Tie as tie
 -- where a call was found
 onward :
     (c : tie.After-reading) →
-    let a = c .before .before .before .before .before .before .before .before .args in
-    Onward (a .words .now) (a .at .next) (a .at .next + c .reading .given .0 .1 .0)
+    let a = c .before .before .before .before .before .before .before .args in
+    Onward (a .words .now) (a .at .next) (c .reading .given .0 .1 .0)
 onward c =
-    let s = c .before .before .before .before .before .before .before .before in
+    let s = c .before .before .before .before .before .before .before in
     found-onward (s .args .words .now) (s .args .at .next) _ _ (s .pre .0)
     (sym (c .before .before .read .ensures) ∙ c .reading .given .1)
-
-mul-read : tie.Need-mul-read
-mul-read c = search needs
-
-sub-read : tie.Need-sub-read
-sub-read c = search needs
-
-part-read-start : tie.Need-part-read-start
-part-read-start c = search needs
-
-part-read-end : tie.Need-part-read-end
-part-read-end c = search needs
 
 read-requires : tie.Need-read-requires
 read-requires c κs = search needs
@@ -59,11 +46,6 @@ call-requires c κs = search needs
 number-requires : tie.Need-number-requires
 number-requires c κs = search needs
 
-add-t14 : tie.Need-add-t14
-add-t14 c =
-    let o = onward (c .before .before .before .before .before .before .before .before .before) in
-    search needs
-
 wrapping-add-u64-requires : tie.Need-wrapping-add-u64-requires
 wrapping-add-u64-requires c κs = search needs
 
@@ -92,10 +74,6 @@ pub step-spec : {M : Type 1} → statement M
 step-spec =
     tie.close
     (tie.spec
-    mul-read
-    sub-read
-    part-read-start
-    part-read-end
     read-requires
     enum-known-reading
     last-code-requires
@@ -106,7 +84,6 @@ step-spec =
     returns
     call-requires
     number-requires
-    add-t14
     wrapping-add-u64-requires
     running-requires-2
     add-requires

@@ -1,0 +1,90 @@
+-- A block out of the tables and into them: the eight words are those of the thread, and the four steps make the thread.
+-- Assumes nothing.
+use Prim.Native.Nat.{ℕ, _-_}
+use mathlib.Core.Path.{_≡_, refl, sym, _∙_, ap, subst}
+use mathlib.Core.List.{List}
+use Rattle.machine.specs.State.{State, Thread, setThread, withTicks}
+use Rattle.layout.specs.Shows.{Shows}
+use Rattle.store.specs.Steps.{Shown, Does, Tells}
+use Rattle.store.specs.Store.{IsThread, placing, prioritising, ticking, Places, Owes}
+use Rattle.store.specs.Readings.{placeIn, priorityIn, ticksIn, outcomeIn, badgeIn, messageIn, owesIn, noteIn}
+use Rattle.store.proofs.Composed.{still, remade}
+use Rattle.blocks.specs.declared.Block.{Block}
+use Rattle.blocks.specs.Blocks.{refilled, tickedBlock, blockOf, Loads, IsBlock, Stores}
+use Rattle.blocks.proofs.Ticks.{with-ticks}
+
+pub loaded :
+    {m : List ℕ} {t : ℕ} (b : Block) → Tells m (IsThread t) (b .place) (placeIn t)
+    → Tells m (IsThread t) (b .priority) (priorityIn t) → Tells m (IsThread t) (b .ticks) (ticksIn t)
+    → Tells m (IsThread t) (b .outcome) (outcomeIn t) → Tells m (IsThread t) (b .badge) (badgeIn t)
+    → Tells m (IsThread t) (b .message) (messageIn t) → Tells m (IsThread t) (b .owes) (owesIn t)
+    → Tells m (IsThread t) (b .note) (noteIn t) → Loads m t b
+loaded b P Q T O B X D N =
+    record {
+      loads = λ s M h i.
+          record {
+            place = P .tells s M h i;
+            priority = Q .tells s M h i;
+            ticks = T .tells s M h i;
+            outcome = O .tells s M h i;
+            badge = B .tells s M h i;
+            message = X .tells s M h i;
+            owes = D .tells s M h i;
+            note = N .tells s M h i;
+          };
+    }
+
+-- The place of a block is that of a thread, so the memory still shows a state.
+pub placed :
+    {t : ℕ} {m n : List ℕ} {b : Block} → IsBlock b → Places m t (b .place) (b .outcome) (b .badge) (b .message) n
+    → Shown m (IsThread t) → Shown n (IsThread t)
+placed {b = b} x P S =
+    still (placing _ (x .thread .place) (b .outcome) (b .badge) (b .message))
+    (P .does (x .thread .place) (ap (λ k. k .place) (x .is))) S
+
+-- The four steps with the numbers of a block.
+abbrev Steps : ℕ → List ℕ → List ℕ → List ℕ → List ℕ → List ℕ → Block → Type 0
+Steps t m n₁ n₂ n₃ n₄ b =
+    Places m t (b .place) (b .outcome) (b .badge) (b .message) n₁
+    × Does n₁ n₂ (IsThread t) (prioritising t (b .priority)) × Does n₂ n₃ (IsThread t) (ticking t (b .ticks))
+    × Owes n₃ t (b .owes) (b .note) n₄
+
+pub stored :
+    {t : ℕ} {m n₁ n₂ n₃ n₄ : List ℕ} (b : Block)
+    → Places m t (b .place) (b .outcome) (b .badge) (b .message) n₁
+    → Does n₁ n₂ (IsThread t) (prioritising t (b .priority)) → Does n₂ n₃ (IsThread t) (ticking t (b .ticks))
+    → Owes n₃ t (b .owes) (b .note) n₄ → Stores m t b n₄
+stored {t} {m} {n₁} {n₂} {n₃} {n₄} b P Q T D =
+    record { does = λ x e. go x (subst (Steps t m n₁ n₂ n₃ n₄) (sym e) (P, Q, T, D)) }
+  where
+    go : (x : Thread) → Steps t m n₁ n₂ n₃ n₄ (blockOf x) → Does m n₄ (IsThread t) (setThread t x)
+    go x g =
+        remade t (x .place) (x .outcome) (x .badge) (x .message) (x .priority) (x .ticks) (x .debt)
+        (g .0 .does (x .place) refl) (g .1) (g .2) (g .3 .does (x .debt) refl refl)
+
+-- The block of a thread, after a tick, is that of the thread with the ticks that are left.
+module _ {t : ℕ} {m : List ℕ} {b : Block} (L : Loads m t b) where
+  pub ticks-told : Tells m (IsThread t) (b .ticks) (ticksIn t)
+  ticks-told = record { tells = λ s M h. ap (λ (y : Block). y .ticks) (L .loads s M h) }
+
+  abbrev left : ℕ
+  left = refilled (b .ticks - 1)
+
+  is-ticked : (s : State) → Shows m s → IsThread t s → blockOf (withTicks left (s .threads t)) ≡ tickedBlock b
+  is-ticked s M h = ap (λ (y : Block). with-ticks y left) (sym (L .loads s M h))
+
+  pub ticked-block : {r : Block} → r ≡ tickedBlock b → Shown m (IsThread t) → Shown m (IsThread t) × IsBlock r
+  ticked-block e S = (
+    S,
+    record {
+      thread = withTicks left (S .state .threads t);
+      is = is-ticked (S .state) (S .shows) (S .holds) ∙ sym e;
+    },
+  )
+
+  pub ticked-thread :
+      {n : List ℕ} {r : Block} → r ≡ tickedBlock b → Stores m t r n → Does m n (IsThread t) (ticking t left)
+  ticked-thread e S =
+      record {
+        shows = λ s M h. S .does (withTicks left (s .threads t)) (is-ticked s M h ∙ sym e) .shows s M h;
+      }

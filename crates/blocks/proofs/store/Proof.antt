@@ -1,0 +1,46 @@
+-- The four steps make the thread of the block. Assumes nothing.
+use borrow.Author.Needs.{needs}
+use Rattle.store.specs.Store.{prioritising, ticking}
+use Rattle.store.proofs.Composed.{still}
+use Rattle.blocks.proofs.Moves.{placed, stored}
+use Rattle.blocks.proofs.store.Statement.{statement}
+use Rattle.blocks.proofs.store.Tie as tie
+
+set-place-requires : tie.Need-set-place-requires
+set-place-requires c κs = search needs
+
+set-priority-requires : tie.Need-set-priority-requires
+set-priority-requires c κs = search placed
+
+set-ticks-requires : tie.Need-set-ticks-requires
+set-ticks-requires c κs =
+    let e = c .before .before .before in
+    let d = e .before .before .before .before in
+    let p = d .before .before .before .pre in
+    still (prioritising _ _) (e .set-priority .ensures) (placed (p .1) (d .set-place .ensures) (p .0))
+
+set-owes-requires : tie.Need-set-owes-requires
+set-owes-requires c κs =
+    let f = c .before .before .before in
+    let e = f .before .before .before .before in
+    let d = e .before .before .before .before in
+    let p = d .before .before .before .pre in
+    still (ticking _ _) (f .set-ticks .ensures)
+    (still (prioritising _ _) (e .set-priority .ensures) (placed (p .1) (d .set-place .ensures) (p .0)))
+
+same-length : tie.Need-same-length
+same-length c = search needs
+
+returns : tie.Need-returns
+returns c = search stored depth 9
+
+pub store-spec : {M : Type 1} → statement M
+store-spec =
+    tie.close
+    (tie.spec
+    set-place-requires
+    set-priority-requires
+    set-ticks-requires
+    set-owes-requires
+    same-length
+    returns)
