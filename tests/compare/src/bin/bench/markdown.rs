@@ -5,6 +5,9 @@ use crate::measure::Work;
 use crate::scenes::{ALL, AT_QUEUE, CALLS, FILLS, SENDERS};
 use std::iter::once;
 
+/// The number of the call with the most instructions.
+const ABORT: usize = 12;
+
 /// The figures, in the order of the scenes.
 pub struct Report<'a>(pub &'a [Figures]);
 
@@ -80,7 +83,7 @@ impl Report<'_> {
         text
     }
 
-    /// The check beside passes over the tables.
+    /// The check, and the dearest call, beside passes over the tables.
     fn passes(&self, unit: Unit) -> String {
         let mut text = head(&[
             "Tables",
@@ -89,14 +92,13 @@ impl Report<'_> {
             "make fresh",
             "check",
             "second machine's check",
-            "dearest call",
+            "abort",
             "check : pass",
-            "dearest call : pass",
-            "dearest call : sum",
+            "abort : pass",
+            "abort : sum",
         ]);
         for (fill, (name, _)) in FILLS.iter().enumerate() {
-            let dearest = self.dearest(fill, unit);
-            let own = |work| (unit.work)(dearest, work);
+            let own = |work| (unit.work)(self.call(fill, ABORT), work);
             let works = [Work::Pass, Work::Sum, Work::Fresh, Work::Check, Work::SecondCheck];
             let cells = works.into_iter().chain(once(Work::Call)).map(|work| whole(own(work)));
             let ratios = [
@@ -107,13 +109,6 @@ impl Report<'_> {
             text += &row(once(String::from(*name)).chain(cells).chain(ratios));
         }
         text
-    }
-
-    /// The figures of the call that costs most.
-    fn dearest(&self, fill: usize, unit: Unit) -> &Figures {
-        let cost = |figures: &Figures| (unit.work)(figures, Work::Call).unwrap_or(0.0);
-        let figures = (2..=CALLS.len()).map(|number| self.call(fill, number));
-        figures.fold(self.call(fill, 1), |a, b| if cost(b) > cost(a) { b } else { a })
     }
 
     /// Steps at a queue, by its length.
