@@ -11,9 +11,7 @@ mod side;
 mod subject;
 
 pub use compiled::{numbers, Compiled};
-pub use lists::Lists;
-pub use pair::{Change, Pair};
 pub use report::{journal, report};
 pub use run::{compare, Compared, Failure};
-pub use side::{Difference, Side};
+pub use side::Difference;
 pub use subject::Core;

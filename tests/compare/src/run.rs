@@ -103,10 +103,10 @@ fn shorten<C: Core>(
     mut calls: Vec<Call>,
     mut difference: Difference,
 ) -> (Vec<Call>, Difference) {
-    let mut size = calls.len();
     if first(pair, &calls).is_none() {
         return (calls, difference);
     }
+    let mut size = calls.len();
     while size > 0 {
         let length = calls.len();
         let mut at = 0;
