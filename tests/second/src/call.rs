@@ -2,6 +2,18 @@
 
 pub const BADGE_LIMIT: u32 = 1 << 28;
 
+/// The numbers that calls have, each where the call has it.
+#[derive(Clone, Copy, Debug, Default, PartialEq, Eq)]
+pub struct Numbers {
+    pub thread: Option<u32>,
+    pub priority: Option<u32>,
+    pub endpoint: Option<u32>,
+    pub line: Option<u32>,
+    pub badge: Option<u32>,
+    pub message: Option<u32>,
+    pub allowance: Option<u32>,
+}
+
 /// A call with its own numbers, any of which may be out of range.
 #[derive(Clone, Copy, Debug, PartialEq, Eq)]
 pub enum Call {
@@ -38,21 +50,38 @@ impl Call {
         }
     }
 
+    /// The call's own numbers by name.
+    pub fn named(&self) -> Numbers {
+        let none = Numbers::default();
+        let at = |endpoint: u32| Numbers { endpoint: Some(endpoint), ..none };
+        let on = |line: u32| Numbers { line: Some(line), ..none };
+        match *self {
+            Call::CreateThread { thread, priority } | Call::SetPriority { thread, priority } => {
+                Numbers { thread: Some(thread), priority: Some(priority), ..none }
+            }
+            Call::DestroyThread { thread } => Numbers { thread: Some(thread), ..none },
+            Call::CreateEndpoint { endpoint } | Call::Receive { endpoint } => at(endpoint),
+            Call::Interrupt { line } | Call::Wait { line } => on(line),
+            Call::Tick | Call::Yield => none,
+            Call::Send { endpoint, badge, message } => {
+                Numbers { badge: Some(badge), message: Some(message), ..at(endpoint) }
+            }
+            Call::Delete { endpoint, allowance } => {
+                Numbers { allowance: Some(allowance), ..at(endpoint) }
+            }
+            Call::Abort { endpoint, allowance, badge } => {
+                Numbers { allowance: Some(allowance), badge: Some(badge), ..at(endpoint) }
+            }
+        }
+    }
+
     /// The call's own numbers: subject, argument, words after.
     pub fn numbers(&self) -> Vec<u32> {
-        match *self {
-            Call::CreateThread { thread, priority } => vec![thread, priority],
-            Call::DestroyThread { thread } => vec![thread],
-            Call::SetPriority { thread, priority } => vec![thread, priority],
-            Call::CreateEndpoint { endpoint } => vec![endpoint],
-            Call::Interrupt { line } => vec![line],
-            Call::Tick | Call::Yield => vec![],
-            Call::Send { endpoint, badge, message } => vec![endpoint, badge, message],
-            Call::Receive { endpoint } => vec![endpoint],
-            Call::Wait { line } => vec![line],
-            Call::Delete { endpoint, allowance } => vec![endpoint, allowance],
-            Call::Abort { endpoint, allowance, badge } => vec![endpoint, allowance, badge],
-        }
+        let own = self.named();
+        let subject = [own.thread, own.endpoint, own.line];
+        let argument = [own.priority, own.allowance];
+        let after = [own.badge, own.message];
+        subject.into_iter().chain(argument).chain(after).flatten().collect()
     }
 
     /// Made by the running thread rather than the host.

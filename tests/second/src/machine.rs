@@ -53,6 +53,18 @@ impl Machine {
         }
     }
 
+    /// Takes over another machine's tables; the log is cleared.
+    pub fn copy_tables(&mut self, other: &Machine) {
+        self.threads = other.threads;
+        self.endpoints = other.endpoints;
+        self.lines = other.lines;
+        self.levels = other.levels;
+        self.links.clone_from(&other.links);
+        self.summary = other.summary;
+        self.running = other.running;
+        self.log.clear();
+    }
+
     pub fn running(&self) -> Option<u8> {
         self.running
     }
@@ -94,6 +106,19 @@ impl Machine {
     /// Looks and situations of the last call.
     pub fn log(&self) -> &Log {
         &self.log
+    }
+
+    /// How many waiters the endpoint's abort has still to look at.
+    pub fn left(&self, e: u8) -> usize {
+        let Some((mut at, end)) = self.endpoint(e).abort.and_then(|a| a.span) else {
+            return 0;
+        };
+        let mut n = 1;
+        while at != end {
+            at = self.next(at).expect("the end mark is behind");
+            n += 1;
+        }
+        n
     }
 
     /// The first waiter, if the waiters are senders.

@@ -49,6 +49,19 @@ impl Rng {
     }
 }
 
+/// What a list of calls goes for.
+#[derive(Clone, Copy, Debug, PartialEq, Eq)]
+pub enum Profile {
+    /// Few threads, few badges: marks and owners meet often.
+    Few,
+    /// Few, and every third call near the edges of the ranges.
+    Edges,
+    /// Many threads.
+    Many,
+    /// All threads, endpoints and lines, and a long queue, before all else.
+    Full,
+}
+
 /// The numbers that one list of calls draws on.
 pub struct Steer {
     rng: Rng,
@@ -59,6 +72,10 @@ pub struct Steer {
     badges: Vec<u32>,
     message: u32,
     ticks: u32,
+    /// One call in so many is near an edge.
+    edges: usize,
+    /// How many are still to wait before all else; none if all else goes on.
+    fill: Option<usize>,
 }
 
 impl Steer {
@@ -72,6 +89,8 @@ impl Steer {
             badges: Vec::new(),
             message: 0,
             ticks: 0,
+            edges: 0,
+            fill: None,
         };
         steer.new_list();
         steer
@@ -80,17 +99,26 @@ impl Steer {
     /// Draws anew the few numbers to use; now and then many.
     pub fn new_list(&mut self) {
         let wide = self.rng.one_in(24);
-        let (t, l, e, b) = if wide {
-            (40 + self.rng.below(217), 12, 8, 6)
-        } else {
-            let rng = &mut self.rng;
-            (3 + rng.below(8), 1 + rng.below(3), 1 + rng.below(2), 2 + rng.below(2))
+        self.new_list_of(if wide { Profile::Many } else { Profile::Few });
+    }
+
+    /// Draws anew the numbers to use.
+    pub fn new_list_of(&mut self, profile: Profile) {
+        let rng = &mut self.rng;
+        let (t, l, e, b, lines) = match profile {
+            Profile::Few | Profile::Edges => {
+                (3 + rng.below(8), 1 + rng.below(3), 1 + rng.below(2), 2 + rng.below(2), 2)
+            }
+            Profile::Many => (40 + rng.below(217), 12, 8, 6, 2),
+            Profile::Full => (256, 12, 1 + rng.below(4), 3, 32),
         };
         self.threads = self.some(t, 255);
         self.levels = self.some(l, 255);
         self.endpoints = self.some(e, 63);
-        self.lines = self.some(2, 31);
+        self.lines = self.some(lines, 31);
         self.ticks = 0;
+        self.edges = if profile == Profile::Edges { 3 } else { 14 };
+        self.fill = (profile == Profile::Full).then(|| 40 + self.rng.below(210));
         let badges = [0, 1, 7, 8, LOW - 1, LOW];
         let from = self.rng.below(badges.len());
         self.badges = (0..b).map(|i| badges[(from + i) % badges.len()]).collect();
@@ -115,11 +143,17 @@ impl Steer {
 
     /// The next call of the list.
     pub fn next(&mut self, m: &Machine) -> Call {
+        if let Some(waiting) = self.fill {
+            if let Some(call) = self.fill(m, waiting) {
+                return call;
+            }
+            self.fill = None;
+        }
         if self.ticks > 0 {
             self.ticks -= 1;
             return Call::Tick;
         }
-        if self.rng.one_in(14) {
+        if self.rng.one_in(self.edges) {
             return self.edge();
         }
         if m.running().is_none() && !self.rng.one_in(16) {
@@ -170,6 +204,27 @@ impl Steer {
             3 => Call::Tick,
             _ => self.priority(),
         }
+    }
+
+    /// All threads, all endpoints, a waiter on each line, then a queue.
+    fn fill(&mut self, m: &Machine, waiting: usize) -> Option<Call> {
+        if let Some(t) = (0..=255).find(|&t| !m.thread(t).present()) {
+            let priority = self.rng.pick(&self.levels) as u32;
+            return Some(Call::CreateThread { thread: t as u32, priority });
+        }
+        if let Some(e) = (0..64).find(|&e| m.endpoint(e).phase == Phase::Absent) {
+            return Some(Call::CreateEndpoint { endpoint: e as u32 });
+        }
+        if waiting == 0 {
+            return None;
+        }
+        m.running()?;
+        self.fill = Some(waiting - 1);
+        if let Some(l) = (0..32).find(|&l| m.line(l).waiter.is_none()) {
+            return Some(Call::Wait { line: l as u32 });
+        }
+        let endpoint = self.endpoints[0] as u32;
+        Some(self.send(endpoint, None))
     }
 
     fn at_absent(&mut self, m: &Machine, e: u8) -> Call {
@@ -238,7 +293,7 @@ impl Steer {
     /// An abort call of the same or another badge.
     fn go_on(&mut self, m: &Machine, e: u8, abort: &Abort) -> Call {
         let endpoint = e as u32;
-        let left = self.left(m, abort);
+        let left = m.left(e);
         if self.rng.one_in(2) {
             return Call::Abort { endpoint, allowance: self.small(left), badge: abort.badge };
         }
@@ -335,18 +390,6 @@ impl Steer {
             _ => left + waiters,
         };
         n.max(1) as u32
-    }
-
-    fn left(&self, m: &Machine, abort: &Abort) -> usize {
-        let Some((mut at, end)) = abort.span else {
-            return 0;
-        };
-        let mut n = 1;
-        while at != end {
-            at = m.next(at).expect("the end mark is behind");
-            n += 1;
-        }
-        n
     }
 
     fn other_badge(&mut self, badge: u32) -> u32 {

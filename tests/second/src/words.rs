@@ -53,6 +53,12 @@ fn named(word: u32) -> Option<Option<u8>> {
 /// The memory of a machine.
 pub fn memory(machine: &Machine) -> Vec<u32> {
     let mut words = vec![0; TABLE];
+    write_memory(machine, &mut words);
+    words
+}
+
+/// Writes every word of a machine's memory but the unused ones, which stay.
+pub fn write_memory(machine: &Machine, words: &mut [u32]) {
     for t in 0..=255 {
         words[10 * t as usize..][..10].copy_from_slice(&thread_words(machine, t));
     }
@@ -70,7 +76,29 @@ pub fn memory(machine: &Machine) -> Vec<u32> {
     words[SUMMARY..][..8].copy_from_slice(&machine.summary.words);
     words[TOP] = machine.summary.top;
     words[RUNNING] = link(machine.running);
-    words
+}
+
+const THREAD_WORDS: [&str; 10] =
+    ["place", "priority", "ticks", "outcome", "badge", "message", "next", "prev", "owes", "note"];
+const QUEUE_WORDS: [&str; 2] = ["head", "tail"];
+const ENDPOINT_WORDS: [&str; 6] = ["status", "aborting", "aborted", "owner", "cursor", "end"];
+
+/// What the word at an address is.
+pub fn word_name(at: usize) -> String {
+    let row = |kind: &str, from: usize, parts: &[&str]| {
+        format!("{kind} {} {}", (at - from) / parts.len(), parts[(at - from) % parts.len()])
+    };
+    match at {
+        _ if at < QUEUES => row("thread", 0, &THREAD_WORDS),
+        _ if at < waiters_at(0) => row("level", QUEUES, &QUEUE_WORDS),
+        _ if at < ENDPOINTS => row("endpoint", waiters_at(0), &QUEUE_WORDS),
+        _ if at < LINES => row("endpoint", ENDPOINTS, &ENDPOINT_WORDS),
+        _ if at < SUMMARY => format!("line {}", at - LINES),
+        _ if at < TOP => format!("summary word {}", at - SUMMARY),
+        TOP => String::from("summary top word"),
+        RUNNING => String::from("running thread"),
+        _ => format!("unused word {at}"),
+    }
 }
 
 fn thread_words(machine: &Machine, t: u8) -> [u32; 10] {

@@ -1,0 +1,11 @@
+#!/bin/sh
+# Compares the compiled core with the second machine, call by call: first the comparison itself is held to cores with a
+# fault, then it runs, with the options given here: --calls N, --seed S, --journal FILE. The last line is
+# 'compare: 1 passed, 0 failed'; the exit status is 0 only then.
+set -eu
+cd "$(dirname "$0")/.."
+rt staticlib core_c
+export CARGO_TARGET_DIR="$PWD/target/compare"
+cargo test --offline --quiet --manifest-path tests/compare/Cargo.toml
+cargo run --offline --quiet --release --manifest-path tests/compare/Cargo.toml --bin compare -- "$@"
+echo "compare: 1 passed, 0 failed"

@@ -1,0 +1,158 @@
+//! The figures as tables.
+
+use crate::figures::{Figures, Step};
+use crate::measure::Work;
+use crate::scenes::{ALL, AT_QUEUE, CALLS, FILLS, SENDERS};
+use std::iter::once;
+
+/// The number of the call with the most instructions.
+const ABORT: usize = 12;
+
+/// The figures, in the order of the scenes.
+pub struct Report<'a>(pub &'a [Figures]);
+
+fn row(cells: impl Iterator<Item = String>) -> String {
+    format!("| {} |\n", cells.collect::<Vec<String>>().join(" | "))
+}
+
+fn head(cells: &[&str]) -> String {
+    let texts = row(cells.iter().map(|&text| String::from(text)));
+    let rules = cells.iter().enumerate().map(|(n, _)| if n == 0 { "---" } else { "--:" });
+    texts + &format!("|{}|\n", rules.collect::<Vec<&str>>().join("|"))
+}
+
+fn whole(number: Option<f64>) -> String {
+    number.map_or(String::from("-"), |n| format!("{n:.0}"))
+}
+
+/// None where there is next to nothing to compare with.
+fn ratio(over: Option<f64>, under: Option<f64>) -> String {
+    let under = under.filter(|&under| under >= 1.0);
+    over.zip(under).map_or(String::from("-"), |(over, under)| format!("{:.2}", over / under))
+}
+
+/// One way to measure: its name, a work's figure and a step's.
+#[derive(Clone, Copy)]
+struct Unit {
+    name: &'static str,
+    work: fn(&Figures, Work) -> Option<f64>,
+    step: fn(&Figures, Step) -> Option<f64>,
+}
+
+const UNITS: [Unit; 2] = [
+    Unit {
+        name: "nanoseconds",
+        work: |figures, work| Some(figures.time(work)),
+        step: |figures, step| Some(figures.step_time(step)),
+    },
+    Unit { name: "instructions", work: Figures::count, step: Figures::step_count },
+];
+
+impl Report<'_> {
+    fn call(&self, fill: usize, number: usize) -> &Figures {
+        &self.0[CALLS.len() * fill + number - 1]
+    }
+
+    fn queue(&self, length: usize, what: usize) -> &Figures {
+        &self.0[CALLS.len() * FILLS.len() + AT_QUEUE.len() * length + what]
+    }
+
+    /// The calls on tables of one fill.
+    fn calls(&self, fill: usize, unit: Unit) -> String {
+        let mut text = head(&[
+            "Call",
+            "core: call",
+            "its check",
+            "its step",
+            "second machine: call",
+            "its check",
+            "its step",
+            "core : second, call",
+            "core : second, step",
+        ]);
+        for (number, name) in (1..).zip(CALLS) {
+            let f = self.call(fill, number);
+            let (call, second) = ((unit.work)(f, Work::Call), (unit.work)(f, Work::SecondCall));
+            let [step, second_step] = [Step::Core, Step::Second].map(|whose| (unit.step)(f, whose));
+            let check = (unit.work)(f, Work::Check);
+            let second_check = (unit.work)(f, Work::SecondCheck);
+            let cells = [call, check, step, second, second_check, second_step].map(whole);
+            let ratios = [ratio(call, second), ratio(step, second_step)];
+            text += &row(once(String::from(name)).chain(cells).chain(ratios));
+        }
+        text
+    }
+
+    /// The check, and the dearest call, beside passes over the tables.
+    fn passes(&self, unit: Unit) -> String {
+        let mut text = head(&[
+            "Tables",
+            "pass",
+            "sum",
+            "make fresh",
+            "check",
+            "second machine's check",
+            "abort",
+            "check : pass",
+            "abort : pass",
+            "abort : sum",
+        ]);
+        for (fill, (name, _)) in FILLS.iter().enumerate() {
+            let own = |work| (unit.work)(self.call(fill, ABORT), work);
+            let works = [Work::Pass, Work::Sum, Work::Fresh, Work::Check, Work::SecondCheck];
+            let cells = works.into_iter().chain(once(Work::Call)).map(|work| whole(own(work)));
+            let ratios = [
+                ratio(own(Work::Check), own(Work::Pass)),
+                ratio(own(Work::Call), own(Work::Pass)),
+                ratio(own(Work::Call), own(Work::Sum)),
+            ];
+            text += &row(once(String::from(*name)).chain(cells).chain(ratios));
+        }
+        text
+    }
+
+    /// Steps at a queue, by its length.
+    fn queues(&self, unit: Unit) -> String {
+        let mut text = head(&[&["Senders", "check"], &AT_QUEUE[..]].concat());
+        for (length, senders) in SENDERS.iter().enumerate() {
+            let cell = |what| {
+                let one = (unit.step)(self.queue(0, what), Step::Core);
+                let here = (unit.step)(self.queue(length, what), Step::Core);
+                match (what < ALL, length) {
+                    (true, _) => whole(here),
+                    (false, 0) => String::from("-"),
+                    (false, _) => ratio(here.zip(one).map(|(h, o)| h - o), further(*senders)),
+                }
+            };
+            let check = whole((unit.work)(self.queue(length, 0), Work::Check));
+            let cells = [senders.to_string(), check].into_iter();
+            text += &row(cells.chain((0..AT_QUEUE.len()).map(cell)));
+        }
+        text
+    }
+
+    /// All tables, each under a line that says what it shows.
+    pub fn text(&self, counted: bool) -> String {
+        let units = &UNITS[..1 + counted as usize];
+        let mut text = String::new();
+        for &unit in units {
+            text += &format!("\n## The check and plain passes, {}\n\n", unit.name);
+            text += &self.passes(unit);
+        }
+        for (fill, (name, _)) in FILLS.iter().enumerate() {
+            for &unit in units {
+                text += &format!("\n## The calls on {name} tables, {}\n\n", unit.name);
+                text += &self.calls(fill, unit);
+            }
+        }
+        for &unit in units {
+            text += &format!("\n## Steps at a queue of senders, {}\n\n", unit.name);
+            text += &self.queues(unit);
+        }
+        text
+    }
+}
+
+fn further(senders: u32) -> Option<f64> {
+    Some(senders as f64 - 1.0)
+}
