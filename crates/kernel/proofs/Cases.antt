@@ -68,7 +68,8 @@ module _ {m : List ℕ} {c d : Call} {N : Type 0} {f : State → Result} (e : c 
 
 -- The host's calls.
 
-pub create-arm : (t p : ℕ) → Arm (CreateThread t p) (Hosted (CreateThread t p)) ((t ≤ 255) × (p ≤ 255)) (createThread t p)
+pub create-arm :
+    (t p : ℕ) → Arm (CreateThread t p) (Hosted (CreateThread t p)) ((t ≤ 255) × (p ≤ 255)) (createThread t p)
 unfolding perform
 create-arm t p = record { asks = λ h. thread-priority h; is = λ s h. refl }
 
@@ -76,7 +77,8 @@ pub destroy-arm : (t : ℕ) → Arm (DestroyThread t) (Hosted (DestroyThread t))
 unfolding perform
 destroy-arm t = record { asks = λ h. leb-true t 255 h; is = λ s h. refl }
 
-pub priority-arm : (t p : ℕ) → Arm (SetPriority t p) (Hosted (SetPriority t p)) ((t ≤ 255) × (p ≤ 255)) (setPriority t p)
+pub priority-arm :
+    (t p : ℕ) → Arm (SetPriority t p) (Hosted (SetPriority t p)) ((t ≤ 255) × (p ≤ 255)) (setPriority t p)
 unfolding perform
 priority-arm t p = record { asks = λ h. thread-priority h; is = λ s h. refl }
 

@@ -7,7 +7,7 @@ use mathlib.Core.Option.{Option, none, some}
 use mathlib.Core.List.{List, [], _∷_, _++_}
 use native.Mathlib.Omega.{arith}
 use Rattle.machine.specs.Lists.{put, without, Mem, Distinct}
-use Rattle.machine.specs.State.{State, Place, absent, able, sending, receiving, waiting, owns, Abort, Line, awaited, quiet}
+use Rattle.machine.specs.State.{State, Place, absent, able, sending, receiving, owns, Abort, awaited, quiet}
 use Rattle.machine.specs.State.{Endpoint, missingEndpoint, setLine}
 use Rattle.machine.specs.Endpoints.{ownerOf, pendingOf}
 use Rattle.machine.specs.Scheduling.{unqueue}
@@ -233,7 +233,9 @@ moved-loose {s} {t} {p} M a k =
       free = free-of (prioritising t p (unqueue t s)) t levels waiters;
     }
   where
-    levels : (q : ℕ) → Mem t (put (s .levels) (s .threads t .priority) (without t (s .levels (s .threads t .priority))) q) → ⊥
+    levels :
+        (q : ℕ) → Mem t (put (s .levels) (s .threads t .priority) (without t (s .levels (s .threads t .priority))) q)
+        → ⊥
     levels q m = go (same? q (s .threads t .priority))
       where
         go : Same q (s .threads t .priority) → ⊥

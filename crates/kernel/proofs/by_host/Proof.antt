@@ -71,35 +71,40 @@ same-length c = search needs
 
 returns : tie.Need-returns
 returns c =
-    host-done (c .before .before .before .before .before .c .given .1) (create-arm _ _) (c .before .before .create-thread .ensures)
+    host-done (c .before .before .before .before .before .c .given .1) (create-arm _ _)
+    (c .before .before .create-thread .ensures)
 
 same-length-2 : tie.Need-same-length-2
 same-length-2 c = search needs
 
 returns-2 : tie.Need-returns-2
 returns-2 c =
-    host-done (c .before .before .before .before .before .c2 .given .1) (destroy-arm _) (c .before .before .destroy-thread .ensures)
+    host-done (c .before .before .before .before .before .c2 .given .1) (destroy-arm _)
+    (c .before .before .destroy-thread .ensures)
 
 same-length-3 : tie.Need-same-length-3
 same-length-3 c = search needs
 
 returns-3 : tie.Need-returns-3
 returns-3 c =
-    host-done (c .before .before .before .before .before .c3 .given .1) (priority-arm _ _) (c .before .before .set-priority .ensures)
+    host-done (c .before .before .before .before .before .c3 .given .1) (priority-arm _ _)
+    (c .before .before .set-priority .ensures)
 
 same-length-4 : tie.Need-same-length-4
 same-length-4 c = search needs
 
 returns-4 : tie.Need-returns-4
 returns-4 c =
-    host-done (c .before .before .before .before .before .c4 .given .1) (endpoint-arm _) (c .before .before .create-endpoint .ensures)
+    host-done (c .before .before .before .before .before .c4 .given .1) (endpoint-arm _)
+    (c .before .before .create-endpoint .ensures)
 
 same-length-5 : tie.Need-same-length-5
 same-length-5 c = search needs
 
 returns-5 : tie.Need-returns-5
 returns-5 c =
-    host-done (c .before .before .before .before .before .c5 .given .1) (interrupt-arm _) (c .before .before .interrupt .ensures)
+    host-done (c .before .before .before .before .before .c5 .given .1) (interrupt-arm _)
+    (c .before .before .interrupt .ensures)
 
 same-length-6 : tie.Need-same-length-6
 same-length-6 c = search needs

@@ -61,60 +61,70 @@ cast-abort c = search needs
 
 abort-requires : tie.Need-abort-requires
 abort-requires c κs =
-    thread-asked (c .before .before .c5 .given .1) (abort-arm _ _ _ _) (c .before .before .before .before .before .pre)
+    thread-asked (c .before .before .c5 .given .1) (abort-arm _ _ _ _)
+    (c .before .before .before .before .before .pre)
 
 by-host-requires : tie.Need-by-host-requires
 by-host-requires c κs =
-    hosted-asked _ _ _ (early (c .before .before .before .args .c) (c .before .match .keys7)) (c .before .before .before .pre)
+    hosted-asked _ _ _ (early (c .before .before .before .args .c) (c .before .match .keys7))
+    (c .before .before .before .pre)
 
 same-length : tie.Need-same-length
 same-length c = search needs
 
 returns : tie.Need-returns
 returns c =
-    thread-done (c .before .before .before .before .before .c .given .1) (send-arm _ _ _ _) (c .before .before .send .ensures)
+    thread-done (c .before .before .before .before .before .c .given .1) (send-arm _ _ _ _)
+    (c .before .before .send .ensures)
 
 same-length-2 : tie.Need-same-length-2
 same-length-2 c = search needs
 
 returns-2 : tie.Need-returns-2
 returns-2 c =
-    thread-done (c .before .before .before .before .before .c2 .given .1) (receive-arm _ _) (c .before .before .receive .ensures)
+    thread-done (c .before .before .before .before .before .c2 .given .1) (receive-arm _ _)
+    (c .before .before .receive .ensures)
 
 same-length-3 : tie.Need-same-length-3
 same-length-3 c = search needs
 
 returns-3 : tie.Need-returns-3
 returns-3 c =
-    thread-done (c .before .before .before .before .enum-told .given .1) (yield-arm _) (c .before .before .yield-running .ensures)
+    thread-done (c .before .before .before .before .enum-told .given .1) (yield-arm _)
+    (c .before .before .yield-running .ensures)
 
 same-length-4 : tie.Need-same-length-4
 same-length-4 c = search needs
 
 returns-4 : tie.Need-returns-4
 returns-4 c =
-    thread-done (c .before .before .before .before .before .c3 .given .1) (wait-arm _ _) (c .before .before .wait .ensures)
+    thread-done (c .before .before .before .before .before .c3 .given .1) (wait-arm _ _)
+    (c .before .before .wait .ensures)
 
 same-length-5 : tie.Need-same-length-5
 same-length-5 c = search needs
 
 returns-5 : tie.Need-returns-5
 returns-5 c =
-    thread-done (c .before .before .before .before .before .c4 .given .1) (delete-arm _ _ _) (c .before .before .delete .ensures)
+    thread-done (c .before .before .before .before .before .c4 .given .1) (delete-arm _ _ _)
+    (c .before .before .delete .ensures)
 
 same-length-6 : tie.Need-same-length-6
 same-length-6 c = search needs
 
 returns-6 : tie.Need-returns-6
 returns-6 c =
-    thread-done (c .before .before .before .before .before .c5 .given .1) (abort-arm _ _ _ _) (c .before .before .abort .ensures)
+    thread-done (c .before .before .before .before .before .c5 .given .1) (abort-arm _ _ _ _)
+    (c .before .before .abort .ensures)
 
 same-length-7 : tie.Need-same-length-7
 same-length-7 c = search needs
 
 returns-7 : tie.Need-returns-7
 returns-7 c =
-    hosted-done _ _ _ (early (c .before .before .before .before .before .before .args .c) (c .before .before .before .before .match .keys7)) (c .before .before .by-host .ensures)
+    let at-match = c .before .before .before .before in
+    hosted-done _ _ _ (early (at-match .before .before .args .c) (at-match .match .keys7))
+    (c .before .before .by-host .ensures)
 
 pub by-thread-spec : {M : Type 1} → statement M
 by-thread-spec =

@@ -18,7 +18,8 @@ same-length-2 c = search needs
 
 returns : tie.Need-returns
 returns c =
-    check-refuses _ _ (c .before .before .before .before .check .ensures) _ (c .before .if1 .taken) (c .plain .ensures)
+    check-refuses _ _ (c .before .before .before .before .check .ensures) _ (c .before .if1 .taken)
+    (c .plain .ensures)
 
 step-requires : tie.Need-step-requires
 step-requires c κs =
@@ -32,7 +33,8 @@ same-length-4 c = search needs
 
 returns-2 : tie.Need-returns-2
 returns-2 c =
-    step-taken _ _ (c .before .before .before .before .before .before .before .check .ensures) _ (c .before .before .before .before .if1 .left) (c .before .before .step .ensures)
+    step-taken _ _ (c .before .before .before .before .before .before .before .check .ensures) _
+    (c .before .before .before .before .if1 .left) (c .before .before .step .ensures)
 
 pub call-spec : {M : Type 1} → statement M
 call-spec =

@@ -13,18 +13,22 @@ plain-requires c κs = search needs
 
 returns : tie.Need-returns
 returns c =
-    out-of-range (c .before .before .before .before .args .c) (c .before .before .in-range .ensures) (not-true _ (c .before .if1 .taken)) (c .plain .ensures)
+    out-of-range (c .before .before .before .before .args .c) (c .before .before .in-range .ensures)
+    (not-true _ (c .before .if1 .taken)) (c .plain .ensures)
 
 perform-requires : tie.Need-perform-requires
 perform-requires c κs =
-    range-asked (c .before .before .before .before .args .c) (c .before .before .in-range .ensures) (not-false _ (c .before .if1 .left)) (c .before .before .before .before .pre)
+    range-asked (c .before .before .before .before .args .c) (c .before .before .in-range .ensures)
+    (not-false _ (c .before .if1 .left)) (c .before .before .before .before .pre)
 
 same-length : tie.Need-same-length
 same-length c = search needs
 
 returns-2 : tie.Need-returns-2
 returns-2 c =
-    range-done (c .before .before .before .before .before .before .before .args .c) (c .before .before .before .before .before .in-range .ensures) (not-false _ (c .before .before .before .before .if1 .left)) (c .before .before .perform .ensures)
+    range-done (c .before .before .before .before .before .before .before .args .c)
+    (c .before .before .before .before .before .in-range .ensures)
+    (not-false _ (c .before .before .before .before .if1 .left)) (c .before .before .perform .ensures)
 
 pub step-spec : {M : Type 1} → statement M
 step-spec =
