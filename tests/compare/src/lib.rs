@@ -12,6 +12,6 @@ mod subject;
 
 pub use compiled::{numbers, Compiled};
 pub use report::{journal, report};
-pub use run::{compare, Compared, Failure};
+pub use run::{compare, compare_watched, Compared, Failure};
 pub use side::Difference;
 pub use subject::Core;
