@@ -585,7 +585,7 @@ static void print_seed(const char *name, const uint32_t *tables)
         threads += tables[thread_word(thread, 0)] != 0;
     for (int endpoint = 0; endpoint < ENDPOINTS; endpoint++)
         aborts += tables[endpoint_word(endpoint, CURSOR)] != 0;
-    printf("%s: tables with %d threads and %d aborts under way\n", name, threads, aborts);
+    printf("%s: threads %d, aborts under way %d\n", name, threads, aborts);
 }
 
 static void damage(const uint32_t *seed)
