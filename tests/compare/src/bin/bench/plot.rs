@@ -4,6 +4,7 @@ use crate::figures::{Figures, Step};
 use crate::markdown::Report;
 use crate::measure::Work;
 use crate::scenes::SENDERS;
+use comparison::grouped;
 
 const WIDTH: f64 = 760.0;
 const HEIGHT: f64 = 560.0;
@@ -83,7 +84,7 @@ impl Panel {
         for count in (0..=self.most as usize).step_by(self.every) {
             let y = self.y(count as f64);
             svg += &stroke("mark", LEFT, y, RIGHT, y);
-            svg += &text(LEFT - 8.0, y + 4.0, "end", &grouped(count as f64));
+            svg += &text(LEFT - 8.0, y + 4.0, "end", &grouped(count as u64));
         }
         let bottom = self.y(0.0);
         svg += &stroke("axis", LEFT, bottom, RIGHT, bottom);
@@ -108,7 +109,7 @@ impl Panel {
             svg += &format!("<circle cx=\"{x:.1}\" cy=\"{y:.1}\" r=\"3\" fill=\"{colour}\"/>\n");
         }
         let last = counts.last().copied().unwrap_or(0.0);
-        let label = format!("{name}: {}", grouped(last));
+        let label = format!("{name}: {}", grouped(last as u64));
         svg + &text(RIGHT + 8.0, self.y(last) + lower, "start", &label)
     }
 
@@ -129,13 +130,4 @@ fn stroke(class: &str, x: f64, y: f64, to_x: f64, to_y: f64) -> String {
 
 fn text(x: f64, y: f64, anchor: &str, text: &str) -> String {
     format!("<text x=\"{x:.1}\" y=\"{y:.1}\" text-anchor=\"{anchor}\">{text}</text>\n")
-}
-
-/// A whole number, with a comma before its last three digits.
-fn grouped(number: f64) -> String {
-    let number = number as u64;
-    match number {
-        0..=999 => number.to_string(),
-        _ => format!("{},{:03}", number / 1000, number % 1000),
-    }
 }

@@ -1,5 +1,6 @@
 //! A line that says how far the comparison has come, where somebody looks on.
 
+use comparison::grouped;
 use std::io::{stderr, IsTerminal, Write};
 use std::time::{Duration, Instant};
 
@@ -41,19 +42,6 @@ fn put(text: &str) {
 
 fn line(calls: u64, of: u64) -> String {
     format!("compare: {} of {} calls", grouped(calls), grouped(of))
-}
-
-/// A number with a comma before every three digits.
-fn grouped(number: u64) -> String {
-    let digits = number.to_string();
-    let mut text = String::new();
-    for (n, digit) in digits.chars().enumerate() {
-        if n > 0 && (digits.len() - n) % 3 == 0 {
-            text.push(',');
-        }
-        text.push(digit);
-    }
-    text
 }
 
 #[cfg(test)]
