@@ -1,8 +1,8 @@
 #!/bin/sh
 # Runs all tests: the second machine's own; then every crate is proved from nothing, every must-fail edit is tried and
 # every program is run; then the journals are listed, by the program and by the host in C, the library is tested from
-# Rust, and compared with the second machine over 2,000,000 calls. The last line is 'N passed, M failed'; the exit
-# status is 0 only where nothing failed.
+# Rust, lent damaged tables from C, and compared with the second machine over 2,000,000 calls. The last line is 'N
+# passed, M failed'; the exit status is 0 only where nothing failed.
 set -eu
 cd "$(dirname "$0")"
 need() {
@@ -37,6 +37,7 @@ CARGO_TARGET_DIR="$PWD/target/second" cargo test --offline --quiet --manifest-pa
 counted rt ci
 counted sh tests/journals.sh target/bin/trace
 counted sh tests/c.sh
+counted sh tests/damaged.sh
 counted sh tests/compare.sh
 echo "$passed passed, $failed failed"
 test "$failed" -eq 0

@@ -11,7 +11,7 @@ mod side;
 mod subject;
 
 pub use compiled::{numbers, Compiled};
-pub use report::{journal, report};
-pub use run::{compare, Compared, Failure};
+pub use report::{grouped, journal, report};
+pub use run::{compare, compare_watched, Compared, Failure};
 pub use side::Difference;
 pub use subject::Core;

@@ -1,4 +1,4 @@
-//! What is said of a difference.
+//! What is said of a difference, and numbers to be read.
 
 use crate::run::Failure;
 use second::{write, Answer, Call, Machine};
@@ -31,4 +31,12 @@ fn line(n: usize, call: &Call, answer: &Answer, running: Option<u8>) -> String {
     let Answer { code, count, badge, message } = *answer;
     let running = running.map_or(String::from("-"), |t| t.to_string());
     format!("  {n} {} {code} {count} {badge} {message} {running}  {call:?}\n", call.number())
+}
+
+/// A number with a comma before every three digits.
+pub fn grouped(number: u64) -> String {
+    match number {
+        0..=999 => number.to_string(),
+        _ => format!("{},{:03}", grouped(number / 1000), number % 1000),
+    }
 }

@@ -26,11 +26,22 @@ pub struct Compared {
 
 /// Compares so many calls.
 pub fn compare<C: Core>(core: C, seed: u64, calls: u64) -> Result<Compared, Failure> {
+    compare_watched(core, seed, calls, &mut |_| ())
+}
+
+/// The same; before each list the watcher is told how many calls were compared.
+pub fn compare_watched<C: Core>(
+    core: C,
+    seed: u64,
+    calls: u64,
+    watcher: &mut dyn FnMut(u64),
+) -> Result<Compared, Failure> {
     let mut pair = Pair::new(core);
     let mut lists = Lists::new(seed);
     let mut compared = Compared::default();
     while compared.tally.calls() < calls {
         let at = compared.tally.calls();
+        watcher(at);
         let length = (lists.begin() as u64).min(calls - at);
         let mut made = Vec::new();
         if let Err(difference) = compared.list(&mut pair, &mut lists, length, &mut made) {

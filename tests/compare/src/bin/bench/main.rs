@@ -1,9 +1,11 @@
-//! bench: what the core's calls cost, beside the second machine's and beside a
-//! plain pass over the tables, as tables in Markdown.
+//! bench [--plot FILE]: what the core's calls cost, beside the second machine's
+//! and beside a plain pass over the tables, as tables in Markdown; the file gets
+//! a picture of what grows with the senders that wait.
 
 mod figures;
 mod markdown;
 mod measure;
+mod plot;
 mod scenes;
 
 use figures::{count, run_counted, time};
@@ -16,23 +18,41 @@ const COUNTED: &str = "--counted";
 
 fn main() -> ExitCode {
     let args: Vec<String> = std::env::args().skip(1).collect();
-    let scenes = scenes();
     match args.iter().map(String::as_str).collect::<Vec<&str>>()[..] {
-        [] => (),
+        [] => measure(None),
+        ["--plot", file] => measure(Some(file)),
         [COUNTED] => {
-            run_counted(&scenes);
-            return ExitCode::SUCCESS;
+            run_counted(&scenes());
+            ExitCode::SUCCESS
         }
         _ => {
-            eprintln!("usage: bench");
-            return ExitCode::from(2);
+            eprintln!("usage: bench [--plot FILE]");
+            ExitCode::from(2)
         }
     }
-    let mut figures = time(&scenes);
+}
+
+fn measure(plot: Option<&str>) -> ExitCode {
+    let mut figures = time(&scenes());
     let counted = count(&mut figures, COUNTED);
     if !counted {
         println!("No instructions are counted: valgrind did not run.");
     }
-    print!("{}", Report(&figures).text(counted));
-    ExitCode::SUCCESS
+    let report = Report(&figures);
+    print!("{}", report.text(counted));
+    match plot.map_or(Ok(()), |file| draw(&report, file)) {
+        Ok(()) => ExitCode::SUCCESS,
+        Err(error) => {
+            eprintln!("bench: {error}");
+            ExitCode::FAILURE
+        }
+    }
+}
+
+/// Writes the picture, or says why there is none.
+fn draw(report: &Report, file: &str) -> Result<(), String> {
+    let Some(svg) = plot::svg(report) else {
+        return Err(String::from("there is no picture without instructions"));
+    };
+    std::fs::write(file, svg).map_err(|error| format!("{file}: {error}"))
 }

@@ -53,7 +53,8 @@ impl Report<'_> {
         &self.0[CALLS.len() * fill + number - 1]
     }
 
-    fn queue(&self, length: usize, what: usize) -> &Figures {
+    /// What is done at the queue of each length.
+    pub fn queue(&self, length: usize, what: usize) -> &Figures {
         &self.0[CALLS.len() * FILLS.len() + AT_QUEUE.len() * length + what]
     }
 

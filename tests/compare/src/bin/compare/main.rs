@@ -1,9 +1,13 @@
 //! compare [--calls N] [--seed S] [--journal FILE]: steered calls on the
 //! compiled core and on the second machine. The first difference is printed
 //! with the calls that lead to it, their journal written to the file, and the
-//! exit status is 1; so it is where a situation has not come up.
+//! exit status is 1; so it is where a situation has not come up. On a terminal
+//! a line shows how far it has come.
 
-use comparison::{compare, journal, report, Compared, Compiled, Failure};
+mod progress;
+
+use comparison::{compare_watched, journal, report, Compared, Compiled, Failure};
+use progress::Progress;
 use std::process::ExitCode;
 use std::time::{SystemTime, UNIX_EPOCH};
 
@@ -39,7 +43,11 @@ fn main() -> ExitCode {
         return ExitCode::from(2);
     };
     println!("seed {}", options.seed);
-    let same = match compare(Compiled::default(), options.seed, options.calls) {
+    let mut progress = Progress::new(options.calls);
+    let mut watch = |calls| progress.reached(calls);
+    let compared = compare_watched(Compiled::default(), options.seed, options.calls, &mut watch);
+    progress.clear();
+    let same = match compared {
         Ok(compared) => all_came_up(&compared),
         Err(failure) => {
             print_failure(&failure, &options);
