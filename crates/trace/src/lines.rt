@@ -3,7 +3,12 @@ ghost use Prim.Native.Nat.{_+_, _≤_};
 ghost use mathlib.Core.Path.{_≡_};
 ghost use lib.ListN.{length};
 ghost use Rattle.io.specs.Counts.{Counts};
+ghost use Rattle.journal.specs.Words.{readAt};
+ghost use Rattle.kernel.specs.Entry.{runningLink};
+ghost use Rattle.listing.specs.Line.{lineOf, threadOf};
 ghost use Rattle.trace.specs.Turns.{bit, oddCode, lastCode};
+ghost use Rattle.trace.specs.Rows as rows;
+ghost use Rattle.trace.specs.Lines.{Added, lastLine, Stepped};
 use journal::types::Read;
 use listing::Running;
 use machine::Answer;
@@ -28,7 +33,9 @@ pub struct Cursor {
     pub going: bool,
 }
 
-fn running(tables: &[u32]) -> Running {
+fn running(tables: &[u32]) -> Running
+    ensures { λ r. ⌜ threadOf r ≡ rows.threadOf (runningLink (now (tables .entry))) ⌝ }
+{
     let link = kernel::running(tables);
     if link == 0 {
         Running::Nobody
@@ -41,6 +48,7 @@ fn running(tables: &[u32]) -> Running {
 fn add(out: &mut [u8], used: usize, index: u64, call: u32, answer: Answer, who: Running) -> usize
     requires { ⌜ used ≤ length (now out) ⌝ }
     ensures { λ r. ⌜ r ≤ length (now (out .entry)) ⌝ }
+    ensures { λ r. ⌜ Added (now (out .entry)) used (lineOf index call answer (threadOf who)) r (now (out .exit)) ⌝ }
 {
     used + listing::line(&mut out[used..], index, call, answer, who)
 }
@@ -66,6 +74,7 @@ fn last_code(reading: Read, odd: usize) -> u32
 fn add_last(out: &mut [u8], used: usize, index: u64, code: u32, who: Running) -> usize
     requires { ⌜ used ≤ length (now out) ⌝ }
     ensures { λ r. ⌜ r ≤ length (now (out .entry)) ⌝ }
+    ensures { λ r. ⌜ Added (now (out .entry)) used (lastLine index code (threadOf who)) r (now (out .exit)) ⌝ }
 {
     if code == 0 {
         return used;
@@ -92,6 +101,9 @@ fn step(
     ensures { λ r. ⌜ at .next + bit (r .going) ≤ r .next ⌝ }
     ensures { λ r. ⌜ r .next ≤ length (now (words .entry)) ⌝ }
     ensures { λ r. ⌜ r .used ≤ length (now (out .entry)) ⌝ }
+    ensures { λ r. ⌜ Stepped (readAt (now (words .entry)) (at .next)) odd
+        at (now (tables .entry)) (now (scratch .entry)) (now (out .entry))
+        r (now (tables .exit)) (now (scratch .exit)) (now (out .exit)) ⌝ }
 {
     let from = at.next;
     let reading = reader::read(words, from);

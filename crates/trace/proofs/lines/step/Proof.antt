@@ -1,8 +1,10 @@
--- `trace::lines::step` is safe: a call that is found ends within the words, behind the place it was read at.
+-- `trace::lines::step` meets its contract: a call that is found ends within the words, behind the place it was read at,
+-- and the line has the answer and the running thread of the tables after it.
 -- Assumes nothing.
-use mathlib.Core.Path.{sym, _∙_}
+use mathlib.Core.Path.{refl, sym, _∙_}
 use borrow.Author.Needs.{needs}
 use Rattle.trace.proofs.Reading.{Onward, found-onward}
+use Rattle.trace.proofs.Bytes.{step-took, step-stopped}
 use Rattle.trace.proofs.lines.step.Statement.{statement}
 use Rattle.trace.proofs.lines.step.Tie as tie
 
@@ -38,7 +40,22 @@ same-length-2 : tie.Need-same-length-2
 same-length-2 c = search needs
 
 returns : tie.Need-returns
-returns c = search needs
+returns c =
+    let who = c .before .before .before in
+    let told = who .before .before .before in
+    let arm = told .before in
+    let start = arm .before .before .before .before .before .before in (
+      search needs,
+      (
+        search needs,
+        (
+          search needs,
+          step-stopped _ (start .args .at) _ _ _ _ _ _ _ _ _ _ _ (arm .before .read .ensures) (arm .match .keys2)
+              (told .last-code .ensures) (who .running .ensures) refl refl refl refl refl
+              (c .before .before .add-last .ensures .1),
+        ),
+      ),
+    )
 
 call-requires : tie.Need-call-requires
 call-requires c κs = search needs
@@ -66,9 +83,25 @@ same-length-5 c = search needs
 
 returns-2 : tie.Need-returns-2
 returns-2 c =
-    let o = onward (c .before .before .before .before .before .before .before .before .before .before .before .before
-    .before .before .before .before) in
-    (o .on, (o .within, search needs))
+    let who = c .before .before .before in
+    let wraps = who .before .before .before in
+    let named = wraps .before in
+    let made = named .before .before .before .before .before in
+    let found = made .before .before .before .before in
+    let start = found .before .before .before .before .before .before .before in
+    let o = onward found in (
+      o .on,
+      (
+        o .within,
+        (
+          search needs,
+          step-took _ (start .args .at) _ _ _ _ _ _ _ _ _ _ _ _ _
+              (sym (found .before .before .read .ensures) ∙ found .reading .given .1) (made .call .ensures)
+              (named .number .ensures) (who .running2 .ensures) refl refl (wraps .wrapping-add-u64 .ensures)
+              (c .before .before .add .ensures .1),
+        ),
+      ),
+    )
 
 pub step-spec : {M : Type 1} → statement M
 step-spec =

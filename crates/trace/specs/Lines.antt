@@ -1,0 +1,57 @@
+-- The lines of a listing as bytes in the lent buffer, and what one step of the listing does.
+-- Assumes nothing.
+use Prim.Native.Nat.{ℕ, zero, suc, _+_, _%_, _^_, _≤_}
+use mathlib.Core.Path.{_≡_}
+use mathlib.Core.Bool.{true, false}
+use mathlib.Core.Option.{Option}
+use mathlib.Core.List.{List, []}
+use lib.ListN.{length}
+use Rattle.machine.specs.declared.Call.{Call}
+use Rattle.machine.specs.Calls.{numberOf}
+use Rattle.machine.specs.Results.{plain}
+use Rattle.journal.specs.declared.types.Read.{Read}
+use Rattle.journal.specs.declared.types.Read.the-variants.{Found, Refused, Ended}
+use Rattle.listing.specs.Line.{lineOf}
+use Rattle.listing.specs.Buffer.{Wrote}
+use Rattle.kernel.specs.Entry.{Called, called, runningLink}
+use Rattle.trace.specs.declared.lines.Cursor.{Cursor}
+use Rattle.trace.specs.Turns.{lastCode}
+use Rattle.trace.specs.Rows.{threadOf}
+
+-- Where every line has room behind the bytes used, these bytes stand there; r counts them all.
+pub record Added (out : List ℕ) (used : ℕ) (bytes : List ℕ) (r : ℕ) (out′ : List ℕ) : Type 0 where
+  pub roomy : used + 96 ≤ length out → Wrote out used bytes r out′
+
+-- The line of a call that the entry takes on these tables: its answer, and who runs after it.
+abbrev pub callLine : ℕ → Call → List ℕ → List ℕ → List ℕ
+callLine i c m x = lineOf i (numberOf c) (called m x c .answer) (threadOf (runningLink (called m x c .tables)))
+
+-- "the next index, call 0, the reader's 18 or 19, three zeros, running thread"; no line where the code is 0
+abbrev pub lastLine : ℕ → ℕ → Option ℕ → List ℕ
+lastLine i zero running = []
+lastLine i (suc n) running = lineOf i 0 (plain (suc n)) running
+
+-- A call was found: the entry took it, its line is added, and the listing goes on behind its words.
+pub record Took (c : Call) (behind : ℕ) (at : Cursor) (m x out : List ℕ) (r : Cursor) (m′ x′ out′ : List ℕ)
+    : Type 0 where
+  pub going : r .going ≡ true
+  pub next : r .next ≡ behind
+  pub index : r .index ≡ (at .index + 1) % 2 ^ 64
+  pub tables : m′ ≡ called m x c .tables
+  pub scratch : x′ ≡ called m x c .scratch
+  pub line : Added out (at .used) (callLine (at .index) c m x) (r .used) out′
+
+-- No call was found: the listing stops there with the last line, if there is one.
+pub record Stopped (code : ℕ) (at : Cursor) (m x out : List ℕ) (r : Cursor) (m′ x′ out′ : List ℕ) : Type 0 where
+  pub going : r .going ≡ false
+  pub next : r .next ≡ at .next
+  pub index : r .index ≡ at .index
+  pub tables : m′ ≡ m
+  pub scratch : x′ ≡ x
+  pub line : Added out (at .used) (lastLine (at .index) code (threadOf (runningLink m))) (r .used) out′
+
+-- One step, by what was read; m, x and out are the tables, the scratch and the buffer.
+abbrev pub Stepped : Read → ℕ → Cursor → List ℕ → List ℕ → List ℕ → Cursor → List ℕ → List ℕ → List ℕ → Type 0
+Stepped (Found c behind) odd at m x out r m′ x′ out′ = Took c behind at m x out r m′ x′ out′
+Stepped (Refused code place) odd at m x out r m′ x′ out′ = Stopped code at m x out r m′ x′ out′
+Stepped Ended odd at m x out r m′ x′ out′ = Stopped (lastCode Ended odd) at m x out r m′ x′ out′
