@@ -2,7 +2,7 @@
 -- Assumes nothing.
 use Prim.Native.Nat.{ℕ, zero, suc, _+_, _-_, _%_, _^_, _≤_}
 use mathlib.Core.Path.{_≡_, refl, sym, _∙_, ap, subst}
-use mathlib.Core.Logic.{_⊎_, inl, inr}
+use mathlib.Core.Logic.{inl, inr}
 use mathlib.Core.Bool.{true, false}
 use mathlib.Core.Option.{Option, none, some}
 use mathlib.Core.List.{List, [], _∷_, _++_, append-assoc, append-nil}
@@ -86,6 +86,10 @@ last-added out used i (suc n) r running out′ h a = a
 
 -- A step, from what its calls promise.
 
+not-found : OneOf (1 ∷ 2 ∷ []) 0 → ⊥
+not-found (inl e) = omega (arith, e)
+not-found (inr e) = omega (arith, e)
+
 module _ (odd : ℕ) (at : Cursor) (m x out : List ℕ) (r : Cursor) (m′ x′ out′ : List ℕ) where
   call-line :
       (c : Call) (answer : Answer) (number : ℕ) (running : Option ℕ)
@@ -117,10 +121,6 @@ module _ (odd : ℕ) (at : Cursor) (m x out : List ℕ) (r : Cursor) (m′ x′ 
             subst (λ (b : List ℕ). Added out (at .used) b (r .used) out′)
             (call-line c answer number running e n w) a;
       })
-
-  not-found : OneOf (1 ∷ 2 ∷ []) 0 → ⊥
-  not-found (inl e) = omega (arith, e)
-  not-found (inr e) = omega (arith, e)
 
   by-tag :
       (reading : Read) → OneOf (1 ∷ 2 ∷ []) (tagOf the-type reading)

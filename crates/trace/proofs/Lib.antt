@@ -1,4 +1,5 @@
 pub mod Reading
 pub mod Buffers
 pub mod Bytes
+pub mod Listing
 pub mod Rows

@@ -1,22 +1,24 @@
--- The lines of a listing as bytes in the lent buffer, and what one step of the listing does.
+-- The lines of a listing as bytes in the lent buffer, and what a step of the listing and a batch of steps do.
 -- Assumes nothing.
 use Prim.Native.Nat.{ℕ, zero, suc, _+_, _%_, _^_, _≤_}
 use mathlib.Core.Path.{_≡_}
-use mathlib.Core.Bool.{true, false}
+use mathlib.Core.Bool.{Bool, true, false}
 use mathlib.Core.Option.{Option}
-use mathlib.Core.List.{List, []}
+use mathlib.Core.List.{List, [], _∷_, _++_}
 use lib.ListN.{length}
 use Rattle.machine.specs.declared.Call.{Call}
 use Rattle.machine.specs.Calls.{numberOf}
 use Rattle.machine.specs.Results.{plain}
 use Rattle.journal.specs.declared.types.Read.{Read}
 use Rattle.journal.specs.declared.types.Read.the-variants.{Found, Refused, Ended}
+use Rattle.journal.specs.Words.{readAt}
+use Rattle.journal.specs.Rows.{Row}
 use Rattle.listing.specs.Line.{lineOf}
 use Rattle.listing.specs.Buffer.{Wrote}
 use Rattle.kernel.specs.Entry.{Called, called, runningLink}
 use Rattle.trace.specs.declared.lines.Cursor.{Cursor}
 use Rattle.trace.specs.Turns.{lastCode}
-use Rattle.trace.specs.Rows.{threadOf}
+use Rattle.trace.specs.Rows.{threadOf, takenFrom}
 
 -- Where every line has room behind the bytes used, these bytes stand there; r counts them all.
 pub record Added (out : List ℕ) (used : ℕ) (bytes : List ℕ) (r : ℕ) (out′ : List ℕ) : Type 0 where
@@ -55,3 +57,30 @@ abbrev pub Stepped : Read → ℕ → Cursor → List ℕ → List ℕ → List 
 Stepped (Found c behind) odd at m x out r m′ x′ out′ = Took c behind at m x out r m′ x′ out′
 Stepped (Refused code place) odd at m x out r m′ x′ out′ = Stopped code at m x out r m′ x′ out′
 Stepped Ended odd at m x out r m′ x′ out′ = Stopped (lastCode Ended odd) at m x out r m′ x′ out′
+
+-- The lines of rows, one behind the other.
+abbrev pub linesOf : List Row → List ℕ
+linesOf [] = []
+linesOf (r ∷ rows) = lineOf (r .index) (r .call) (r .answer) (r .running) ++ linesOf rows
+
+-- The last line, where the listing goes on no more.
+abbrev pub lastOf : Bool → ℕ → ℕ → Option ℕ → List ℕ
+lastOf true i code running = []
+lastOf false i code running = lastLine i code running
+
+-- The lines at the buffer's front are those of the rows that begin the journal's, and of the last line if the listing
+-- stopped; the rows of the journal are these and then those from the cursor on.
+pub record Listed
+    (words : List ℕ) (odd i : ℕ) (m x out : List ℕ) (r : Cursor) (m′ x′ out′ : List ℕ) : Type 0 where
+  pub rows : List Row
+  pub bytes :
+      Wrote out 0
+      (linesOf rows
+      ++ lastOf (r .going) (r .index) (lastCode (readAt words (r .next)) odd) (threadOf (runningLink m′)))
+      (r .used) out′
+  pub rest :
+      (n : ℕ)
+      → takenFrom (length rows + n) (readAt words 0) i words m x
+      ≡ rows ++ takenFrom n (readAt words (r .next)) (r .index) words m′ x′
+  pub index : r .index ≡ i + length rows
+  pub few : length rows ≤ r .next

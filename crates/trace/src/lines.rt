@@ -1,5 +1,5 @@
 // The lines of the calls that words hold.
-ghost use Prim.Native.Nat.{_+_, _≤_};
+ghost use Prim.Native.Nat.{_+_, _*_, _^_, _≤_, _<_};
 ghost use mathlib.Core.Path.{_≡_};
 ghost use lib.ListN.{length};
 ghost use Rattle.io.specs.Counts.{Counts};
@@ -8,7 +8,7 @@ ghost use Rattle.kernel.specs.Entry.{runningLink};
 ghost use Rattle.listing.specs.Line.{lineOf, threadOf};
 ghost use Rattle.trace.specs.Turns.{bit, oddCode, lastCode};
 ghost use Rattle.trace.specs.Rows as rows;
-ghost use Rattle.trace.specs.Lines.{Added, lastLine, Stepped};
+ghost use Rattle.trace.specs.Lines.{Added, lastLine, Stepped, Listed};
 use journal::types::Read;
 use listing::Running;
 use machine::Answer;
@@ -130,6 +130,7 @@ fn step(
 // Whether the next call has all its words, or will get no more, and its line has room.
 fn ready(at: Cursor, count: usize, ended: bool, room: usize) -> bool
     requires { ⌜ (at .next ≤ count) × (at .used ≤ room) ⌝ }
+    ensures { λ r. ⌜ at .used + bit r * 96 ≤ room ⌝ }
 {
     (ended || ENOUGH <= count - at.next) && ROOM <= room - at.used
 }
@@ -145,6 +146,10 @@ pub fn batch(
 ) -> Cursor
     ensures { λ r. ⌜ r .next ≤ length (now (words .entry)) ⌝ }
     ensures { λ r. ⌜ Counts (r .used) (now (out .exit)) ⌝ }
+    ensures { λ r. ⌜ (index + length (now (words .entry)) < 2 ^ 64 →
+        Listed (now (words .entry)) (tail .odd) index
+        (now (tables .entry)) (now (scratch .entry)) (now (out .entry))
+        r (now (tables .exit)) (now (scratch .exit)) (now (out .exit))) ⌝ }
 {
     let mut at = Cursor {
         next: 0,

@@ -1,11 +1,14 @@
--- `trace::lines::batch` is safe and ends: the words left to read get fewer, or the listing stops.
+-- `trace::lines::batch` meets its contract, each step adding its row's line, and ends: the words left to read get
+-- fewer, or the listing stops.
 -- Assumes nothing.
-use Prim.Native.Nat.{_+_, _-_, _≤_}
-use mathlib.Core.Path.{_≡_}
+use Prim.Native.Nat.{_+_, _-_, _^_, _≤_, _<_}
+use mathlib.Core.Path.{_≡_, refl}
 use lib.ListN.{length}
 use borrow.Author.Needs.{needs}
 use Rattle.trace.specs.Turns.{bit}
+use Rattle.trace.specs.Lines.{Listed}
 use Rattle.trace.proofs.Reading.{fewer, counts}
+use Rattle.trace.proofs.Listing.{none-listed, room-for-one, one-more}
 use Rattle.trace.proofs.lines.batch.Statement.{statement}
 use Rattle.trace.proofs.lines.batch.Tie as tie
 
@@ -13,12 +16,20 @@ abbrev Inv-loop : tie.InvT-loop
 Inv-loop words tail index tables₀ scratch₀ out₀ at₀ tables scratch out at =
     (length tables ≡ length tables₀) × (length scratch ≡ length scratch₀) × (length out ≡ length out₀)
     × (at .next ≤ length words) × (at .used ≤ length out₀)
+    × (index + length words < 2 ^ 64 → Listed words (tail .odd) index tables₀ scratch₀ out₀ at tables scratch out)
 
 abbrev μ-loop : tie.MeasureT-loop
 μ-loop words tail index tables₀ scratch₀ out₀ at₀ tables scratch out at = length words + bit (at .going) - at .next
 
 loop-holds : tie.Need-loop-holds Inv-loop μ-loop
-loop-holds c = search needs
+loop-holds c = (
+  search needs,
+  search needs,
+  search needs,
+  search needs,
+  search needs,
+  λ h. none-listed _ _ _ _ _ _ _ refl refl refl refl,
+)
 
 ready-requires : tie.Need-ready-requires Inv-loop μ-loop
 ready-requires c κs = search needs
@@ -34,7 +45,21 @@ loop-less c =
     (s .step .ensures .1 .0)
 
 loop-again : tie.Need-loop-again Inv-loop μ-loop
-loop-again c = search needs
+loop-again c =
+    let s = c .before .before .before .before .before .before in
+    let t = s .before .before .before .before .before .before in
+    let inv = t .before .loop .inv in (
+      search needs,
+      search needs,
+      search needs,
+      search needs,
+      search needs,
+      λ h.
+          one-more _ _ _ _ _ _ _ _ _ _ _ _ _ _ h (t .loop-test .taken)
+          (room-for-one _ _ _ (s .before .before .before .before .if1 .taken)
+          (s .before .before .before .before .before .ready .ensures))
+          (inv .2) (s .step .ensures .0) (s .step .ensures .1 .0) (s .step .ensures .1 .1 .1) (inv .5 h),
+    )
 
 same-length : tie.Need-same-length Inv-loop μ-loop
 same-length c = search needs
@@ -46,7 +71,7 @@ same-length-3 : tie.Need-same-length-3 Inv-loop μ-loop
 same-length-3 c = search needs
 
 returns : tie.Need-returns Inv-loop μ-loop
-returns c = (search needs, counts _ _ (search needs))
+returns c = (search needs, (counts _ _ (search needs), c .before .before .before .loop .inv .5))
 
 same-length-4 : tie.Need-same-length-4 Inv-loop μ-loop
 same-length-4 c = search needs
@@ -58,7 +83,7 @@ same-length-6 : tie.Need-same-length-6 Inv-loop μ-loop
 same-length-6 c = search needs
 
 returns-2 : tie.Need-returns-2 Inv-loop μ-loop
-returns-2 c = (search needs, counts _ _ (search needs))
+returns-2 c = (search needs, (counts _ _ (search needs), c .before .loop .inv .5))
 
 pub batch-spec : {M : Type 1} → statement M
 batch-spec =
