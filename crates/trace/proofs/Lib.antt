@@ -3,3 +3,4 @@ pub mod Buffers
 pub mod Bytes
 pub mod Listing
 pub mod Rows
+pub mod Whole

@@ -23,7 +23,7 @@ use Rattle.kernel.specs.Entry.{Called, called, runningLink}
 use Rattle.trace.specs.declared.lines.Cursor.{Cursor}
 use Rattle.trace.specs.Turns.{bit, lastCode}
 use Rattle.trace.specs.Rows.{threadOf, takenFrom}
-use Rattle.trace.specs.Lines.{callLine, lastLine, Took, Stopped, Stepped, linesOf, lastOf, Listed}
+use Rattle.trace.specs.Lines.{callLine, lastLine, Took, Stopped, Stepped, linesOf, lastOf, NoCall, Listed}
 
 -- Whether a line has room.
 
@@ -44,6 +44,9 @@ room-for-one used room false e h = let z : _≡_ {A = ℕ} 0 1 = ap bit e in abs
 goes : (b : Bool) (i code : ℕ) (o : Option ℕ) → b ≡ true → lastOf b i code o ≡ []
 goes b i code o e = rw e
 
+not-both : (b : Bool) → b ≡ true → b ≡ false → ⊥
+not-both b t f = omega (arith, ap bit t, ap bit f)
+
 -- At the start nothing is listed.
 pub none-listed :
     (words : List ℕ) (odd i : ℕ) (m x out : List ℕ) (r : Cursor)
@@ -54,6 +57,7 @@ none-listed words odd i m x out r n e u g = record {
   rest = λ k. rw (n, e) (ap (λ (j : ℕ). takenFrom j (readAt words 0) i words m x) (zero-add k));
   index = e ∙ sym (add-zero i);
   few = omega (arith, n);
+  over = λ f. absurd (not-both (r .going) g f);
 }
 
 lines-more :
@@ -137,6 +141,7 @@ module _
         rest = took-rest l c behind e t s;
         index = s ∙ omega (arith, l .index, longer);
         few = omega (arith, longer, l .few, on);
+        over = λ f. absurd (not-both (r .going) (t .going) f);
       }
 
   stopped-last :
@@ -146,11 +151,11 @@ module _
   stopped-last code e t = rw (t .going, t .next, t .index, t .tables, e)
 
   at-end :
-      (code : ℕ) → lastCode (readAt words (at .next)) odd ≡ code
+      (code : ℕ) → lastCode (readAt words (at .next)) odd ≡ code → NoCall (readAt words (at .next))
       → at .going ≡ true → at .used + 96 ≤ length out → length out ≡ length out₀
       → Stopped code at m x out r m′ x′ out′ → Listed words odd i m₀ x₀ out₀ at m x out
       → Listed words odd i m₀ x₀ out₀ r m′ x′ out′
-  at-end code e g room same t l = record {
+  at-end code e end g room same t l = record {
     rows = l .rows;
     bytes =
         subst (λ (b : List ℕ). Wrote out₀ 0 (linesOf (l .rows) ++ b) (r .used) out′) (stopped-last code e t)
@@ -158,6 +163,7 @@ module _
     rest = λ n. rw (t .next, t .index, t .tables, t .scratch) (l .rest n);
     index = t .index ∙ l .index;
     few = omega (arith, l .few, t .next);
+    over = λ f. subst (λ (k : ℕ). NoCall (readAt words k)) (sym (t .next)) end;
   }
 
   by-reading :
@@ -170,9 +176,9 @@ module _
       after-call c behind e h g room same
       (subst (λ (b : Bool). at .next + bit b ≤ r .next) (t .going) on) within t l
   by-reading (Refused code place) e h g room same on within t l =
-      at-end code (ap (λ (k : Read). lastCode k odd) e) g room same t l
+      at-end code (ap (λ (k : Read). lastCode k odd) e) (subst NoCall (sym e) tt) g room same t l
   by-reading Ended e h g room same on within t l =
-      at-end (lastCode Ended odd) (ap (λ (k : Read). lastCode k odd) e) g room same t l
+      at-end (lastCode Ended odd) (ap (λ (k : Read). lastCode k odd) e) (subst NoCall (sym e) tt) g room same t l
 
   pub one-more :
       i + length words < 2 ^ 64 → at .going ≡ true → at .used + 96 ≤ length out → length out ≡ length out₀

@@ -68,6 +68,12 @@ abbrev pub lastOf : Bool → ℕ → ℕ → Option ℕ → List ℕ
 lastOf true i code running = []
 lastOf false i code running = lastLine i code running
 
+-- A reading that is no call.
+abbrev pub NoCall : Read → Type 0
+NoCall (Found c behind) = ⊥
+NoCall (Refused code place) = Unit {0}
+NoCall Ended = Unit {0}
+
 -- The lines at the buffer's front are those of the rows that begin the journal's, and of the last line if the listing
 -- stopped; the rows of the journal are these and then those from the cursor on.
 pub record Listed
@@ -84,3 +90,4 @@ pub record Listed
       ≡ rows ++ takenFrom n (readAt words (r .next)) (r .index) words m′ x′
   pub index : r .index ≡ i + length rows
   pub few : length rows ≤ r .next
+  pub over : r .going ≡ false → NoCall (readAt words (r .next))
