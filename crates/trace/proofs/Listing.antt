@@ -2,7 +2,7 @@
 -- Assumes nothing.
 use Prim.Native.Nat.{ℕ, suc, _+_, _-_, _*_, _%_, _^_, _≤_, _<_}
 use mathlib.Core.Path.{_≡_, refl, sym, _∙_, ap, subst}
-use mathlib.Core.Bool.{Bool, true, false}
+use mathlib.Core.Bool.{Bool, true, false, _||_, _&&_}
 use mathlib.Core.Option.{Option}
 use mathlib.Core.List.{List, [], _∷_, _++_, append-assoc, append-nil}
 use native.Mathlib.Omega.{arith}
@@ -37,6 +37,21 @@ has-room used room h = go (leb 96 (room - used)) refl
 pub has-none : (used room : ℕ) (b : Bool) → b ≡ false → used ≤ room → used + bit b * 96 ≤ room
 has-none used room b e h = omega (arith, h, ap bit e)
 
+pub by-end : (b ended enough : Bool) → ended ≡ true → b ≡ ended → b ≡ (ended || enough)
+by-end b ended enough t e = e ∙ t ∙ rw t
+
+pub by-words : (b ended enough : Bool) → ended ≡ false → b ≡ enough → b ≡ (ended || enough)
+by-words b ended enough f e = e ∙ rw f
+
+pub by-room : (b first fits : Bool) → b ≡ true → b ≡ first → fits ≡ (first && fits)
+by-room b first fits t e = rw (sym e ∙ t)
+
+pub by-neither : (b first fits : Bool) → b ≡ false → b ≡ first → b ≡ (first && fits)
+by-neither b first fits f e = f ∙ rw (sym e ∙ f)
+
+pub told-no : (b ready : Bool) → b ≡ ready → b ≡ false → ready ≡ false
+told-no b ready e f = sym e ∙ f
+
 pub room-for-one : (used room : ℕ) (b : Bool) → b ≡ true → used + bit b * 96 ≤ room → used + 96 ≤ room
 room-for-one used room true e h = omega arith
 room-for-one used room false e h = let z : _≡_ {A = ℕ} 0 1 = ap bit e in absurd (omega (arith, z))
@@ -44,7 +59,7 @@ room-for-one used room false e h = let z : _≡_ {A = ℕ} 0 1 = ap bit e in abs
 goes : (b : Bool) (i code : ℕ) (o : Option ℕ) → b ≡ true → lastOf b i code o ≡ []
 goes b i code o e = rw e
 
-not-both : (b : Bool) → b ≡ true → b ≡ false → ⊥
+pub not-both : (b : Bool) → b ≡ true → b ≡ false → ⊥
 not-both b t f = omega (arith, ap bit t, ap bit f)
 
 -- At the start nothing is listed.

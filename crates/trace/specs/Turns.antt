@@ -1,7 +1,8 @@
 -- How the listing goes on and ends.
 -- Assumes nothing.
 use Prim.Native.Nat.{ℕ, zero, suc}
-use mathlib.Core.Bool.{Bool, true, false}
+use mathlib.Core.Bool.{Bool, true, false, _||_, _&&_}
+use lib.Dec.{leb}
 use Rattle.journal.specs.declared.types.Read.{Read}
 use Rattle.journal.specs.declared.types.Read.the-variants.{Found, Refused, Ended}
 
@@ -20,3 +21,7 @@ abbrev pub lastCode : Read → ℕ → ℕ
 lastCode (Refused code at) odd = code
 lastCode Ended odd = oddCode odd
 lastCode (Found c next) odd = 0
+
+-- With so many words and so much room left: whether the next call has all its words, or gets no more, and its line fits.
+abbrev pub readyFor : Bool → ℕ → ℕ → Bool
+readyFor ended words room = (ended || leb 3 words) && leb 96 room

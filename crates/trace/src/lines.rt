@@ -1,12 +1,13 @@
 // The lines of the calls that words hold.
-ghost use Prim.Native.Nat.{_+_, _*_, _^_, _≤_, _<_};
+ghost use Prim.Native.Nat.{_+_, _-_, _*_, _^_, _≤_, _<_};
 ghost use mathlib.Core.Path.{_≡_};
+ghost use mathlib.Core.Bool.{true, false};
 ghost use lib.ListN.{length};
 ghost use Rattle.io.specs.Counts.{Counts};
 ghost use Rattle.journal.specs.Words.{readAt};
 ghost use Rattle.kernel.specs.Entry.{runningLink};
 ghost use Rattle.listing.specs.Line.{lineOf, threadOf};
-ghost use Rattle.trace.specs.Turns.{bit, oddCode, lastCode};
+ghost use Rattle.trace.specs.Turns.{bit, oddCode, lastCode, readyFor};
 ghost use Rattle.trace.specs.Rows as rows;
 ghost use Rattle.trace.specs.Lines.{Added, lastLine, Stepped, Listed};
 use journal::types::Read;
@@ -131,6 +132,7 @@ fn step(
 fn ready(at: Cursor, count: usize, ended: bool, room: usize) -> bool
     requires { ⌜ (at .next ≤ count) × (at .used ≤ room) ⌝ }
     ensures { λ r. ⌜ at .used + bit r * 96 ≤ room ⌝ }
+    ensures { λ r. ⌜ r ≡ readyFor ended (count - at .next) (room - at .used) ⌝ }
 {
     (ended || ENOUGH <= count - at.next) && ROOM <= room - at.used
 }
@@ -150,6 +152,9 @@ pub fn batch(
         Listed (now (words .entry)) (tail .odd) index
         (now (tables .entry)) (now (scratch .entry)) (now (out .entry))
         r (now (tables .exit)) (now (scratch .exit)) (now (out .exit))) ⌝ }
+    ensures { λ r. ⌜ (r .going ≡ true →
+        readyFor (tail .ended) (length (now (words .entry)) - r .next) (length (now (out .exit)) - r .used)
+        ≡ false) ⌝ }
 {
     let mut at = Cursor {
         next: 0,

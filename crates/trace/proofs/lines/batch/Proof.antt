@@ -8,7 +8,7 @@ use borrow.Author.Needs.{needs}
 use Rattle.trace.specs.Turns.{bit}
 use Rattle.trace.specs.Lines.{Listed}
 use Rattle.trace.proofs.Reading.{fewer, counts}
-use Rattle.trace.proofs.Listing.{none-listed, room-for-one, one-more}
+use Rattle.trace.proofs.Listing.{not-both, told-no, none-listed, room-for-one, one-more}
 use Rattle.trace.proofs.lines.batch.Statement.{statement}
 use Rattle.trace.proofs.lines.batch.Tie as tie
 
@@ -57,7 +57,7 @@ loop-again c =
       λ h.
           one-more _ _ _ _ _ _ _ _ _ _ _ _ _ _ h (t .loop-test .taken)
           (room-for-one _ _ _ (s .before .before .before .before .if1 .taken)
-          (s .before .before .before .before .before .ready .ensures))
+          (s .before .before .before .before .before .ready .ensures .0))
           (inv .2) (s .step .ensures .0) (s .step .ensures .1 .0) (s .step .ensures .1 .1 .1) (inv .5 h),
     )
 
@@ -71,7 +71,9 @@ same-length-3 : tie.Need-same-length-3 Inv-loop μ-loop
 same-length-3 c = search needs
 
 returns : tie.Need-returns Inv-loop μ-loop
-returns c = (search needs, (counts _ _ (search needs), c .before .before .before .loop .inv .5))
+returns c =
+    let now = c .before .before .before .loop .inv .5 in
+    (search needs, (counts _ _ (search needs), (now, λ g. told-no _ _ (c .before .ready .ensures .1) (c .if1 .left))))
 
 same-length-4 : tie.Need-same-length-4 Inv-loop μ-loop
 same-length-4 c = search needs
@@ -83,7 +85,9 @@ same-length-6 : tie.Need-same-length-6 Inv-loop μ-loop
 same-length-6 c = search needs
 
 returns-2 : tie.Need-returns-2 Inv-loop μ-loop
-returns-2 c = (search needs, (counts _ _ (search needs), c .before .loop .inv .5))
+returns-2 c =
+    let now = c .before .loop .inv .5 in
+    (search needs, (counts _ _ (search needs), (now, λ g. absurd (not-both _ g (c .loop-test .left)))))
 
 pub batch-spec : {M : Type 1} → statement M
 batch-spec =
