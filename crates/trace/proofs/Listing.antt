@@ -1,6 +1,6 @@
 -- A batch of steps: each adds the line of the next row of the journal, or the last line.
 -- Assumes nothing.
-use Prim.Native.Nat.{ℕ, suc, _+_, _-_, _*_, _%_, _^_, _≤_, _<_}
+use Prim.Native.Nat.{ℕ, suc, _+_, _-_, _%_, _^_, _≤_, _<_}
 use mathlib.Core.Path.{_≡_, refl, sym, _∙_, ap, subst}
 use mathlib.Core.Bool.{Bool, true, false, _||_, _&&_}
 use mathlib.Core.Option.{Option}
@@ -21,21 +21,11 @@ use Rattle.listing.specs.Buffer.{Wrote}
 use Rattle.listing.proofs.Texts.{pasted-nil, wrote-then}
 use Rattle.kernel.specs.Entry.{Called, called, runningLink}
 use Rattle.trace.specs.declared.lines.Cursor.{Cursor}
-use Rattle.trace.specs.Turns.{bit, lastCode}
+use Rattle.trace.specs.Turns.{bit, lastCode, readyFor}
 use Rattle.trace.specs.Rows.{threadOf, takenFrom}
 use Rattle.trace.specs.Lines.{callLine, lastLine, Took, Stopped, Stepped, linesOf, lastOf, NoCall, Listed}
 
--- Whether a line has room.
-
-pub has-room : (used room : ℕ) → used ≤ room → used + bit (leb 96 (room - used)) * 96 ≤ room
-has-room used room h = go (leb 96 (room - used)) refl
-  where
-    go : (b : Bool) → leb 96 (room - used) ≡ b → used + bit b * 96 ≤ room
-    go true e = omega (arith, h, leb-true 96 (room - used) e)
-    go false e = omega (arith, h)
-
-pub has-none : (used room : ℕ) (b : Bool) → b ≡ false → used ≤ room → used + bit b * 96 ≤ room
-has-none used room b e h = omega (arith, h, ap bit e)
+-- Whether the next call can be listed.
 
 pub by-end : (b ended enough : Bool) → ended ≡ true → b ≡ ended → b ≡ (ended || enough)
 by-end b ended enough t e = e ∙ t ∙ rw t
@@ -52,9 +42,15 @@ by-neither b first fits f e = f ∙ rw (sym e ∙ f)
 pub told-no : (b ready : Bool) → b ≡ ready → b ≡ false → ready ≡ false
 told-no b ready e f = sym e ∙ f
 
-pub room-for-one : (used room : ℕ) (b : Bool) → b ≡ true → used + bit b * 96 ≤ room → used + 96 ≤ room
-room-for-one used room true e h = omega arith
-room-for-one used room false e h = let z : _≡_ {A = ℕ} 0 1 = ap bit e in absurd (omega (arith, z))
+right-too : (a b : Bool) → (a && b) ≡ true → b ≡ true
+right-too true b e = e
+right-too false b e = let z : _≡_ {A = ℕ} 0 1 = ap bit e in absurd (omega (arith, z))
+
+pub room-for-one :
+    (used room : ℕ) (ended : Bool) (words : ℕ) (b : Bool) → b ≡ true → b ≡ readyFor ended words (room - used)
+    → used ≤ room → used + 96 ≤ room
+room-for-one used room ended words b t e h =
+    omega (arith, h, leb-true 96 (room - used) (right-too (ended || leb 3 words) (leb 96 (room - used)) (sym e ∙ t)))
 
 goes : (b : Bool) (i code : ℕ) (o : Option ℕ) → b ≡ true → lastOf b i code o ≡ []
 goes b i code o e = rw e

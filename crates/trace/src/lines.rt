@@ -1,5 +1,5 @@
 // The lines of the calls that words hold.
-ghost use Prim.Native.Nat.{_+_, _-_, _*_, _^_, _≤_, _<_};
+ghost use Prim.Native.Nat.{_+_, _-_, _^_, _≤_, _<_};
 ghost use mathlib.Core.Path.{_≡_};
 ghost use mathlib.Core.Bool.{true, false};
 ghost use lib.ListN.{length};
@@ -131,7 +131,6 @@ fn step(
 // Whether the next call has all its words, or will get no more, and its line has room.
 fn ready(at: Cursor, count: usize, ended: bool, room: usize) -> bool
     requires { ⌜ (at .next ≤ count) × (at .used ≤ room) ⌝ }
-    ensures { λ r. ⌜ at .used + bit r * 96 ≤ room ⌝ }
     ensures { λ r. ⌜ r ≡ readyFor ended (count - at .next) (room - at .used) ⌝ }
 {
     (ended || ENOUGH <= count - at.next) && ROOM <= room - at.used

@@ -48,6 +48,7 @@ loop-again : tie.Need-loop-again Inv-loop μ-loop
 loop-again c =
     let s = c .before .before .before .before .before .before in
     let t = s .before .before .before .before .before .before in
+    let start = t .before .before .before .before .before .before in
     let inv = t .before .loop .inv in (
       search needs,
       search needs,
@@ -56,8 +57,9 @@ loop-again c =
       search needs,
       λ h.
           one-more _ _ _ _ _ _ _ _ _ _ _ _ _ _ h (t .loop-test .taken)
-          (room-for-one _ _ _ (s .before .before .before .before .if1 .taken)
-          (s .before .before .before .before .before .ready .ensures .0))
+          (room-for-one _ _ (start .args .tail .ended) (length (start .args .words .now) - t .before .loop .at .next) _
+          (s .before .before .before .before .if1 .taken)
+          (s .before .before .before .before .before .ready .ensures) (search needs))
           (inv .2) (s .step .ensures .0) (s .step .ensures .1 .0) (s .step .ensures .1 .1 .1) (inv .5 h),
     )
 
@@ -73,7 +75,8 @@ same-length-3 c = search needs
 returns : tie.Need-returns Inv-loop μ-loop
 returns c =
     let now = c .before .before .before .loop .inv .5 in
-    (search needs, (counts _ _ (search needs), (now, λ g. told-no _ _ (c .before .ready .ensures .1) (c .if1 .left))))
+    let told = c .before .ready in
+    (search needs, (counts _ _ (search needs), (now, λ g. told-no (told .result) _ (told .ensures) (c .if1 .left))))
 
 same-length-4 : tie.Need-same-length-4 Inv-loop μ-loop
 same-length-4 c = search needs

@@ -6,7 +6,7 @@ use mathlib.Core.Bool.{_||_}
 use mathlib.Core.Logic.{inl, inr}
 use lib.Dec.{leb}
 use borrow.Author.Needs.{needs}
-use Rattle.trace.proofs.Listing.{has-room, has-none, by-end, by-words, by-room, by-neither}
+use Rattle.trace.proofs.Listing.{by-end, by-words, by-room, by-neither}
 use Rattle.trace.proofs.lines.ready.Statement.{statement}
 use Rattle.trace.proofs.lines.ready.Tie as tie
 
@@ -27,12 +27,10 @@ sub-result : tie.Need-sub-result
 sub-result c = search needs
 
 returns : tie.Need-returns
-returns c =
-    (has-room _ _ (c .before .before .before .pre .1), by-room _ _ _ (c .before .if2 .taken) (words-come (c .before .before)))
+returns c = by-room _ _ _ (c .before .if2 .taken) (words-come (c .before .before))
 
 returns-2 : tie.Need-returns-2
-returns-2 c =
-    (has-none _ _ _ (c .if2 .left) (c .before .before .pre .1), by-neither _ _ _ (c .if2 .left) (words-come (c .before)))
+returns-2 c = by-neither _ _ _ (c .if2 .left) (words-come (c .before))
 
 pub ready-spec : {M : Type 1} → statement M
 ready-spec = tie.close (tie.spec sub-if2 sub-result returns returns-2)
