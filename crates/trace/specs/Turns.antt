@@ -22,6 +22,6 @@ lastCode (Refused code at) odd = code
 lastCode Ended odd = oddCode odd
 lastCode (Found c next) odd = 0
 
--- With so many words and so much room left: whether the next call has all its words, or gets no more, and its line fits.
+-- With so many words and so much room left: the next call has all its words, or gets no more, and its line fits.
 abbrev pub readyFor : Bool → ℕ → ℕ → Bool
 readyFor ended words room = (ended || leb 3 words) && leb 96 room

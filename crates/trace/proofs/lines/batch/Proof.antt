@@ -5,7 +5,7 @@ use Prim.Native.Nat.{_+_, _-_, _^_, _≤_, _<_}
 use mathlib.Core.Path.{_≡_, refl}
 use lib.ListN.{length}
 use borrow.Author.Needs.{needs}
-use Rattle.trace.specs.Turns.{bit}
+use Rattle.trace.specs.Turns.{bit, readyFor}
 use Rattle.trace.specs.Lines.{Listed}
 use Rattle.trace.proofs.Reading.{fewer, counts}
 use Rattle.trace.proofs.Listing.{not-both, told-no, none-listed, room-for-one, one-more}
@@ -74,9 +74,17 @@ same-length-3 c = search needs
 
 returns : tie.Need-returns Inv-loop μ-loop
 returns c =
-    let now = c .before .before .before .loop .inv .5 in
     let told = c .before .ready in
-    (search needs, (counts _ _ (search needs), (now, λ g. told-no (told .result) _ (told .ensures) (c .if1 .left))))
+    let l = c .before .before .before in
+    let a = l .before .before .before .before .before .args in
+    let ready =
+    readyFor (a .tail .ended) (length (a .words .now) - l .loop .at .next) (length (l .loop .out) - l .loop .at .used) in (
+      search needs,
+      (
+        counts _ _ (search needs),
+        (l .loop .inv .5, λ g. told-no (told .result) ready (told .ensures) (c .if1 .left)),
+      ),
+    )
 
 same-length-4 : tie.Need-same-length-4 Inv-loop μ-loop
 same-length-4 c = search needs
