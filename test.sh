@@ -12,7 +12,7 @@ need() {
     fi
 }
 need rt "the Rattle kit (rattle-kit-5b or newer)"
-need cargo "Rust (1.75 or newer)"
+need cargo "Rust (1.78 or newer)"
 need cc "a C compiler"
 
 passed=0
@@ -37,6 +37,7 @@ CARGO_TARGET_DIR="$PWD/target/second" cargo test --offline --quiet --manifest-pa
 counted rt ci
 counted sh tests/journals.sh target/bin/trace
 counted sh tests/c.sh
+export NAZSOMBET_BUILT=1
 counted sh tests/damaged.sh
 counted sh tests/compare.sh --seed 1
 echo "$passed passed, $failed failed"
