@@ -1,11 +1,12 @@
 -- Each arm asks no more than its call gives, and does what the machine does for that call.
 -- Assumes nothing.
-use Prim.Native.Nat.{ℕ, _≤_, _<_, _^_, _-_}
+use Prim.Native.Nat.{ℕ, zero, suc, _≤_, _<_, _^_, _-_}
 use mathlib.Core.Path.{_≡_, refl, sym, _∙_, ap, subst}
-use mathlib.Core.Bool.{Bool, true, false}
+use mathlib.Core.Bool.{Bool, true, false, _&&_}
 use mathlib.Core.Option.{Option, none, some}
 use mathlib.Core.List.{List}
 use native.Mathlib.Omega.{arith}
+use lib.Dec.{eqb, leb}
 use borrow.Author.Tests.{leb-true}
 use Rattle.machine.specs.declared.Answer.{Answer}
 use Rattle.machine.specs.declared.Call.{Call}
@@ -18,112 +19,141 @@ use Rattle.machine.specs.Aborts.{delete, abort}
 use Rattle.machine.specs.Machine.{createThread, destroyThread, setPriority, createEndpoint, interrupt, tick, send}
 use Rattle.machine.specs.Machine.{receive, yield, wait, byCaller, perform, performIf, step}
 use Rattle.machine.specs.Sound.{Sound}
+use Rattle.machine.proofs.Lists.{clash}
 use Rattle.layout.specs.Words.{linkOf}
 use Rattle.layout.specs.Shows.{Shows}
+use Rattle.layout.proofs.Tests as Test
+use Rattle.layout.proofs.Tests.{tells-and, tells-eqb, tells-leb}
 use Rattle.store.specs.Steps.{Shown, Tells}
 use Rattle.store.specs.Store.{Any}
 use Rattle.store.specs.Readings.{runningIn}
 use Rattle.results.specs.Results.{Asked, Calling, Performs}
 use Rattle.results.proofs.Ends.{refused, performs-as, performs-for, shown-for}
-use Rattle.kernel.specs.Steps.{Ranged, Hosted, stepping}
+use Rattle.kernel.specs.Steps.{Ranged, Served, stepping}
 use Rattle.kernel.proofs.Ranges.{thread-priority, endpoint-badge-message, endpoint-allowance}
 use Rattle.kernel.proofs.Ranges.{endpoint-allowance-badge}
 
--- An arm for call c: N is what it asks of the numbers, f what it does in the states of which P holds.
-pub record Arm (c : Call) (P : State → Type 0) (N : Type 0) (f : State → Result) : Type 0 where
+-- An arm for call c, which anybody makes: N is what it asks of the numbers, f what it does.
+pub record Arm (c : Call) (N : Type 0) (f : State → Result) : Type 0 where
   pub asks : Ranged c → N
-  pub is : (s : State) → P s → f s ≡ perform c s
+  pub is : (s : State) → f s ≡ perform c s
 
-module _ {m : List ℕ} {c d : Call} {N : Type 0} {f : State → Result} (e : c ≡ d) where
-  pub host-asked : Arm d (Hosted d) N f → Shown m (Hosted c) → Shown m (Asked N)
-  host-asked A S =
-      shown-for S (λ s h. record { sound = h .sound; numbers = A .asks (subst (λ x. Ranged x) e (h .numbers)) })
+-- An arm for call c, which the running thread t makes.
+pub record OwnArm (t : ℕ) (c : Call) (N : Type 0) (f : State → Result) : Type 0 where
+  pub own : 7 ≤ numberOf c
+  pub asks : Ranged c → N
+  pub is : (s : State) → s .runs ≡ some t → f s ≡ perform c s
+
+positive : (l : ℕ) → (l ≡ 0 → ⊥) → 1 ≤ l
+positive zero h = absurd (h refl)
+positive (suc l) h = omega arith
+
+-- The thread of a link runs, none for 0.
+no-link : (r : Option ℕ) (link : ℕ) → link ≡ linkOf r → link ≡ 0 → r ≡ none
+no-link none link i z = refl
+no-link (some u) link i z = absurd (omega arith)
+
+link-runs : (r : Option ℕ) (link : ℕ) → link ≡ linkOf r → 1 ≤ link → r ≡ some (link - 1)
+link-runs none link i h = absurd (omega arith)
+link-runs (some u) link i h = let j : u ≡ link - 1 = omega arith in ap some j
+
+module _ {link : ℕ} {c d : Call} {N : Type 0} {f : State → Result} (e : c ≡ d) where
+  asked : Arm d N f → (s : State) → Served link c s → Asked N s
+  asked A s h = record { sound = h .sound; numbers = A .asks (subst (λ x. Ranged x) e (h .numbers)) }
+
+  pub host-asked : {m : List ℕ} → Arm d N f → Shown m (Served link c) → Shown m (Asked N)
+  host-asked A S = shown-for S (asked A)
 
   pub host-done :
-      {n : List ℕ} {a : Answer} → Arm d (Hosted d) N f → Performs m n a (Asked N) f
-      → Performs m n a (Hosted c) (perform c)
-  host-done {n} {a} A F =
-      subst (λ x. Performs m n a (Hosted x) (perform x)) (sym e)
-      (performs-as (performs-for F (λ s M h. record { sound = h .sound; numbers = A .asks (h .numbers) }))
-      (λ s M h. A .is s h))
+      {m n : List ℕ} {a : Answer} → Arm d N f → Performs m n a (Asked N) f
+      → Performs m n a (Served link c) (perform c)
+  host-done A F =
+      performs-as (performs-for F (λ s M h. asked A s h)) (λ s M h. A .is s ∙ ap (λ x. perform x s) (sym e))
+
+  runs : OwnArm (link - 1) d N f → (s : State) → Served link c s → s .runs ≡ some (link - 1)
+  runs A s h =
+      link-runs (s .runs) link (h .runner) (h .made (subst (λ x. 7 ≤ numberOf x) (sym e) (A .own)))
+
+  calling : OwnArm (link - 1) d N f → (s : State) → Served link c s → Calling (link - 1) N s
+  calling A s h =
+      record {
+        sound = h .sound;
+        runs = runs A s h;
+        numbers = A .asks (subst (λ x. Ranged x) e (h .numbers));
+      }
+
+  pub somebody : {m : List ℕ} → OwnArm (link - 1) d N f → Shown m (Served link c) → 1 ≤ link
+  somebody A S = S .holds .made (subst (λ x. 7 ≤ numberOf x) (sym e) (A .own))
 
   pub thread-asked :
-      {t : ℕ} → Arm d (Calling t (Ranged d)) N f → Shown m (Calling t (Ranged c)) → Shown m (Calling t N)
-  thread-asked A S =
-      shown-for S
-      (λ s h. record {
-        sound = h .sound;
-        runs = h .runs;
-        numbers = A .asks (subst (λ x. Ranged x) e (h .numbers));
-      })
+      {m : List ℕ} → OwnArm (link - 1) d N f → Shown m (Served link c) → Shown m (Calling (link - 1) N)
+  thread-asked A S = shown-for S (calling A)
 
   pub thread-done :
-      {t : ℕ} {n : List ℕ} {a : Answer} → Arm d (Calling t (Ranged d)) N f → Performs m n a (Calling t N) f
-      → Performs m n a (Calling t (Ranged c)) (perform c)
-  thread-done {t} {n} {a} A F =
-      subst (λ x. Performs m n a (Calling t (Ranged x)) (perform x)) (sym e)
-      (performs-as
-      (performs-for F (λ s M h. record { sound = h .sound; runs = h .runs; numbers = A .asks (h .numbers) }))
-      (λ s M h. A .is s h))
+      {m n : List ℕ} {a : Answer} → OwnArm (link - 1) d N f → Performs m n a (Calling (link - 1) N) f
+      → Performs m n a (Served link c) (perform c)
+  thread-done A F =
+      performs-as (performs-for F (λ s M h. calling A s h))
+      (λ s M h. A .is s (runs A s h) ∙ ap (λ x. perform x s) (sym e))
 
 -- The host's calls.
 
 pub create-arm :
-    (t p : ℕ) → Arm (CreateThread t p) (Hosted (CreateThread t p)) ((t ≤ 255) × (p ≤ 255)) (createThread t p)
+    (t p : ℕ) → Arm (CreateThread t p) ((t ≤ 255) × (p ≤ 255)) (createThread t p)
 unfolding perform
-create-arm t p = record { asks = λ h. thread-priority h; is = λ s h. refl }
+create-arm t p = record { asks = λ h. thread-priority h; is = λ s. refl }
 
-pub destroy-arm : (t : ℕ) → Arm (DestroyThread t) (Hosted (DestroyThread t)) (t ≤ 255) (destroyThread t)
+pub destroy-arm : (t : ℕ) → Arm (DestroyThread t) (t ≤ 255) (destroyThread t)
 unfolding perform
-destroy-arm t = record { asks = λ h. leb-true t 255 h; is = λ s h. refl }
+destroy-arm t = record { asks = λ h. leb-true t 255 h; is = λ s. refl }
 
 pub priority-arm :
-    (t p : ℕ) → Arm (SetPriority t p) (Hosted (SetPriority t p)) ((t ≤ 255) × (p ≤ 255)) (setPriority t p)
+    (t p : ℕ) → Arm (SetPriority t p) ((t ≤ 255) × (p ≤ 255)) (setPriority t p)
 unfolding perform
-priority-arm t p = record { asks = λ h. thread-priority h; is = λ s h. refl }
+priority-arm t p = record { asks = λ h. thread-priority h; is = λ s. refl }
 
-pub endpoint-arm : (e : ℕ) → Arm (CreateEndpoint e) (Hosted (CreateEndpoint e)) (e ≤ 63) (createEndpoint e)
+pub endpoint-arm : (e : ℕ) → Arm (CreateEndpoint e) (e ≤ 63) (createEndpoint e)
 unfolding perform
-endpoint-arm e = record { asks = λ h. leb-true e 63 h; is = λ s h. refl }
+endpoint-arm e = record { asks = λ h. leb-true e 63 h; is = λ s. refl }
 
-pub interrupt-arm : (l : ℕ) → Arm (Interrupt l) (Hosted (Interrupt l)) (l ≤ 31) (interrupt l)
+pub interrupt-arm : (l : ℕ) → Arm (Interrupt l) (l ≤ 31) (interrupt l)
 unfolding perform
-interrupt-arm l = record { asks = λ h. leb-true l 31 h; is = λ s h. refl }
+interrupt-arm l = record { asks = λ h. leb-true l 31 h; is = λ s. refl }
 
-pub tick-arm : Arm Tick (Hosted Tick) (Unit {0}) tick
+pub tick-arm : Arm Tick (Unit {0}) tick
 unfolding perform
-tick-arm = record { asks = λ h. tt; is = λ s h. refl }
+tick-arm = record { asks = λ h. tt; is = λ s. refl }
 
 -- The running thread's.
 
 module _ (t : ℕ) where
   pub send-arm :
-      (e b x : ℕ) → Arm (Send e b x) (Calling t (Ranged (Send e b x))) ((e ≤ 63) × (b < 2 ^ 28) × (x < 2 ^ 28))
+      (e b x : ℕ) → OwnArm t (Send e b x) ((e ≤ 63) × (b < 2 ^ 28) × (x < 2 ^ 28))
       (send t e b x)
   unfolding perform
-  send-arm e b x = record { asks = λ h. endpoint-badge-message h; is = λ s h. rw (h .runs) }
+  send-arm e b x = record { own = omega arith; asks = λ h. endpoint-badge-message h; is = λ s h. rw h }
 
-  pub receive-arm : (e : ℕ) → Arm (Receive e) (Calling t (Ranged (Receive e))) (e ≤ 63) (receive t e)
+  pub receive-arm : (e : ℕ) → OwnArm t (Receive e) (e ≤ 63) (receive t e)
   unfolding perform
-  receive-arm e = record { asks = λ h. leb-true e 63 h; is = λ s h. rw (h .runs) }
+  receive-arm e = record { own = omega arith; asks = λ h. leb-true e 63 h; is = λ s h. rw h }
 
-  pub yield-arm : Arm Yield (Calling t (Ranged Yield)) (Unit {0}) (yield t)
+  pub yield-arm : OwnArm t Yield (Unit {0}) (yield t)
   unfolding perform
-  yield-arm = record { asks = λ h. tt; is = λ s h. rw (h .runs) }
+  yield-arm = record { own = omega arith; asks = λ h. tt; is = λ s h. rw h }
 
-  pub wait-arm : (l : ℕ) → Arm (Wait l) (Calling t (Ranged (Wait l))) (l ≤ 31) (wait t l)
+  pub wait-arm : (l : ℕ) → OwnArm t (Wait l) (l ≤ 31) (wait t l)
   unfolding perform
-  wait-arm l = record { asks = λ h. leb-true l 31 h; is = λ s h. rw (h .runs) }
+  wait-arm l = record { own = omega arith; asks = λ h. leb-true l 31 h; is = λ s h. rw h }
 
-  pub delete-arm : (e a : ℕ) → Arm (Delete e a) (Calling t (Ranged (Delete e a))) (e ≤ 63) (delete t e a)
+  pub delete-arm : (e a : ℕ) → OwnArm t (Delete e a) (e ≤ 63) (delete t e a)
   unfolding perform
-  delete-arm e a = record { asks = λ h. endpoint-allowance e a h; is = λ s h. rw (h .runs) }
+  delete-arm e a = record { own = omega arith; asks = λ h. endpoint-allowance e a h; is = λ s h. rw h }
 
   pub abort-arm :
-      (e a b : ℕ) → Arm (Abort e a b) (Calling t (Ranged (Abort e a b)))
+      (e a b : ℕ) → OwnArm t (Abort e a b)
       ((e ≤ 63) × (a ≤ 65535) × (b < 2 ^ 28)) (abort t e a b)
   unfolding perform
-  abort-arm e a b = record { asks = λ h. endpoint-allowance-badge e a b h; is = λ s h. rw (h .runs) }
+  abort-arm e a b = record { own = omega arith; asks = λ h. endpoint-allowance-badge e a b h; is = λ s h. rw h }
 
 -- A call of 7 to 12 with nobody running.
 idle-refused : (c : Call) (s : State) → 7 ≤ numberOf c → s .runs ≡ none → refuse 20 s ≡ perform c s
@@ -141,56 +171,39 @@ idle-refused (Wait l) s h r = rw r
 idle-refused (Delete e a) s h r = rw r
 idle-refused (Abort e a b) s h r = rw r
 
-pub nobody-calls :
-    {m : List ℕ} {c : Call} {a : Answer} → 7 ≤ numberOf c → a ≡ plain 20 → Performs m m a (Hosted c) (perform c)
-nobody-calls {c = c} h e = performs-as (refused 20 e) (λ s M k. idle-refused c s h (k .idle h))
+-- Whether somebody runs, and whose call it is.
+module _ {m : List ℕ} {link number : ℕ} (c : Call) (R : Tells m Any link runningIn) (K : number ≡ numberOf c) where
+  unmade : Test.Tells (eqb link 0 && leb 7 number) ((link ≡ 0) × (7 ≤ number))
+  unmade = tells-and (tells-eqb link 0) (tells-leb 7 number)
 
--- A call of the host while thread t runs.
-module _ (m : List ℕ) (t : ℕ) (c : Call) (h : numberOf c ≤ 6) where
-  early-hosted : (s : State) → Calling t (Ranged c) s → Hosted c s
-  early-hosted s k = record { sound = k .sound; numbers = k .numbers; idle = λ g. absurd (omega arith) }
+  pub nobody-calls :
+      {a : Answer} → eqb link 0 && leb 7 number ≡ true → a ≡ plain 20
+      → Performs m m a (Asked (Ranged c)) (perform c)
+  nobody-calls h e =
+      let both = unmade .holds h in
+      performs-as (refused 20 e)
+      (λ s M k. idle-refused c s (subst (λ x. 7 ≤ x) K (both .1))
+      (no-link (s .runs) link (R .tells s M tt) (both .0)))
 
-  pub hosted-asked : Shown m (Calling t (Ranged c)) → Shown m (Hosted c)
-  hosted-asked S = shown-for S early-hosted
+  served :
+      eqb link 0 && leb 7 number ≡ false → (s : State) → Shows m s → Asked (Ranged c) s → Served link c s
+  served h s M k =
+      record {
+        sound = k .sound;
+        numbers = k .numbers;
+        runner = R .tells s M tt;
+        made = λ g. positive link (λ i. clash (unmade .back (i, subst (λ x. 7 ≤ x) (sym K) g)) h);
+      }
 
-  pub hosted-done :
-      {n : List ℕ} {a : Answer} → Performs m n a (Hosted c) (perform c)
-      → Performs m n a (Calling t (Ranged c)) (perform c)
-  hosted-done F = performs-for F (λ s M k. early-hosted s k)
+  pub served-asked :
+      eqb link 0 && leb 7 number ≡ false → Shown m (Asked (Ranged c)) → Shown m (Served link c)
+  served-asked h S =
+      record { state = S .state; shows = S .shows; holds = served h (S .state) (S .shows) (S .holds) }
 
--- Whether somebody runs decides who makes the call.
-module _ {m : List ℕ} {link : ℕ} (c : Call) (R : Tells m Any link runningIn) where
-  idle-hosted : link ≡ 0 → (s : State) → Shows m s → Asked (Ranged c) s → Hosted c s
-  idle-hosted z s M k = record { sound = k .sound; numbers = k .numbers; idle = λ g. go (s .runs) (R .tells s M tt) }
-    where
-      go : (r : Option ℕ) → link ≡ linkOf r → r ≡ none
-      go none i = refl
-      go (some u) i = absurd (omega arith)
-
-  runner-calls : (link ≡ 0 → ⊥) → (s : State) → Shows m s → Asked (Ranged c) s → Calling (link - 1) (Ranged c) s
-  runner-calls z s M k = record { sound = k .sound; runs = go (s .runs) (R .tells s M tt); numbers = k .numbers }
-    where
-      go : (r : Option ℕ) → link ≡ linkOf r → r ≡ some (link - 1)
-      go none i = absurd (z i)
-      go (some u) i = let j : u ≡ link - 1 = omega arith in ap some j
-
-  pub idle-asked : link ≡ 0 → Shown m (Asked (Ranged c)) → Shown m (Hosted c)
-  idle-asked z S =
-      record { state = S .state; shows = S .shows; holds = idle-hosted z (S .state) (S .shows) (S .holds) }
-
-  pub idle-done :
-      {n : List ℕ} {a : Answer} → link ≡ 0 → Performs m n a (Hosted c) (perform c)
-      → Performs m n a (Asked (Ranged c)) (perform c)
-  idle-done z F = performs-for F (idle-hosted z)
-
-  pub runner-asked : (link ≡ 0 → ⊥) → Shown m (Asked (Ranged c)) → Shown m (Calling (link - 1) (Ranged c))
-  runner-asked z S =
-      record { state = S .state; shows = S .shows; holds = runner-calls z (S .state) (S .shows) (S .holds) }
-
-  pub runner-done :
-      {n : List ℕ} {a : Answer} → (link ≡ 0 → ⊥) → Performs m n a (Calling (link - 1) (Ranged c)) (perform c)
-      → Performs m n a (Asked (Ranged c)) (perform c)
-  runner-done z F = performs-for F (runner-calls z)
+  pub served-done :
+      {n : List ℕ} {a : Answer} → eqb link 0 && leb 7 number ≡ false
+      → Performs m n a (Served link c) (perform c) → Performs m n a (Asked (Ranged c)) (perform c)
+  served-done h F = performs-for F (served h)
 
 -- The range is tried first.
 module _ {m : List ℕ} {b : Bool} (c : Call) (r : b ≡ inRange c) where

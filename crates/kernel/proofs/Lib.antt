@@ -1,6 +1,5 @@
 -- The lemmas of the core, in the order to read them; the theorem about lists of calls stands in Turns.
 pub mod Ranges
-pub mod Arms
 pub mod Cases
 pub mod Entry
 pub mod Runner

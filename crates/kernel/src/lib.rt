@@ -3,16 +3,16 @@ ghost use mathlib.Core.Path.{_≡_};
 ghost use Rattle.machine.specs.Machine.{perform};
 ghost use Rattle.machine.specs.Sound.{Sound};
 ghost use Rattle.store.specs.Steps.{Shown};
-ghost use Rattle.results.specs.Results.{Asked, Calling, Performs};
+ghost use Rattle.results.specs.Results.{Asked, Performs};
 ghost use Rattle.kernel.specs.Entry.{Called, called, runningLink};
-ghost use Rattle.kernel.specs.Steps.{Ranged, Hosted, stepping};
+ghost use Rattle.kernel.specs.Steps.{Ranged, Served, stepping};
 use machine::Answer;
 use machine::Call;
 
-// A call of the host; one that needs a running thread is refused by 20.
-fn by_host(tables: &mut [u32], c: Call) -> Answer
-    requires { ⌜ Shown (now tables) (Hosted c) ⌝ }
-    ensures { λ r. ⌜ Performs (now (tables .entry)) (now (tables .exit)) r (Hosted c) (perform c) ⌝ }
+// A call by its kind: 7 to 12 are made by the running thread, that of the link.
+fn carry_out(tables: &mut [u32], link: u32, c: Call) -> Answer
+    requires { ⌜ Shown (now tables) (Served link c) ⌝ }
+    ensures { λ r. ⌜ Performs (now (tables .entry)) (now (tables .exit)) r (Served link c) (perform c) ⌝ }
 {
     match c {
         Call::CreateThread { thread, priority } => {
@@ -25,47 +25,53 @@ fn by_host(tables: &mut [u32], c: Call) -> Answer
         Call::CreateEndpoint { endpoint } => transfers::create_endpoint(tables, endpoint as usize),
         Call::Interrupt { line } => transfers::interrupt(tables, line as usize),
         Call::Tick => threads::tick(tables),
-        _ => results::plain(20),
-    }
-}
-
-// A call while thread t runs.
-fn by_thread(tables: &mut [u32], t: usize, c: Call) -> Answer
-    requires { ⌜ Shown (now tables) (Calling t (Ranged c)) ⌝ }
-    ensures { λ r. ⌜ Performs (now (tables .entry)) (now (tables .exit)) r (Calling t (Ranged c)) (perform c) ⌝ }
-{
-    match c {
         Call::Send {
             endpoint,
             badge,
             message,
-        } => transfers::send(tables, t, endpoint as usize, badge, message),
-        Call::Receive { endpoint } => transfers::receive(tables, t, endpoint as usize),
-        Call::Yield => threads::yield_running(tables, t),
-        Call::Wait { line } => transfers::wait(tables, t, line as usize),
+        } => transfers::send(
+            tables,
+            (link - 1) as usize,
+            endpoint as usize,
+            badge,
+            message,
+        ),
+        Call::Receive { endpoint } => transfers::receive(
+            tables,
+            (link - 1) as usize,
+            endpoint as usize,
+        ),
+        Call::Yield => threads::yield_running(tables, (link - 1) as usize),
+        Call::Wait { line } => transfers::wait(tables, (link - 1) as usize, line as usize),
         Call::Delete {
             endpoint,
             allowance,
-        } => deletes::delete(tables, t, endpoint as usize, allowance),
+        } => deletes::delete(tables, (link - 1) as usize, endpoint as usize, allowance),
         Call::Abort {
             endpoint,
             allowance,
             badge,
-        } => aborts::abort(tables, t, endpoint as usize, allowance, badge),
-        _ => by_host(tables, c),
+        } => aborts::abort(
+            tables,
+            (link - 1) as usize,
+            endpoint as usize,
+            allowance,
+            badge,
+        ),
     }
 }
 
-// A call whose numbers are in range: the running thread makes 7 to 12.
+// A call whose numbers are in range; one that needs a running thread is refused by 20 where none runs.
 fn perform(tables: &mut [u32], c: Call) -> Answer
     requires { ⌜ Shown (now tables) (Asked (Ranged c)) ⌝ }
     ensures { λ r. ⌜ Performs (now (tables .entry)) (now (tables .exit)) r (Asked (Ranged c)) (perform c) ⌝ }
 {
     let link = store::running(tables);
-    if link == 0 {
-        return by_host(tables, c);
+    let number = machine::number(c);
+    if (link == 0) & (number >= 7) {
+        return results::plain(20);
     }
-    by_thread(tables, (link - 1) as usize, c)
+    carry_out(tables, link, c)
 }
 
 // The machine's step on tables that show a sound state.

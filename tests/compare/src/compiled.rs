@@ -52,7 +52,7 @@ impl Core for Compiled {
     }
 
     fn call(&mut self, call: &Call) -> [u32; 4] {
-        let Answer { code, count, badge, message } = self.0.call(numbers(call));
+        let Answer { code, count, badge, message } = self.0.call(&numbers(call));
         [code, count, badge, message]
     }
 

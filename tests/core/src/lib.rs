@@ -106,6 +106,7 @@ impl Core {
     }
 
     /// 0, 16 or 17.
+    #[inline]
     pub fn check(&mut self) -> u32 {
         // SAFETY: the pointers and lengths are those of two slices apart.
         unsafe {
@@ -118,7 +119,8 @@ impl Core {
         }
     }
 
-    pub fn call(&mut self, call: Numbers) -> Answer {
+    #[inline]
+    pub fn call(&mut self, call: &Numbers) -> Answer {
         let mut answer = Answer::default();
         // SAFETY: the slices, the call and the answer are apart, and `repr(C)` gives five words and four.
         let code = unsafe {
@@ -127,7 +129,7 @@ impl Core {
                 self.tables.len(),
                 self.scratch.as_mut_ptr(),
                 self.scratch.len(),
-                &call,
+                call,
                 &mut answer,
             )
         };

@@ -43,7 +43,7 @@ fn twelve_lines() {
         let written = Core::write(call);
         assert_eq!((written.code, written.count), (0, next - at));
         assert_eq!(written.words[..written.count], JOURNAL[at..next]);
-        let answer = core.call(call);
+        let answer = core.call(&call);
         let running = core.running().expect("nobody runs");
         assert_eq!(
             line,
@@ -70,7 +70,7 @@ fn lengths() {
             for call in [numbers(6, 0, 0, 0, 0), numbers(13, 0, 0, 0, 0), numbers(1, 256, 0, 0, 0)]
             {
                 if !fits {
-                    assert_eq!(core.call(call), refused(16));
+                    assert_eq!(core.call(&call), refused(16));
                     assert_eq!(core, lent);
                 }
             }
@@ -87,7 +87,7 @@ fn refusals_in_their_order() {
     let before = core.tables.clone();
     for (call, code) in [(no_call, 18), (out_of_range, 19), (nobody, 20)] {
         core.scratch.fill(7);
-        assert_eq!(core.call(call), refused(code));
+        assert_eq!(core.call(&call), refused(code));
         assert_eq!(core.tables, before);
         assert_eq!(core.scratch, vec![0; SCRATCH]);
     }
@@ -95,7 +95,7 @@ fn refusals_in_their_order() {
     let before = core.tables.clone();
     for call in [no_call, out_of_range, nobody] {
         core.scratch.fill(7);
-        assert_eq!(core.call(call), refused(17));
+        assert_eq!(core.call(&call), refused(17));
         assert_eq!(core.tables, before);
         assert_eq!(core.scratch, vec![0; SCRATCH]);
     }
@@ -125,12 +125,12 @@ fn unused_numbers() {
             n[part] = u32::MAX;
             let call = numbers(i as u32 + 1, n[0], n[1], n[2], n[3]);
             let code = if used[part] { 19 } else { 18 };
-            assert_eq!(core.call(call), refused(code), "{call:?}");
+            assert_eq!(core.call(&call), refused(code), "{call:?}");
             assert_eq!(Core::write(call), Written { code, count: 0, words: [0; 3] });
         }
     }
     for number in [0, 13, 16, u32::MAX] {
-        assert_eq!(core.call(numbers(number, 0, 0, 0, 0)), refused(18));
+        assert_eq!(core.call(&numbers(number, 0, 0, 0, 0)), refused(18));
         assert_eq!(Core::write(numbers(number, 0, 0, 0, 0)).code, 18);
     }
 }

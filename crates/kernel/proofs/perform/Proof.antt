@@ -1,5 +1,5 @@
--- Who runs decides who makes the call. Assumes nothing.
-use Rattle.kernel.proofs.Cases.{idle-asked, idle-done, runner-asked, runner-done}
+-- Who runs decides whether the call can be made. Assumes nothing.
+use Rattle.kernel.proofs.Cases.{nobody-calls, served-asked, served-done}
 use borrow.Author.Needs.{needs}
 use Rattle.kernel.proofs.perform.Statement.{statement}
 use Rattle.kernel.proofs.perform.Tie as tie
@@ -7,50 +7,46 @@ use Rattle.kernel.proofs.perform.Tie as tie
 running-requires : tie.Need-running-requires
 running-requires c κs = search needs
 
-by-host-requires : tie.Need-by-host-requires
-by-host-requires c κs =
-    idle-asked (c .before .before .before .before .before .args .c) (c .before .before .running .ensures)
-    (c .before .if1 .taken) (c .before .before .before .before .before .pre)
+number-requires : tie.Need-number-requires
+number-requires c κs = search needs
+
+plain-requires : tie.Need-plain-requires
+plain-requires c κs = search needs
 
 same-length : tie.Need-same-length
 same-length c = search needs
 
 returns : tie.Need-returns
 returns c =
-    idle-done (c .before .before .before .before .before .before .before .before .args .c)
-    (c .before .before .before .before .before .running .ensures)
-    (c .before .before .before .before .if1 .taken) (c .before .before .by-host .ensures)
+    let ran = c .before .before .before in
+    nobody-calls (ran .before .before .before .args .c) (ran .running .ensures) (c .before .before .number .ensures)
+    (c .before .if1 .taken) (c .plain .ensures)
 
-sub-by-thread : tie.Need-sub-by-thread
-sub-by-thread c = search needs
-
-cast-by-thread : tie.Need-cast-by-thread
-cast-by-thread c = search needs
-
-by-thread-requires : tie.Need-by-thread-requires
-by-thread-requires c κs =
-    runner-asked (c .before .before .before .before .before .args .c) (c .before .before .running .ensures)
-    (c .before .if1 .left) (c .before .before .before .before .before .pre)
+carry-out-requires : tie.Need-carry-out-requires
+carry-out-requires c κs =
+    let ran = c .before .before .before in
+    served-asked (ran .before .before .before .args .c) (ran .running .ensures) (c .before .before .number .ensures)
+    (c .before .if1 .left) (ran .before .before .before .pre)
 
 same-length-2 : tie.Need-same-length-2
 same-length-2 c = search needs
 
 returns-2 : tie.Need-returns-2
 returns-2 c =
-    runner-done (c .before .before .before .before .before .before .before .before .args .c)
-    (c .before .before .before .before .before .running .ensures)
-    (c .before .before .before .before .if1 .left) (c .before .before .by-thread .ensures)
+    let told = c .before .before .before .before in
+    let ran = told .before .before in
+    served-done (ran .before .before .before .args .c) (ran .running .ensures) (told .before .number .ensures)
+    (told .if1 .left) (c .before .before .carry-out .ensures)
 
 pub perform-spec : {M : Type 1} → statement M
 perform-spec =
     tie.close
     (tie.spec
     running-requires
-    by-host-requires
+    number-requires
+    plain-requires
     same-length
     returns
-    sub-by-thread
-    cast-by-thread
-    by-thread-requires
+    carry-out-requires
     same-length-2
     returns-2)

@@ -68,7 +68,7 @@ impl Bench {
             Work::Sum => seen(tables.iter().fold(0, |sum: u32, &word| sum.wrapping_add(word))),
             Work::Fresh => seen(self.core.fresh()),
             Work::Check => seen(self.core.check()),
-            Work::Call => seen(self.core.call(black_box(self.numbers))),
+            Work::Call => seen(self.core.call(black_box(&self.numbers))),
             Work::SecondCheck => seen(self.machine.sound()),
             Work::SecondCall => {
                 seen(self.machine.sound());
@@ -81,7 +81,7 @@ impl Bench {
     /// Both sides answer the scene's call, and as the scene wants it.
     pub fn agree(&mut self, scene: &Scene) {
         self.load(scene);
-        let (core, second) = (self.core.call(self.numbers), self.machine.call(&scene.call));
+        let (core, second) = (self.core.call(&self.numbers), self.machine.call(&scene.call));
         assert_eq!((core.code, core.count), (second.code, second.count), "{:?}", scene.call);
         assert_eq!(second.accepted(), scene.call.in_range(), "{:?}: {second:?}", scene.call);
     }
