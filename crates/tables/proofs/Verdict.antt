@@ -10,13 +10,13 @@ use Rattle.machine.specs.Lists.{pick}
 use Rattle.layout.proofs.Image.{image-fresh}
 use Rattle.layout.specs.Decode.{decode}
 use Rattle.layout.specs.Tables.{all, stateOf}
-use Rattle.tables.specs.Checks.{blockTest, levelTest, endpointTest, lineTest, summaryTest, runningTest}
-use Rattle.tables.specs.Checks.{unusedTest, placedTest, goodTest, metBelow}
+use Rattle.checks.specs.Checks.{blockTest, levelTest, endpointTest, lineTest, summaryTest, runningTest}
+use Rattle.checks.specs.Checks.{unusedTest, placedTest, goodTest, metBelow}
 use Rattle.tables.specs.Entries.{Freshened, Checked, freshened, checked, verdict, zeros}
-use Rattle.tables.specs.Marks.{marksOf}
-use Rattle.tables.proofs.Every.{and-false}
-use Rattle.tables.proofs.Good.{good-state}
-use Rattle.tables.proofs.Marking.{no-marks}
+use Rattle.walks.specs.Marks.{marksOf}
+use Rattle.checks.proofs.Every.{and-false}
+use Rattle.checks.proofs.Good.{good-state}
+use Rattle.walks.proofs.Marking.{no-marks}
 
 -- A cleared scratch marks those met before the first queue.
 pub no-met : (m : List ℕ) {s : List ℕ} → s ≡ replicate 256 0 → s ≡ marksOf (metBelow 0 m)

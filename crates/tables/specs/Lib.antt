@@ -1,4 +1,1 @@
-pub mod Checks
-pub mod Steps
-pub mod Marks
 pub mod Entries

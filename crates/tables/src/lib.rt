@@ -1,38 +1,29 @@
-// The entries on the lent tables: make them fresh, and check them. The check goes once through all words and accepts
-// exactly those that show a sound state.
+// The entries on the lent tables: make them fresh, and check them. The check makes the tests of scans and walks, which
+// go once through all words, and accepts exactly those that show a sound state.
 ghost use mathlib.Core.Path.{_≡_};
 ghost use lib.ListN.{length, replicate};
-ghost use Rattle.tables.specs.Checks.{goodTest};
+ghost use Rattle.checks.specs.Checks.{goodTest};
 ghost use Rattle.tables.specs.Entries.{Freshened, Checked, freshened, checked};
-
-mod chosen;
-mod endpoints;
-mod levels;
-mod marks;
-mod phases;
-mod places;
-mod rest;
-mod threads;
 
 // All tests. The queues are walked before the places are tried, which go by the marks.
 fn passes(tables: &[u32], scratch: &mut [u32]) -> bool
     requires { ⌜ (length (now tables) ≡ 4096) × (now scratch ≡ replicate 256 0) ⌝ }
     ensures { λ r. ⌜ r ≡ goodTest (now (tables .entry)) ⌝ }
 {
-    if !threads::threads(tables) {
+    if !scans::threads::threads(tables) {
         return false;
     }
-    if !levels::levels(tables, scratch) {
+    if !walks::levels::levels(tables, scratch) {
         return false;
     }
-    if !endpoints::endpoints(tables, scratch) {
+    if !walks::endpoints::endpoints(tables, scratch) {
         return false;
     }
-    let lines = rest::lines(tables);
-    let summary = chosen::summary(tables);
-    let running = chosen::running(tables);
-    let unused = rest::unused(tables);
-    lines & summary & running & unused & places::places(tables, scratch)
+    let lines = scans::rest::lines(tables);
+    let summary = scans::chosen::summary(tables);
+    let running = scans::chosen::running(tables);
+    let unused = scans::rest::unused(tables);
+    lines & summary & running & unused & walks::places::places(tables, scratch)
 }
 
 // The tables become those of no thread, endpoint or pending line.
@@ -43,7 +34,7 @@ pub fn fresh(tables: &mut [u32]) -> u32
     if tables.len() != 4096 {
         return 16;
     }
-    marks::clear(tables);
+    walks::marks::clear(tables);
     0
 }
 
@@ -58,9 +49,9 @@ pub fn check(tables: &[u32], scratch: &mut [u32]) -> u32
     if scratch.len() != 256 {
         return 16;
     }
-    marks::clear(scratch);
+    walks::marks::clear(scratch);
     let passed = passes(tables, scratch);
-    marks::clear(scratch);
+    walks::marks::clear(scratch);
     if passed {
         return 0;
     }

@@ -1,0 +1,14 @@
+pub mod Every
+pub mod Tests
+pub mod Walks
+pub mod Cursors
+pub mod Reading
+pub mod Blocks
+pub mod Ends
+pub mod Waiters
+pub mod Lines
+pub mod Placed
+pub mod Tried
+pub mod Shown
+pub mod Soundness
+pub mod Good

@@ -1,0 +1,18 @@
+-- The test of a thread's place, as the code takes it: by the values read. Assumes nothing.
+use Prim.Native.Nat.{ℕ, _+_}
+use mathlib.Core.Bool.{Bool, not, _&&_, _||_, Bool·beq}
+use mathlib.Core.List.{List}
+use mathlib.Core.Path.{_≡_}
+use native.Mathlib.Numerals.{add-one}
+use lib.Dec.{eqb, leb, ltb}
+use Rattle.layout.specs.Addresses.{place, running, at, next, prev, linkAt, word}
+use Rattle.checks.specs.Checks.{threadIn, metBelow, queuedTest, placedTest}
+use Rattle.walks.proofs.Aborting.{beq-same}
+
+pub placed-is :
+    (m : List ℕ) (t : ℕ) {b : Bool} {p r n v : ℕ} → b ≡ metBelow 320 m t → p ≡ threadIn m place t
+    → r ≡ word m (at running) → n ≡ word m (linkAt (next t)) → v ≡ word m (linkAt (prev t))
+    → (Bool·beq b ((eqb p 1 && not (eqb r (t + 1))) || (leb 2 p && ltb p 130)) && (b || (eqb n 0 && eqb v 0)))
+    ≡ placedTest m t
+unfolding placedTest queuedTest
+placed-is m t e f g h i = rw (beq-same, add-one, e, f, g, h, i)

@@ -1,0 +1,23 @@
+-- A thread of an endpoint's queue, by the words read. Assumes nothing.
+use borrow.Author.Needs.{needs}
+use Rattle.walks.proofs.endpoints.stands.Statement.{statement}
+use Rattle.walks.proofs.endpoints.stands.Tie as tie
+
+prev-requires : tie.Need-prev-requires
+prev-requires c κs = search needs
+
+place-requires : tie.Need-place-requires
+place-requires c κs = search needs
+
+badge-requires : tie.Need-badge-requires
+badge-requires c κs = search needs
+
+allowed-requires : tie.Need-allowed-requires
+allowed-requires c κs = search needs
+
+returns : tie.Need-returns
+returns c = cc
+
+pub stands-spec : {M : Type 1} → statement M
+stands-spec =
+    tie.close (tie.spec prev-requires place-requires badge-requires allowed-requires returns)
