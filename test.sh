@@ -15,6 +15,9 @@ need rt "the Rattle kit (rattle-kit-5b or newer)"
 need cargo "Rust (1.78 or newer)"
 need cc "a C compiler"
 
+# Edits are tried in batches, and a batch waits for its slowest: three for each processor keep all at work.
+export RT_JOBS="${RT_JOBS:-$(($(nproc) * 3))}"
+
 passed=0
 failed=0
 log=$(mktemp)
