@@ -8,7 +8,7 @@ use native.Mathlib.Omega.{arith}
 use lib.ListN.{set}
 use Rattle.machine.specs.Lists.{without, Distinct}
 use Rattle.machine.specs.State.{State, Abort, Endpoint}
-use Rattle.machine.specs.Endpoints.{passing, ownerOf, pendingOf}
+use Rattle.machine.specs.Endpoints.{ownerOf, pendingOf}
 use Rattle.machine.proofs.Lists.{distinct-left, distinct-right}
 use Rattle.layout.specs.Addresses.{Part, status, aborting, aborted, owner, cursor, end, ofEndpoint, offset, at}
 use Rattle.layout.specs.Words.{statusCode, abortCode, badgeCode, linkOf, firstOf, lastOf, endpointWord, queuesOf}
