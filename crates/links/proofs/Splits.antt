@@ -44,10 +44,6 @@ pub first-zero : (l : List ℕ) → firstOf l ≡ 0 → l ≡ []
 first-zero [] e = refl
 first-zero (t ∷ l) e = absurd (omega arith)
 
-pub last-zero : (l : List ℕ) → lastOf 0 l ≡ 0 → l ≡ []
-last-zero [] e = refl
-last-zero (t ∷ l) e = absurd (omega (arith, last-mem t l .1))
-
 pub last-snoc : (x t : ℕ) (l : List ℕ) → lastOf x (l ++ (t ∷ [])) ≡ suc t
 last-snoc x t [] = refl
 last-snoc x t (u ∷ l) = last-snoc (suc u) t l
