@@ -37,7 +37,7 @@ abbrev Site : ℕ → List ℕ → List ℕ → (Part → ℕ) → Type 0
 Site e m n w = Row (siteRow e) (OffSite e) m n w
 
 -- A word for each part, where six are right.
-parts :
+pub parts :
     (w : Part → ℕ) (x : Endpoint) → w status ≡ statusCode (x .status) → w aborting ≡ abortCode (x .abort)
     → w aborted ≡ badgeCode (x .abort) → w owner ≡ linkOf (ownerOf (x .abort))
     → w cursor ≡ firstOf (pendingOf (x .abort)) → w end ≡ lastOf 0 (pendingOf (x .abort))
