@@ -37,12 +37,12 @@ module _ (threads : ℕ → Thread) (e : ℕ) (l : List ℕ) where
   no-waiter k = ap (senders threads) k ∙ only-nil (λ t. isSending (threads t .place))
 
 -- The first link is that of a waiter, if it is not 0.
-first-waits : (r : ℕ) (l : List ℕ) → (r ≡ 0 → ⊥) → r ≡ firstOf l → Mem (r - 1) l
+pub first-waits : (r : ℕ) (l : List ℕ) → (r ≡ 0 → ⊥) → r ≡ firstOf l → Mem (r - 1) l
 first-waits r [] z k = absurd (z k)
 first-waits r (u ∷ l) z k = inl (omega arith)
 
 module _ (e : ℕ) {m : List ℕ} {r : ℕ} (F : First m (256 + e) r) where
-  first-waiter : (s : State) → Shows m s → r ≡ firstOf (s .endpoints e .waiters)
+  pub first-waiter : (s : State) → Shows m s → r ≡ firstOf (s .endpoints e .waiters)
   first-waiter s M = F .first (queuesOf s) (M .links) ∙ ap firstOf (queues-endpoint s e)
 
   pub first-empty : r ≡ 0 → Tells m (Alike e) 0 (firstSender e)
@@ -53,10 +53,10 @@ module _ (e : ℕ) {m : List ℕ} {r : ℕ} (F : First m (256 + e) r) where
             sym (ap firstOf (no-waiter (s .threads) e l (first-zero l (sym (first-waiter s M) ∙ z))));
       }
 
-  waits : (s : State) → Shows m s → (r ≡ 0 → ⊥) → Mem (r - 1) (s .endpoints e .waiters)
+  pub waits : (s : State) → Shows m s → (r ≡ 0 → ⊥) → Mem (r - 1) (s .endpoints e .waiters)
   waits s M z = first-waits r (s .endpoints e .waiters) z (first-waiter s M)
 
-  small : (s : State) → Shows m s → e ≤ 63 → (r ≡ 0 → ⊥) → r - 1 ≤ 255
+  pub small : (s : State) → Shows m s → e ≤ 63 → (r ≡ 0 → ⊥) → r - 1 ≤ 255
   small s M h z = M .links .small (256 + e) (r - 1) (omega arith) (rw (queues-endpoint s e) (waits s M z))
 
   pub place-asked : (r ≡ 0 → ⊥) → Shown m (Alike e) → Shown m (IsThread (r - 1))

@@ -15,8 +15,8 @@ use Rattle.machine.proofs.Lists.{distinct-left, distinct-right, without-first}
 use Rattle.layout.specs.Words.{linkOf, firstOf, lastOf, badgeCode, queuesOf}
 use Rattle.layout.specs.Shows.{Shows}
 use Rattle.layout.proofs.Standing.{queues-endpoint}
+use Rattle.layout.proofs.Walks.{last-in}
 use Rattle.links.specs.Links.{Next}
-use Rattle.links.proofs.Splits.{last-mem}
 use Rattle.store.specs.Steps.{Does, Tells}
 use Rattle.store.specs.Store.{IsEndpoint, Aborts}
 use Rattle.store.specs.Readings.{endIn, abortedIn, ownerIn}
@@ -45,7 +45,7 @@ module _ {m : List ℕ} {w e : ℕ} (s : State) (M : Shows m s) (F : First w e s
 last-first : (w : ℕ) (l : List ℕ) → (Mem w l → ⊥) → lastOf (suc w) l ≡ w + 1 → l ≡ []
 last-first w [] d k = refl
 last-first w (x ∷ l) d k =
-    let h = last-mem x l in
+    let h = last-in x l in
     absurd (d (subst (λ (u : ℕ). Mem u (x ∷ l)) (let i : h .0 ≡ w = omega (arith, h .1) in i) (h .2)))
 
 last-further : (w : ℕ) (l : List ℕ) → (lastOf (suc w) l ≡ w + 1 → ⊥) → lastOf (suc w) l ≡ lastOf 0 l

@@ -9,13 +9,13 @@ use lib.ListN.{length}
 use Rattle.machine.specs.State.{State}
 use Rattle.machine.specs.Endpoints.{wakeFrom}
 use Rattle.machine.specs.Aborts.{Removal, oneMore, removeUpTo}
-use Rattle.layout.specs.Words.{firstOf, queuesOf}
+use Rattle.layout.specs.Words.{firstOf}
 use Rattle.layout.specs.Shows.{Shows}
-use Rattle.layout.proofs.Standing.{queues-endpoint}
 use Rattle.links.specs.Links.{First}
 use Rattle.links.proofs.Splits.{first-zero}
 use Rattle.store.specs.Steps.{Shown, Does}
 use Rattle.queues.specs.Queues.{Waits}
+use Rattle.debts.proofs.Beginning.{first-waiter}
 use Rattle.results.proofs.Conditions.{first-waits}
 use Rattle.deletes.specs.Deletes.{Closes, removal, Removes}
 use Rattle.deletes.proofs.Closing.{closes-woken}
@@ -52,19 +52,16 @@ more-count r = omega arith
 
 -- What the first link tells.
 module _ (e : ℕ) {m : List ℕ} {r : ℕ} (F : First m (256 + e) r) (s : State) (M : Shows m s) where
-  first-is : r ≡ firstOf (s .endpoints e .waiters)
-  first-is = F .first (queuesOf s) (M .links) ∙ ap firstOf (queues-endpoint s e)
-
   pub nobody : r ≡ 0 → s .endpoints e .waiters ≡ []
-  nobody z = first-zero (s .endpoints e .waiters) (sym first-is ∙ z)
+  nobody z = first-zero (s .endpoints e .waiters) (sym (first-waiter e F s M) ∙ z)
 
   pub somebody : (r ≡ 0 → ⊥) → (l : List ℕ) × (s .endpoints e .waiters ≡ (r - 1) ∷ l)
   somebody z = go (s .endpoints e .waiters) refl
     where
       go : (l : List ℕ) → s .endpoints e .waiters ≡ l → (l : List ℕ) × (s .endpoints e .waiters ≡ (r - 1) ∷ l)
-      go [] k = absurd (z (first-is ∙ ap firstOf k))
+      go [] k = absurd (z (first-waiter e F s M ∙ ap firstOf k))
       go (w ∷ l) k =
-          let i : r ≡ suc w = first-is ∙ ap firstOf k in
+          let i : r ≡ suc w = first-waiter e F s M ∙ ap firstOf k in
           let j : w ≡ r - 1 = omega arith in
           (l, k ∙ ap (λ (u : ℕ). u ∷ l) j)
 

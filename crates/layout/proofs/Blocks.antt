@@ -118,7 +118,7 @@ stored-back p o w h b = go (stores? p o)
 
 -- What is read is neat.
 
-debt-in-range : (d : Debt) → DebtSmall d → DebtInRange d
+pub debt-in-range : (d : Debt) → DebtSmall d → DebtInRange d
 debt-in-range nothing h = tt
 debt-in-range (owns e) h = tt
 debt-in-range (noted e b) h = h

@@ -29,7 +29,7 @@ pub record Neat (s : State) : Type 0 where
   pub line-small : (l t : ℕ) → s .lines l ≡ awaited t → t ≤ 255
 
 -- A list in which nobody stands is empty.
-nobody : (l : List ℕ) → ((t : ℕ) → Mem t l → ⊥) → l ≡ []
+pub nobody : (l : List ℕ) → ((t : ℕ) → Mem t l → ⊥) → l ≡ []
 nobody [] h = refl
 nobody (t ∷ l) h = absurd (h t (inl refl))
 

@@ -120,7 +120,7 @@ since-there t (u ∷ before) l n =
     rw (ne-eqb (suc u) (suc t) away) (since-there t before l (λ m. n (inr m)))
 
 -- The last of a list that is not empty stands in it.
-last-in : (t : ℕ) (l : List ℕ) → (u : ℕ) × (lastOf (suc t) l ≡ suc u) × Mem u (t ∷ l)
+pub last-in : (t : ℕ) (l : List ℕ) → (u : ℕ) × (lastOf (suc t) l ≡ suc u) × Mem u (t ∷ l)
 last-in t [] = (t, refl, inl refl)
 last-in t (u ∷ l) = let r = last-in u l in (r .0, r .1, inr (r .2))
 

@@ -9,10 +9,11 @@ use Rattle.machine.specs.Lists.{Mem, Distinct}
 use Rattle.layout.specs.Addresses.{Link, next, prev, head, tail, ValidLink, linkAt, word, afterAt, beforeAt}
 use Rattle.layout.specs.Words.{firstOf, lastOf}
 use Rattle.layout.specs.Shows.{Joined, Chain}
+use Rattle.layout.proofs.Walks.{last-in}
 use Rattle.links.proofs.Names.{afterLink, beforeLink, next-next, prev-prev, next-prev, prev-head, prev-tail}
 use Rattle.links.proofs.Names.{next-head, next-tail, next-after, prev-after, head-after, tail-after, next-before}
 use Rattle.links.proofs.Names.{prev-before, head-before, tail-before}
-use Rattle.links.proofs.Splits.{Outside, last-mem}
+use Rattle.links.proofs.Splits.{Outside}
 
 -- A chain whose words are the same.
 pub chain-frame :
@@ -79,7 +80,7 @@ module _ {m n : List ℕ} {q p w t : ℕ} (A : Around m n q p w t) where
       subst (λ (z : ℕ). Chain n q z s 0) (sym e) (f (subst (λ (z : ℕ). Chain m q z r 0) e c))
   prefix x (u ∷ a) r s h g y o e d k f c =
       let i = k u (inl refl) in
-      let v = last-mem u a in (
+      let v = last-in u a in (
         record {
           after = after-same x h g y (λ z. o (v .0) (z ∙ sym e ∙ v .1) (v .2)) ∙ c .0 .after;
           before = prevs u (i .0) (i .1) (i .2) ∙ c .0 .before;

@@ -2,7 +2,7 @@
 -- Assumes nothing.
 use Prim.Native.Nat.{ℕ, _≤_}
 use mathlib.Core.Path.{_≡_, refl, sym, subst}
-use mathlib.Core.Logic.{_⊎_, inl, inr, ⊎-elim}
+use mathlib.Core.Logic.{_⊎_, inl, inr}
 use mathlib.Core.List.{List, [], _∷_, _++_}
 use Rattle.machine.specs.Lists.{Mem, Distinct, put, without}
 use Rattle.machine.proofs.Lists.{put-all, mem-snoc, mem-without, distinct-snoc, distinct-without}
@@ -63,15 +63,3 @@ module _ {queues : ℕ → List ℕ} (q t : ℕ) (N : Neat queues) where
   free-leave h k =
       put-all (λ (r : ℕ) (x : List ℕ). r ≤ 319 → Mem t x → ⊥) queues q (without t (queues q))
       (λ _ n. mem-without t t (queues q) n .1 refl) (λ r d g n. d (N .apart r q t g h n k))
-
--- Another thread is as free as before.
-module _ (queues : ℕ → List ℕ) (q t u : ℕ) (free : Free queues u) where
-  pub still-free-join : (u ≡ t → ⊥) → Free (put queues q (queues q ++ (t ∷ []))) u
-  still-free-join d =
-      put-all (λ (r : ℕ) (x : List ℕ). r ≤ 319 → Mem u x → ⊥) queues q (queues q ++ (t ∷ []))
-      (λ h k. ⊎-elim (free q h) d (mem-snoc u t (queues q) k)) (λ r _. free r)
-
-  pub still-free-leave : Free (put queues q (without t (queues q))) u
-  still-free-leave =
-      put-all (λ (r : ℕ) (x : List ℕ). r ≤ 319 → Mem u x → ⊥) queues q (without t (queues q))
-      (λ h k. free q h (mem-without t u (queues q) k .0)) (λ r _. free r)

@@ -3,7 +3,7 @@
 use Prim.Native.Nat.{ℕ, suc, _≤_}
 use mathlib.Core.Path.{_≡_, sym, _∙_, ap, subst}
 use mathlib.Core.Logic.{inr}
-use mathlib.Core.List.{List, [], _∷_, _++_}
+use mathlib.Core.List.{List, _∷_, _++_}
 use Rattle.machine.proofs.Lists.{mem-left, mem-right}
 use Rattle.layout.specs.Addresses.{next, prev, head, tail, linkAt, word}
 use Rattle.layout.specs.Words.{firstOf, lastOf}
@@ -11,38 +11,17 @@ use Rattle.layout.specs.Shows.{Chain, Linked}
 use Rattle.layout.proofs.Chains.{chain-first, chain-last}
 use Rattle.words.specs.Access.{Address}
 use Rattle.links.specs.Links.{First, Next, Prev}
-use Rattle.links.proofs.Splits.{Of, of-small, first-of, last-of, first-zero, last-zero, last-snoc}
+use Rattle.links.proofs.Splits.{Of, of-small, first-of, last-of}
 use Rattle.links.proofs.Chains.{chain-joint, chain-behind}
 
 module _ {m : List ℕ} {queues : ℕ → List ℕ} (L : Linked m queues) (q : ℕ) (h : q ≤ 319) where
-  -- The first and the last of a queue: 0 exactly where the queue is empty.
+  -- The first and the last of a queue.
 
   pub head-word : word m (linkAt (head q)) ≡ firstOf (queues q)
   head-word = chain-first m q 0 (queues q) (L .chains q h)
 
   pub tail-word : word m (linkAt (tail q)) ≡ lastOf 0 (queues q)
   tail-word = chain-last m q 0 (queues q) (L .chains q h)
-
-  pub head-zero : word m (linkAt (head q)) ≡ 0 → queues q ≡ []
-  head-zero e = first-zero (queues q) (sym head-word ∙ e)
-
-  pub tail-zero : word m (linkAt (tail q)) ≡ 0 → queues q ≡ []
-  tail-zero e = last-zero (queues q) (sym tail-word ∙ e)
-
-  pub head-empty : queues q ≡ [] → word m (linkAt (head q)) ≡ 0
-  head-empty e = head-word ∙ ap firstOf e
-
-  pub tail-empty : queues q ≡ [] → word m (linkAt (tail q)) ≡ 0
-  tail-empty e = tail-word ∙ ap (lastOf 0) e
-
-  pub head-first : (t : ℕ) (l : List ℕ) → queues q ≡ t ∷ l → word m (linkAt (head q)) ≡ suc t
-  head-first t l e = head-word ∙ ap firstOf e
-
-  pub tail-last : (t : ℕ) (l : List ℕ) → queues q ≡ l ++ (t ∷ []) → word m (linkAt (tail q)) ≡ suc t
-  tail-last t l e = tail-word ∙ ap (lastOf 0) e ∙ last-snoc 0 t l
-
-  pub head-of : Of (queues q) (word m (linkAt (head q)))
-  head-of = subst (λ (x : ℕ). Of (queues q) x) (sym head-word) (first-of (queues q) (queues q) (λ _ k. k))
 
   pub tail-of : Of (queues q) (word m (linkAt (tail q)))
   tail-of = subst (λ (x : ℕ). Of (queues q) x) (sym tail-word) (last-of 0 (queues q) (queues q) tt (λ _ k. k))

@@ -33,20 +33,10 @@ pub last-of : (x : ℕ) (l k : List ℕ) → Of k x → ((t : ℕ) → Mem t l �
 last-of x [] k o s = o
 last-of x (t ∷ l) k o s = last-of (suc t) l k (s t (inl refl)) (λ u m. s u (inr m))
 
--- The last of a list that is not empty is one of its threads.
-pub last-mem : (t : ℕ) (l : List ℕ) → (u : ℕ) × (lastOf (suc t) l ≡ suc u) × Mem u (t ∷ l)
-last-mem t [] = (t, refl, inl refl)
-last-mem t (v ∷ l) = let h = last-mem v l in (h .0, h .1, inr (h .2))
-
--- An empty list is one whose first, or last, link is 0.
-
+-- An empty list is one whose first link is 0.
 pub first-zero : (l : List ℕ) → firstOf l ≡ 0 → l ≡ []
 first-zero [] e = refl
 first-zero (t ∷ l) e = absurd (omega arith)
-
-pub last-zero : (l : List ℕ) → lastOf 0 l ≡ 0 → l ≡ []
-last-zero [] e = refl
-last-zero (t ∷ l) e = absurd (omega (arith, last-mem t l .1))
 
 pub last-snoc : (x t : ℕ) (l : List ℕ) → lastOf x (l ++ (t ∷ [])) ≡ suc t
 last-snoc x t [] = refl

@@ -1,9 +1,8 @@
 -- Two lines of the listing, computed: an answer with a badge and a message, and a word that does not read.
 -- Assumes nothing.
-use Prim.Native.Nat.{ℕ}
 use mathlib.Core.Path.{_≡_, refl}
 use mathlib.Core.Option.{none, some}
-use mathlib.Core.List.{List, [], _∷_}
+use mathlib.Core.List.{[], _∷_}
 use Rattle.machine.specs.Results.{plain}
 use Rattle.listing.specs.Line.{lastDigits, decimal, spaced, answerText, runner, lineOf}
 

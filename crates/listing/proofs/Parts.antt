@@ -6,12 +6,11 @@ use mathlib.Core.Option.{Option, none, some}
 use mathlib.Core.List.{List, [], _∷_, _++_}
 use native.Mathlib.Omega.{arith}
 use native.Mathlib.Nat.{zero-add}
-use lib.Dec.{leb}
 use lib.ListN.{length, take, drop, length-append}
 use lib.Seq.{length-take-le, take-at}
 use borrow.Author.Tests.{le-leb, lt-leb}
 use Rattle.machine.specs.declared.Answer.{Answer}
-use Rattle.listing.specs.Line.{decimal, spaced, answerText, runner, lineOf, header}
+use Rattle.listing.specs.Line.{decimal, spaced, answerText, runner, lineOf}
 use Rattle.listing.specs.Buffer.{written, after, Counts, pasted, Wrote}
 use Rattle.listing.proofs.Digits.{length-below}
 use Rattle.listing.proofs.Texts.{wrote-then}

@@ -6,9 +6,9 @@ use mathlib.Core.Option.{Option, none, some}
 use mathlib.Core.List.{List, [], _∷_}
 use Rattle.machine.specs.declared.Answer.{Answer}
 use Rattle.machine.specs.declared.Call.{Call}
-use Rattle.machine.specs.declared.Call.the-variants.{CreateThread, DestroyThread, SetPriority, CreateEndpoint}
-use Rattle.machine.specs.declared.Call.the-variants.{Interrupt, Tick, Send, Receive, Yield, Wait, Delete, Abort}
-use Rattle.machine.specs.History.{History, Aborting, Ended, Delivery, AbortCall, Reported, historyOf}
+use Rattle.machine.specs.declared.Call.the-variants.{CreateThread, DestroyThread, CreateEndpoint}
+use Rattle.machine.specs.declared.Call.the-variants.{Interrupt, Send, Receive, Wait, Delete, Abort}
+use Rattle.machine.specs.History.{Aborting, Ended, Delivery, AbortCall, Reported, historyOf}
 use Rattle.machine.proofs.Computed.{computed}
 
 -- What a history is compared by.

@@ -73,15 +73,6 @@ sub-without t (x ∷ l) = go (eqb x t) (sub-without t l)
     go true p = skip p
     go false p = take p
 
-pub sub-only : (f : ℕ → Bool) (l : List ℕ) → Sub (only f l) l
-unfolding only
-sub-only f [] = empty
-sub-only f (x ∷ l) = go (f x) (sub-only f l)
-  where
-    go : (b : Bool) → Sub (only f l) l → Sub (pick b (x ∷ only f l) (only f l)) (x ∷ l)
-    go true p = take p
-    go false p = skip p
-
 -- only, again
 
 pub only-append : (f : ℕ → Bool) (k l : List ℕ) → only f (k ++ l) ≡ only f k ++ only f l

@@ -36,7 +36,7 @@ is-running : {t : ℕ} (r : Option ℕ) → isRunning t r ≡ true → r ≡ som
 is-running none e = absurd (clash e refl)
 is-running {t} (some u) e = ap some (eqb-true u t e)
 
-not-running : {t : ℕ} (r : Option ℕ) → isRunning t r ≡ false → r ≡ some t → ⊥
+pub not-running : {t : ℕ} (r : Option ℕ) → isRunning t r ≡ false → r ≡ some t → ⊥
 not-running none e h = none-some refl h
 not-running {t} (some u) e h = eqb-false u t e (some-one refl h)
 

@@ -20,13 +20,14 @@ use Rattle.summary.specs.declared.Level.the-variants.{At, Nothing}
 use Rattle.summary.specs.Levels.{highestIn, levelOf, IsSummary, Finds}
 use Rattle.layout.specs.Words.{linkOf, firstOf, queuesOf, occupiedIn}
 use Rattle.layout.specs.Shows.{Shows}
+use Rattle.layout.proofs.Standing.{queues-level}
 use Rattle.links.specs.Links.{First}
 use Rattle.store.specs.Steps.{Shown, Does, Tells}
 use Rattle.store.specs.Store.{IsThread, Any, Runs}
 use Rattle.store.specs.Readings.{priorityIn, runningIn}
 use Rattle.store.specs.Marks.{Loads}
 use Rattle.queues.specs.Queues.{Loose, StandsAt, Chooses, leaveLevel, highestLink}
-use Rattle.queues.proofs.Joining.{level-queue, shown-next}
+use Rattle.queues.proofs.Joining.{shown-next}
 
 -- The level that the summary finds is the machine's.
 
@@ -110,7 +111,7 @@ module _ {m : List ℕ} {r : ℕ} (T : Tells m Any r highestLink) where
                 small = small;
                 is = level-at s M;
                 whole = e;
-                linked = F .first (queuesOf s) (M .links) ∙ ap firstOf (level-queue s (r - 1) small ∙ e);
+                linked = F .first (queuesOf s) (M .links) ∙ ap firstOf (queues-level s (r - 1) small ∙ e);
               }
 
       pub head-stands : (s : State) → Shows m s → StandsAt (r - 1) (link - 1) s
@@ -140,7 +141,7 @@ module _ {m : List ℕ} {r : ℕ} (T : Tells m Any r highestLink) where
                 let t : link - 1 ≡ H .thread = omega (arith, H .linked) in
                 let q : p ≤ 319 = omega (arith, H .small) in
                 let d : Distinct (H .thread ∷ H .rest) =
-                rw (level-queue s p (H .small), H .whole) at (M .links .once p q) in
+                rw (queues-level s p (H .small), H .whole) at (M .links .once p q) in
                 let w : without (link - 1) (s .levels p) ≡ H .rest =
                 rw (t, H .whole) (without-first (H .thread) (H .rest) d) in
                 let e : dispatch s ≡ setRuns (some (H .thread)) (setLevel p (H .rest) s) =
@@ -195,7 +196,7 @@ module _ {m : List ℕ} {link : ℕ} (L : Tells m Any link runningIn) where
       go s M (some t) e = absurd (omega (arith, (rw e at (L .tells s M tt))))
 
   module _ (n : link ≡ 0 → ⊥) where
-    runner : (s : State) → Shows m s → s .runs ≡ some (link - 1)
+    pub runner : (s : State) → Shows m s → s .runs ≡ some (link - 1)
     runner s M = go (s .runs) refl
       where
         go : (x : Option ℕ) → s .runs ≡ x → s .runs ≡ some (link - 1)

@@ -6,9 +6,7 @@ use mathlib.Core.Bool.{true}
 use mathlib.Core.Option.{Option, none}
 use mathlib.Core.List.{List, [], _∷_, _++_}
 use native.Mathlib.Omega.{arith}
-use native.Mathlib.Nat.{add-sub-cancel-left}
 use lib.ListN.{length}
-use borrow.Author.Tests.{lt-ltb, le-ltb}
 use Rattle.machine.specs.Lists.{put}
 use Rattle.machine.specs.State.{State, Place, able, setRuns}
 use Rattle.machine.specs.Scheduling.{enqueue, standDown, wake, block, occupied}
@@ -16,6 +14,7 @@ use Rattle.machine.specs.Endpoints.{joinEndpoint}
 use Rattle.machine.proofs.Lists.{put-same}
 use Rattle.layout.specs.Words.{queuesOf}
 use Rattle.layout.specs.Shows.{Linked, Shows}
+use Rattle.layout.proofs.Standing.{queues-level, queues-endpoint}
 use Rattle.links.specs.Links.{Joinable, Joins}
 use Rattle.links.proofs.Neatness.{linked-neat}
 use Rattle.store.specs.Steps.{Shown, Does, Tells}
@@ -24,16 +23,6 @@ use Rattle.store.specs.Readings.{priorityIn}
 use Rattle.store.specs.Marks.{MarksIn}
 use Rattle.queues.specs.Queues.{Loose, Comes, Blocks}
 use Rattle.queues.proofs.Changed.{level-marked, waiters-linked}
-
--- The queue of a level and of an endpoint.
-
-pub level-queue : (s : State) (p : ℕ) → p ≤ 255 → queuesOf s p ≡ s .levels p
-unfolding queuesOf
-level-queue s p h = rw (lt-ltb p 256 (omega arith))
-
-pub endpoint-queue : (s : State) (e : ℕ) → queuesOf s (256 + e) ≡ s .endpoints e .waiters
-unfolding queuesOf
-endpoint-queue s e = rw (le-ltb (256 + e) 256 (omega arith), add-sub-cancel-left)
 
 -- One step after another.
 
@@ -86,7 +75,7 @@ module _ {m : List ℕ} {t p : ℕ} (R : Tells m (IsThread t) p (priorityIn t)) 
           let L : Linked n (put (queuesOf s) p (queuesOf s p ++ (t ∷ []))) =
           J .links (queuesOf s) (M .links) (linked-neat (M .links)) (h .free) in
           rw (← e)
-          (level-marked p (s .levels p ++ (t ∷ [])) k M (J .kept) (rw (level-queue s p k) at L) D
+          (level-marked p (s .levels p ++ (t ∷ [])) k M (J .kept) (rw (queues-level s p k) at L) D
           (filled (s .levels p)))
 
 -- A thread in no queue is in none after a step on its words.
@@ -167,4 +156,4 @@ module _ {m : List ℕ} {t e : ℕ} where
           let L : Linked n (put (queuesOf s) (256 + e) (queuesOf s (256 + e) ++ (t ∷ []))) =
           J .links (queuesOf s) (M .links) (linked-neat (M .links)) (h .free) in
           waiters-linked s e (s .endpoints e .waiters ++ (t ∷ [])) (h .endpoint) M (J .kept)
-          (rw (endpoint-queue s e) at L)
+          (rw (queues-endpoint s e) at L)

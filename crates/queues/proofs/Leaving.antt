@@ -12,6 +12,7 @@ use Rattle.machine.specs.Endpoints.{leaveEndpoint, wakeFrom}
 use Rattle.machine.proofs.Lists.{Same, same, other, same?, put-same, put-other}
 use Rattle.layout.specs.Words.{firstOf, queuesOf}
 use Rattle.layout.specs.Shows.{Linked, Shows}
+use Rattle.layout.proofs.Standing.{queues-level, queues-endpoint as endpoint-queue}
 use Rattle.links.specs.Links.{Leavable, Leaves, First}
 use Rattle.links.proofs.Neatness.{linked-neat, free-leave}
 use Rattle.links.proofs.Splits.{first-zero}
@@ -21,7 +22,7 @@ use Rattle.store.specs.Readings.{priorityIn}
 use Rattle.store.specs.Marks.{MarksIn}
 use Rattle.queues.specs.Queues.{Loose, Stands, StandsAt, Waits, leaveLevel, passingAt}
 use Rattle.queues.proofs.Changed.{queues-endpoint, level-marked, level-unmarked, waited, waiters-linked}
-use Rattle.queues.proofs.Joining.{level-queue, endpoint-queue, shown-next, and-then}
+use Rattle.queues.proofs.Joining.{shown-next, and-then}
 
 -- Leaving the queue of level p.
 
@@ -42,13 +43,13 @@ module _ {m : List ℕ} {p t : ℕ} where
         queues = queuesOf (S .state);
         linked = S .shows .links;
         neat = linked-neat (S .shows .links);
-        stands = rw (level-queue (S .state) p (S .holds .level)) (S .holds .stands);
+        stands = rw (queues-level (S .state) p (S .holds .level)) (S .holds .stands);
       }
 
   module _ {n : List ℕ} (U : Leaves m p t n) where
     unlinked : (s : State) → Shows m s → StandsAt p t s → Linked n (put (queuesOf s) p (without t (s .levels p)))
     unlinked s M h =
-        let e = level-queue s p (h .level) in
+        let e = queues-level s p (h .level) in
         rw e at (U .links (queuesOf s) (M .links) (linked-neat (M .links)) (rw e (h .stands)))
 
     first-left :

@@ -7,34 +7,20 @@ use mathlib.Core.List.{List, [], _∷_, _++_, append-assoc}
 use native.Mathlib.Omega.{arith}
 use lib.ListN.{set}
 use Rattle.machine.specs.Lists.{without, Distinct}
-use Rattle.machine.specs.State.{State, Abort, Endpoint}
-use Rattle.machine.specs.Endpoints.{passing, ownerOf, pendingOf}
+use Rattle.machine.specs.State.{State, Abort}
 use Rattle.machine.proofs.Lists.{distinct-left, distinct-right}
-use Rattle.layout.specs.Addresses.{Part, status, aborting, aborted, owner, cursor, end, ofEndpoint, offset, at}
-use Rattle.layout.specs.Words.{statusCode, abortCode, badgeCode, linkOf, firstOf, lastOf, endpointWord, queuesOf}
+use Rattle.layout.specs.Addresses.{cursor, end, ofEndpoint, offset, at}
+use Rattle.layout.specs.Words.{firstOf, lastOf, queuesOf}
 use Rattle.layout.specs.Shows.{Shows}
+use Rattle.layout.proofs.Standing.{queues-endpoint}
 use Rattle.words.specs.Access.{Address}
 use Rattle.links.specs.Links.{Next, Prev}
 use Rattle.store.specs.Steps.{Does, Tells}
 use Rattle.store.specs.Store.{IsEndpoint}
 use Rattle.store.specs.Readings.{cursorIn, endIn}
-use Rattle.store.proofs.Sites.{site-shows, site-store, site-start}
+use Rattle.store.proofs.Sites.{parts, site-shows, site-store, site-start}
 use Rattle.queues.specs.Queues.{Waits, Looks, passingAt}
-use Rattle.queues.proofs.Joining.{endpoint-queue}
 use Rattle.queues.proofs.Passing.{pass-both, pass-cursor, pass-end, pass-neither}
-
--- A word for each part, where six are right.
-parts :
-    (w : Part → ℕ) (x : Endpoint) → w status ≡ statusCode (x .status) → w aborting ≡ abortCode (x .abort)
-    → w aborted ≡ badgeCode (x .abort) → w owner ≡ linkOf (ownerOf (x .abort))
-    → w cursor ≡ firstOf (pendingOf (x .abort)) → w end ≡ lastOf 0 (pendingOf (x .abort))
-    → (p : Part) → w p ≡ endpointWord x p
-parts w x a b c d e f status = a
-parts w x a b c d e f aborting = b
-parts w x a b c d e f aborted = c
-parts w x a b c d e f owner = d
-parts w x a b c d e f cursor = e
-parts w x a b c d e f end = f
 
 -- The two stores.
 pub looks :
@@ -62,7 +48,7 @@ module _ {m : List ℕ} {t e : ℕ} (s : State) (M : Shows m s) (h : Waits t e s
       let p = h .part a z in
       let d : Distinct (queuesOf s (256 + e)) = M .links .once (256 + e) (omega (arith, h .endpoint)) in
       distinct-left (a .pending) (p .1)
-      (distinct-right (p .0) (a .pending ++ p .1) (rw (endpoint-queue s e, p .2) at d))
+      (distinct-right (p .0) (a .pending ++ p .1) (rw (queues-endpoint s e, p .2) at d))
 
   -- The whole queue around a waiter that is to look at.
   around :
@@ -70,7 +56,7 @@ module _ {m : List ℕ} {t e : ℕ} (s : State) (M : Shows m s) (h : Waits t e s
       → queuesOf s (256 + e) ≡ (h .part a z .0 ++ x) ++ (t ∷ (y ++ h .part a z .1))
   around x y k =
       let p = h .part a z in
-      endpoint-queue s e ∙ p .2 ∙ ap (λ (l : List ℕ). p .0 ++ (l ++ p .1)) k ∙ simp append-assoc
+      queues-endpoint s e ∙ p .2 ∙ ap (λ (l : List ℕ). p .0 ++ (l ++ p .1)) k ∙ simp append-assoc
 
   behind-is : {r : ℕ} → Next m t r → (x y : List ℕ) → a .pending ≡ x ++ (t ∷ y) → r ≡ firstOf (y ++ h .part a z .1)
   behind-is N x y k =

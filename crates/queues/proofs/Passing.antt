@@ -8,7 +8,8 @@ use native.Mathlib.Omega.{arith}
 use Rattle.machine.specs.Lists.{Mem, Distinct, without}
 use Rattle.machine.proofs.Lists.{mem?, distinct-right, without-none}
 use Rattle.layout.specs.Words.{firstOf, lastOf}
-use Rattle.links.proofs.Splits.{of-mem, last-of, last-mem, last-snoc, split, without-split}
+use Rattle.layout.proofs.Walks.{last-in}
+use Rattle.links.proofs.Splits.{of-mem, last-of, last-snoc, split, without-split}
 
 -- The last of a list is that of its part from t on.
 last-append : (x : ℕ) (a : List ℕ) (t : ℕ) (b : List ℕ) → lastOf x (a ++ (t ∷ b)) ≡ lastOf (suc t) b
@@ -19,7 +20,7 @@ last-append x (u ∷ a) t b = last-append (suc u) a t b
 alone : (t : ℕ) (b : List ℕ) → Distinct (t ∷ b) → lastOf (suc t) b ≡ suc t → b ≡ []
 alone t [] d e = refl
 alone t (u ∷ b) d e =
-    let k = last-mem u b in
+    let k = last-in u b in
     let f : k .0 ≡ t = omega (arith, k .1) in
     absurd (d .0 (subst (λ (v : ℕ). Mem v (u ∷ b)) f (k .2)))
 

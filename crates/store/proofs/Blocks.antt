@@ -5,7 +5,7 @@ use mathlib.Core.Path.{_≡_, refl, sym, _∙_, ap}
 use mathlib.Core.List.{List}
 use lib.ListN.{set}
 use Rattle.machine.specs.Lists.{put}
-use Rattle.machine.specs.State.{State, Thread, Place, Debt, setThread, withPlace, withPriority, withTicks, withDebt}
+use Rattle.machine.specs.State.{State, Thread, setThread, withPlace, withPriority, withTicks, withDebt}
 use Rattle.machine.proofs.Lists.{Same, same, other, same?, put-same, put-other}
 use Rattle.layout.specs.Addresses.{Field, place, priority, ticks, outcome, badge, message, owes, note, Slot, ofThread}
 use Rattle.layout.specs.Addresses.{ofEndpoint, ofLine, summary, top, running, unused, ValidSlot, column, at, word}
@@ -14,7 +14,7 @@ use Rattle.layout.specs.Shows.{Shows}
 use Rattle.layout.proofs.Stores.{at-injective}
 use Rattle.words.specs.Access.{Address}
 use Rattle.store.specs.Steps.{Does}
-use Rattle.store.specs.Store.{IsThread, placing, prioritising, ticking, owing, Places, Owes}
+use Rattle.store.specs.Store.{IsThread, prioritising, ticking, Places, Owes}
 use Rattle.store.proofs.Rows.{Row, change, IsRow, row-store, row-start, row-shows}
 
 -- The slots that are not of thread t.

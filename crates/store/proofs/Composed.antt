@@ -1,7 +1,7 @@
 -- Steps one after the other: what a step leaves for the next to ask, and steps on one thread as one.
 -- Assumes nothing.
 use Prim.Native.Nat.{ℕ}
-use mathlib.Core.Path.{_≡_, refl, sym, _∙_, ap, subst}
+use mathlib.Core.Path.{_≡_, _∙_, ap, subst}
 use mathlib.Core.List.{List}
 use Rattle.machine.specs.Lists.{put}
 use Rattle.machine.specs.State.{State, Thread, Place, Debt, setThread, withPlace, withPriority, withTicks, withDebt}

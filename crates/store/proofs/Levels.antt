@@ -1,25 +1,24 @@
 -- The words of the summary: reading them one by one, storing the two that a mark changes, and what a mark does.
 -- Assumes nothing.
 use Prim.Native.Nat.{ℕ, _+_, _*_, _/_, _≤_, _<_}
-use mathlib.Core.Path.{_≡_, refl, sym, _∙_, ap}
+use mathlib.Core.Path.{_≡_, sym, _∙_, ap}
 use mathlib.Core.Bool.{Bool}
 use mathlib.Core.List.{List}
 use native.Mathlib.Omega.{arith}
 use lib.ListN.{length, getD, set, length-set}
 use lib.Seq.{getD-set-same, getD-set-other}
 use Rattle.machine.specs.Lists.{put}
-use Rattle.machine.specs.State.{State, setLevel}
-use Rattle.machine.specs.Scheduling.{occupied}
-use Rattle.machine.proofs.Lists.{Same, same, other, same?, put-same, put-other}
+use Rattle.machine.specs.State.{State}
+use Rattle.machine.proofs.Lists.{Same, same, other, same?, put-other}
 use Rattle.summary.specs.declared.Summary.{Summary}
-use Rattle.summary.specs.Levels.{wordOf, topOf, summaryOf, Marks}
+use Rattle.summary.specs.Levels.{wordOf, summaryOf, Marks}
 use Rattle.summary.proofs.Words.{words-at, words-are, summary-is, summary-words, summary-top, word-agree}
-use Rattle.layout.specs.Addresses.{Slot, ofThread, ofEndpoint, ofLine, summary, top, running, unused, ValidSlot, at}
+use Rattle.layout.specs.Addresses.{summary, top, at}
 use Rattle.layout.specs.Addresses.{word}
-use Rattle.layout.specs.Words.{occupiedIn, content, queuesOf}
-use Rattle.layout.specs.Shows.{Linked, Shows}
+use Rattle.layout.specs.Words.{occupiedIn}
+use Rattle.layout.specs.Shows.{Shows}
 use Rattle.words.specs.Access.{Address}
-use Rattle.store.specs.Marks.{SummaryWords, Loads, NoMark, Writes, MarksIn}
+use Rattle.store.specs.Marks.{SummaryWords, Loads, Writes, MarksIn}
 use Rattle.store.proofs.Words.{Stored, stored}
 
 -- The summary's words of a memory that shows a state are those of its occupied levels.
@@ -108,29 +107,3 @@ module _ (m n : List ℕ) (sm r : Summary) (p : ℕ) (x : Bool) (small : p < 256
         slots = W .slots;
         links = W .links;
       }
-
--- A level's queue changed and its mark set: with the links of the new queues the memory shows the new state.
-
-occupied-put :
-    (s : State) (p : ℕ) (q : List ℕ) → put (occupiedIn s) p (occupied q) ≡ occupiedIn (setLevel p q s)
-occupied-put s p q = λ i k. go k (same? k p) i
-  where
-    go : (k : ℕ) → Same k p → put (occupiedIn s) p (occupied q) k ≡ occupied (put (s .levels) p q k)
-    go k (same e _) = rw (e, put-same (occupiedIn s) p (occupied q), put-same (s .levels) p q)
-    go k (other d _) = rw (put-other (occupiedIn s) p k (occupied q) d, put-other (s .levels) p k q d)
-
-pub level-shows :
-    (m n : List ℕ) (s : State) (p : ℕ) (q : List ℕ) → Shows m s → length n ≡ length m
-    → ((a : Slot) → ValidSlot a → NoMark a → word n (at a) ≡ word m (at a))
-    → SummaryWords n (put (occupiedIn s) p (occupied q)) → Linked n (queuesOf (setLevel p q s))
-    → Shows n (setLevel p q s)
-level-shows m n s p q M size keep S L = record { size = size ∙ M .size; links = L; slots = slots }
-  where
-    slots : (a : Slot) → ValidSlot a → word n (at a) ≡ content (setLevel p q s) a
-    slots (ofThread f t) h = keep (ofThread f t) h tt ∙ M .slots (ofThread f t) h
-    slots (ofEndpoint j e) h = keep (ofEndpoint j e) h tt ∙ M .slots (ofEndpoint j e) h
-    slots (ofLine l) h = keep (ofLine l) h tt ∙ M .slots (ofLine l) h
-    slots (summary w) h = S .words w h ∙ ap (λ (f : ℕ → Bool). wordOf f w) (occupied-put s p q)
-    slots top h = S .top ∙ ap topOf (occupied-put s p q)
-    slots running h = keep running h tt ∙ M .slots running h
-    slots (unused i) h = keep (unused i) h tt ∙ M .slots (unused i) h

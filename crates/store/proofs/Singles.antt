@@ -1,19 +1,17 @@
 -- The line, and the thread that runs: after a store the memory shows the state with another there.
 -- Assumes nothing.
-use Prim.Native.Nat.{ℕ, _≤_}
-use mathlib.Core.Path.{_≡_, refl, sym, ap}
+use Prim.Native.Nat.{ℕ}
+use mathlib.Core.Path.{_≡_, refl, ap}
 use mathlib.Core.Option.{Option}
 use mathlib.Core.List.{List}
 use lib.ListN.{set}
 use Rattle.machine.specs.Lists.{put}
 use Rattle.machine.specs.State.{State, Line, setRuns, setLine}
 use Rattle.machine.proofs.Lists.{Same, same, other, same?, put-same, put-other}
-use Rattle.layout.specs.Addresses.{Slot, ofThread, ofEndpoint, ofLine, summary, top, running, unused, ValidSlot, at}
+use Rattle.layout.specs.Addresses.{Slot, ofThread, ofEndpoint, ofLine, summary, top, running, unused, at}
 use Rattle.layout.specs.Words.{lineCode, content, queuesOf}
-use Rattle.layout.specs.Shows.{Shows}
 use Rattle.words.specs.Access.{Address}
-use Rattle.store.specs.Steps.{Does}
-use Rattle.store.specs.Store.{IsLine, Any, Runs, Lines}
+use Rattle.store.specs.Store.{Runs, Lines}
 use Rattle.store.proofs.Words.{stored-shows}
 
 pub line-does :

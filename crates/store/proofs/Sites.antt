@@ -2,13 +2,13 @@
 -- has the same waiters. Assumes nothing.
 use Prim.Native.Nat.{ℕ, _+_, _*_, _-_, _≤_}
 use mathlib.Core.Path.{_≡_, refl, sym, _∙_, ap}
-use mathlib.Core.Option.{Option, none, some}
+use mathlib.Core.Option.{none, some}
 use mathlib.Core.List.{List}
 use lib.Dec.{ltb}
 use lib.ListN.{set}
 use Rattle.machine.specs.Lists.{pick, put}
-use Rattle.machine.specs.State.{State, Abort, Status, Endpoint, setEndpoint}
-use Rattle.machine.specs.Endpoints.{ownerOf, pendingOf, withOwner}
+use Rattle.machine.specs.State.{State, Endpoint, setEndpoint}
+use Rattle.machine.specs.Endpoints.{ownerOf, pendingOf}
 use Rattle.machine.proofs.Lists.{Same, same, other, same?, put-same, put-other}
 use Rattle.layout.specs.Addresses.{Part, status, aborting, aborted, owner, cursor, end, Slot, ofThread, ofEndpoint}
 use Rattle.layout.specs.Addresses.{ofLine, summary, top, running, unused, ValidSlot, offset, at, word}
@@ -17,8 +17,7 @@ use Rattle.layout.specs.Words.{queuesOf}
 use Rattle.layout.specs.Shows.{Shows}
 use Rattle.layout.proofs.Stores.{at-injective}
 use Rattle.words.specs.Access.{Address}
-use Rattle.store.specs.Steps.{Does}
-use Rattle.store.specs.Store.{IsEndpoint, HasAbort, standing, owned, Stands, Aborts, Owners}
+use Rattle.store.specs.Store.{Stands, Aborts, Owners}
 use Rattle.store.proofs.Rows.{Row, change, IsRow, row-store, row-start, row-shows}
 
 -- The slots that are not of endpoint e.
@@ -38,7 +37,7 @@ abbrev Site : ℕ → List ℕ → List ℕ → (Part → ℕ) → Type 0
 Site e m n w = Row (siteRow e) (OffSite e) m n w
 
 -- A word for each part, where six are right.
-parts :
+pub parts :
     (w : Part → ℕ) (x : Endpoint) → w status ≡ statusCode (x .status) → w aborting ≡ abortCode (x .abort)
     → w aborted ≡ badgeCode (x .abort) → w owner ≡ linkOf (ownerOf (x .abort))
     → w cursor ≡ firstOf (pendingOf (x .abort)) → w end ≡ lastOf 0 (pendingOf (x .abort))

@@ -9,10 +9,9 @@ use lib.Count.{leadingZeros}
 use lib.ListN.{getD}
 use Rattle.machine.proofs.Lists.{Same, same, other, same?}
 use Rattle.summary.specs.declared.Summary.{Summary}
-use Rattle.summary.specs.declared.Level.{Level}
 use Rattle.summary.specs.declared.Level.the-variants.{At, Nothing}
-use Rattle.summary.specs.Levels.{wordOf, topOf, summaryOf, highestIn, levelOf, Finds}
-use Rattle.summary.proofs.Tops.{Tops, tops-highest, none-highest, highest-tops, highest-none, leads}
+use Rattle.summary.specs.Levels.{wordOf, topOf, summaryOf, highestIn, Finds}
+use Rattle.summary.proofs.Tops.{Tops, tops-highest, none-highest, leads}
 use Rattle.summary.proofs.Words.{busy, busy-set, idle-zero, word-lt, top-lt, word-zero, top-zero}
 use Rattle.summary.proofs.Words.{words-at, summary-top}
 
@@ -82,11 +81,3 @@ pub finds-level :
     (s : Summary) → (s .top ≡ 0 → ⊥)
     → Finds s (At (32 * place (s .top) + place (getD (s .words) (place (s .top)) 0)))
 finds-level s d = record { found = λ f e. led s f e d .level }
-
--- What a caller learns that takes the answer apart.
-module _ (s : Summary) (f : ℕ → Bool) (e : s ≡ summaryOf f) (l : Level) (h : Finds s l) where
-  pub at-tops : (p : ℕ) → l ≡ At p → Tops 256 f p
-  at-tops p q = highest-tops 256 f p (sym (h .found f e) ∙ ap levelOf q)
-
-  pub nothing-clear : l ≡ Nothing → (k : ℕ) → k < 256 → f k ≡ false
-  nothing-clear q = highest-none 256 f (sym (h .found f e) ∙ ap levelOf q)

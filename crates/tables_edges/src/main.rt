@@ -1,5 +1,6 @@
 // Makes tables fresh and checks tables: of several lengths, then six tables written out by hand, which it reads, and
-// every word of those changed in turn. What it must write, stdout, is what the second machine's program `tables` writes.
+// every word of those changed in turn. What it must write, stdout, is what the second machine's program `tables`
+// writes.
 ghost use mathlib.Core.Path.{_≡_};
 ghost use lib.ListN.{length};
 

@@ -16,6 +16,7 @@ use Rattle.machine.specs.Machine.{isRunning, leaveReady, leave}
 use Rattle.machine.specs.Sound.{Present, Queued}
 use Rattle.machine.specs.Mid.{Mid}
 use Rattle.machine.proofs.Sites.{not-awaited}
+use Rattle.machine.proofs.Threads.{not-running}
 use Rattle.layout.specs.Words.{placeCode}
 use Rattle.layout.specs.Shows.{Shows}
 use Rattle.layout.proofs.Addresses.{below?}
@@ -27,7 +28,7 @@ use Rattle.debts.specs.Debts.{Says}
 use Rattle.results.proofs.Ends.{shown-for}
 use Rattle.results.proofs.Conditions.{present-thread, ready-stands, queued-waits}
 use Rattle.threads.specs.Threads.{readyIn, Able, leavingReady, CanLeave, Goes, leaving}
-use Rattle.threads.proofs.Places.{not-running, able-idle, able-runs}
+use Rattle.threads.proofs.Places.{able-idle, able-runs}
 
 -- An able thread leaves its level's queue, or stops running.
 module _ {m : List ℕ} {t : ℕ} {b : Bool} (R : Says m (IsThread t) b (readyIn t)) where

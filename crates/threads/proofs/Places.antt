@@ -7,12 +7,12 @@ use mathlib.Core.Option.{Option, none, some}
 use mathlib.Core.List.{List}
 use native.Mathlib.Omega.{arith}
 use lib.Dec.{eqb}
-use borrow.Author.Tests.{eq-eqb, ne-eqb, eqb-false}
+use borrow.Author.Tests.{eq-eqb, ne-eqb}
 use Rattle.machine.specs.State.{State, Place, absent, able, sending, receiving, waiting}
 use Rattle.machine.specs.Machine.{isAbsent, isAble, isRunning}
 use Rattle.machine.specs.Sound.{Ready}
 use Rattle.machine.proofs.Lists.{Same, same, other, same?, clash}
-use Rattle.machine.proofs.Ready.{none-some, some-one}
+use Rattle.machine.proofs.Threads.{not-running}
 use Rattle.layout.specs.Words.{placeCode, linkOf}
 use Rattle.store.specs.Steps.{Tells}
 use Rattle.store.specs.Store.{IsThread, Any}
@@ -37,10 +37,6 @@ code-present (receiving e) k n = refl
 code-present (waiting l) k n = refl
 
 -- Who runs.
-
-pub not-running : {t : ℕ} (x : Option ℕ) → isRunning t x ≡ false → x ≡ some t → ⊥
-not-running none e h = none-some refl h
-not-running {t} (some u) e h = eqb-false u t e (some-one refl h)
 
 link-running : (t : ℕ) {l : ℕ} (x : Option ℕ) → l ≡ linkOf x → eqb l (t + 1) ≡ isRunning t x
 link-running t {l} none k = ne-eqb l (t + 1) (λ z. omega arith)

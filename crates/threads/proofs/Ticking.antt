@@ -26,6 +26,7 @@ use Rattle.blocks.specs.Blocks.{refilled, tickedBlock, Loads, IsBlock, Stores}
 use Rattle.blocks.proofs.Moves.{ticks-told, ticked-block, ticked-thread}
 use Rattle.queues.specs.Queues.{Loose, Chooses}
 use Rattle.queues.proofs.Joining.{shown-next, and-then}
+use Rattle.queues.proofs.Choosing.{runner}
 use Rattle.debts.specs.Debts.{Debtor}
 use Rattle.results.specs.Results.{Asked, Calling, Performs}
 use Rattle.results.proofs.Ends.{performs-after, does-for, shown-for}
@@ -118,15 +119,8 @@ module _ {m : List ℕ} {link : ℕ} (L : Tells m Any link runningIn) where
       go s M (some t) k = absurd (omega arith)
 
   module _ (n : link ≡ 0 → ⊥) where
-    runner : (s : State) → Shows m s → s .runs ≡ some (link - 1)
-    runner s M = go (s .runs) (L .tells s M tt)
-      where
-        go : (x : Option ℕ) → link ≡ linkOf x → x ≡ some (link - 1)
-        go none k = absurd (n k)
-        go (some t) k = ap some (let j : t ≡ link - 1 = omega arith in j)
-
     calls : (s : State) → Shows m s → Asked (Unit {0}) s → Caller (link - 1) s
-    calls s M h = record { sound = h .sound; runs = runner s M; numbers = tt }
+    calls s M h = record { sound = h .sound; runs = runner L n s M; numbers = tt }
 
     pub runner-asked : Shown m (Asked (Unit {0})) → Shown m (Caller (link - 1))
     runner-asked S =
@@ -138,7 +132,7 @@ module _ {m : List ℕ} {link : ℕ} (L : Tells m Any link runningIn) where
     runner-ticks {o} D =
         record {
           shows = λ s M h.
-              subst (λ (x : Option ℕ). Shows o (tickFor x s)) (sym (runner s M)) (D .shows s M (calls s M h));
+              subst (λ (x : Option ℕ). Shows o (tickFor x s)) (sym (runner L n s M)) (D .shows s M (calls s M h));
         }
 
 -- Whoever runs is in no queue after a tick.

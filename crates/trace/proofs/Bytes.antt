@@ -21,12 +21,12 @@ use Rattle.journal.specs.declared.types.Read.{Read}
 use Rattle.journal.specs.declared.types.Read.the-variants.{Found, Refused, Ended}
 use Rattle.journal.proofs.types.Read.{the-type}
 use Rattle.listing.specs.Line.{lineOf}
-use Rattle.listing.specs.Buffer.{written, after, pasted, Wrote}
+use Rattle.listing.specs.Buffer.{written, after, pasted}
 use Rattle.kernel.specs.Entry.{Called, called, runningLink}
 use Rattle.trace.specs.declared.lines.Cursor.{Cursor}
 use Rattle.trace.specs.Turns.{lastCode}
 use Rattle.trace.specs.Rows.{threadOf}
-use Rattle.trace.specs.Lines.{Added, callLine, lastLine, Took, Stopped, Stepped}
+use Rattle.trace.specs.Lines.{Added, callLine, lastLine, Stopped, Stepped}
 
 -- Who runs, by the link.
 

@@ -19,7 +19,7 @@ use Rattle.journal.specs.Rows.{Row}
 use Rattle.listing.specs.Line.{lineOf}
 use Rattle.listing.specs.Buffer.{Wrote}
 use Rattle.listing.proofs.Texts.{pasted-nil, wrote-then}
-use Rattle.kernel.specs.Entry.{Called, called, runningLink}
+use Rattle.kernel.specs.Entry.{called, runningLink}
 use Rattle.trace.specs.declared.lines.Cursor.{Cursor}
 use Rattle.trace.specs.Turns.{bit, lastCode, readyFor}
 use Rattle.trace.specs.Rows.{threadOf, takenFrom}

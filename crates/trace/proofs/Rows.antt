@@ -1,13 +1,11 @@
 -- The rows that the entry gives are those of the machine.
 -- Assumes nothing.
 use Prim.Native.Nat.{ℕ, zero, suc}
-use mathlib.Core.Path.{_≡_, refl, sym, _∙_, ap}
+use mathlib.Core.Path.{_≡_, refl, _∙_, ap}
 use mathlib.Core.Option.{Option, none, some}
-use mathlib.Core.List.{List, [], _∷_}
+use mathlib.Core.List.{List}
 use lib.ListN.{length, length-replicate}
 use borrow.Author.Tests.{eq-eqb}
-use Rattle.machine.specs.declared.Call.{Call}
-use Rattle.machine.specs.Calls.{numberOf}
 use Rattle.machine.specs.State.{State, freshState}
 use Rattle.machine.specs.Machine.{step}
 use Rattle.machine.specs.Sound.{Sound}
@@ -15,10 +13,10 @@ use Rattle.machine.proofs.Steps.{step-sound, fresh-sound}
 use Rattle.journal.specs.declared.types.Read.{Read}
 use Rattle.journal.specs.declared.types.Read.the-variants.{Found, Refused, Ended}
 use Rattle.journal.specs.Words.{readAt}
-use Rattle.journal.specs.Rows.{Row, rowsFrom, rowsOf}
+use Rattle.journal.specs.Rows.{rowsFrom, rowsOf}
 use Rattle.layout.specs.Words.{image, linkOf}
 use Rattle.tables.specs.Entries.{freshened, zeros}
-use Rattle.kernel.specs.Entry.{Called, called, runningLink}
+use Rattle.kernel.specs.Entry.{runningLink}
 use Rattle.kernel.proofs.Runner.{running-image}
 use Rattle.kernel.proofs.Turns.{called-image}
 use Rattle.trace.specs.Rows.{threadOf, takenFrom, takenRows}

@@ -1,21 +1,20 @@
 -- The ends of a call: code 0, and code 1 of a caller that blocks.
 -- Assumes nothing.
 use Prim.Native.Nat.{ℕ, zero, suc}
-use mathlib.Core.Path.{_≡_, refl, subst}
-use mathlib.Core.List.{List, []}
+use mathlib.Core.Path.{_≡_, refl}
+use mathlib.Core.List.{List}
 use native.Mathlib.Omega.{arith}
 use Rattle.machine.specs.declared.Answer.{Answer}
 use Rattle.machine.specs.State.{State, Place, absent, able, sending}
 use Rattle.machine.specs.Scheduling.{block}
-use Rattle.machine.specs.Results.{plain, accept}
+use Rattle.machine.specs.Results.{plain}
 use Rattle.machine.proofs.Ready.{none-some}
 use Rattle.layout.specs.Words.{placeCode}
-use Rattle.layout.specs.Shows.{Shows}
-use Rattle.store.specs.Steps.{Shown, Does}
+use Rattle.store.specs.Steps.{Shown}
 use Rattle.store.specs.Store.{IsThread}
 use Rattle.queues.specs.Queues.{Chooses, Blocks}
 use Rattle.queues.proofs.Joining.{shown-next}
-use Rattle.results.specs.Results.{Performs, Accepts}
+use Rattle.results.specs.Results.{Accepts}
 use Rattle.results.proofs.Ends.{answered, performs-after}
 use Rattle.transfers.specs.Transfers.{Suspends}
 

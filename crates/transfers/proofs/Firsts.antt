@@ -7,7 +7,7 @@ use mathlib.Core.Logic.{_⊎_, inl, inr}
 use mathlib.Core.Option.{none, some}
 use mathlib.Core.List.{List, [], _∷_}
 use native.Mathlib.Omega.{arith}
-use Rattle.machine.specs.Lists.{Mem, only, first}
+use Rattle.machine.specs.Lists.{only, first}
 use Rattle.machine.specs.State.{State, Place, sending, receiving}
 use Rattle.machine.specs.Endpoints.{isSending, isReceiving, dropDebt}
 use Rattle.machine.specs.Sound.{Queued}
@@ -15,15 +15,15 @@ use Rattle.machine.proofs.Lists.{only-nil, only-all, only-none, mem-only}
 use Rattle.machine.specs.Mid.{Mid}
 use Rattle.machine.proofs.Keeping.{Keeps, keeps-place}
 use Rattle.machine.proofs.Debts.{dropDebt-drops}
-use Rattle.layout.specs.Words.{placeCode, firstOf, queuesOf}
+use Rattle.layout.specs.Words.{placeCode, firstOf}
 use Rattle.layout.specs.Shows.{Shows}
-use Rattle.layout.proofs.Standing.{queues-endpoint}
 use Rattle.links.specs.Links.{First}
 use Rattle.links.proofs.Splits.{first-zero}
-use Rattle.store.specs.Steps.{Shown, Tells}
+use Rattle.store.specs.Steps.{Tells}
 use Rattle.store.specs.Store.{IsThread}
 use Rattle.store.specs.Readings.{placeIn}
 use Rattle.debts.specs.Debts.{AllAt, Alike}
+use Rattle.debts.proofs.Beginning.{first-waits, first-waiter, waits, small}
 use Rattle.transfers.specs.Transfers.{FirstAt}
 
 -- A link to the first of a list says whether it has one, and who it is.
@@ -35,10 +35,6 @@ pub first-some : {r : ℕ} (l : List ℕ) → r ≡ firstOf l → (r ≡ 0 → �
 first-some [] k z = absurd (z k)
 first-some {r} (u ∷ l) k z = let j : u ≡ r - 1 = omega arith in ap some j
 
-first-mem : (r : ℕ) (l : List ℕ) → r ≡ firstOf l → (r ≡ 0 → ⊥) → Mem (r - 1) l
-first-mem r [] k z = absurd (z k)
-first-mem r (u ∷ l) k z = inl (omega arith)
-
 -- Those of a kind among the waiters at e, in a state.
 abbrev pub ofKind : (Place → Bool) → ℕ → State → List ℕ
 ofKind f e s = only (λ t. f (s .threads t .place)) (s .endpoints e .waiters)
@@ -49,7 +45,7 @@ pub first-queued :
     → Queued s (r - 1) e
 first-queued {s} {r} M f e k z =
     M .queues .queued (r - 1) e .0
-    (mem-only (λ t. f (s .threads t .place)) (r - 1) (s .endpoints e .waiters) (first-mem r (ofKind f e s) k z) .0)
+    (mem-only (λ t. f (s .threads t .place)) (r - 1) (s .endpoints e .waiters) (first-waits r (ofKind f e s) z k) .0)
 
 -- They are the same before and after a debt has gone.
 
@@ -66,42 +62,29 @@ kind-kept f e t s =
     ∙ ap (only (λ u. f (s .threads u .place))) (K .waiters e)
 
 module _ (e : ℕ) {m : List ℕ} {r : ℕ} (F : First m (256 + e) r) where
-  first-waiter : (s : State) → Shows m s → r ≡ firstOf (s .endpoints e .waiters)
-  first-waiter s M = F .first (queuesOf s) (M .links) ∙ ap firstOf (queues-endpoint s e)
-
   none-of : (f : Place → Bool) → r ≡ 0 → Tells m (Alike e) 0 (λ s. firstOf (ofKind f e s))
   none-of f z =
       record {
         tells = λ s M A.
             let g : ℕ → Bool = λ t. f (s .threads t .place) in
             let l : List ℕ = s .endpoints e .waiters in
-            sym (ap firstOf (ap (only g) (first-zero l (sym (first-waiter s M) ∙ z)) ∙ only-nil g));
+            sym (ap firstOf (ap (only g) (first-zero l (sym (first-waiter e F s M) ∙ z)) ∙ only-nil g));
       }
 
   pub at-empty : {code : ℕ} → r ≡ 0 → FirstAt m e code 0
   at-empty z = record { sends = λ k. none-of isSending z; receives = λ k. none-of isReceiving z }
 
-  waits : (s : State) → Shows m s → (r ≡ 0 → ⊥) → Mem (r - 1) (s .endpoints e .waiters)
-  waits s M z = first-mem r (s .endpoints e .waiters) (first-waiter s M) z
-
-  small : (s : State) → Shows m s → e ≤ 63 → (r ≡ 0 → ⊥) → r - 1 ≤ 255
-  small s M h z = M .links .small (256 + e) (r - 1) (omega arith) (rw (queues-endpoint s e) (waits s M z))
-
-  pub place-asked : (r ≡ 0 → ⊥) → Shown m (Alike e) → Shown m (IsThread (r - 1))
-  place-asked z S =
-      record { state = S .state; shows = S .shows; holds = small (S .state) (S .shows) (S .holds .endpoint) z }
-
   module _ {p : ℕ} (z : r ≡ 0 → ⊥) (P : Tells m (IsThread (r - 1)) p (placeIn (r - 1))) where
     -- The first is at the place of which all are.
     place-is : (s : State) (x : Place) → Shows m s → e ≤ 63 → AllAt x e s → p ≡ placeCode x
-    place-is s x M h f = P .tells s M (small s M h z) ∙ ap placeCode (f (r - 1) (waits s M z))
+    place-is s x M h f = P .tells s M (small e F s M h z) ∙ ap placeCode (f (r - 1) (waits e F s M z))
 
     -- All are of the kind, or none is.
 
     all-of : (s : State) (f : Place → Bool) (x : Place) → Shows m s → f x ≡ true → AllAt x e s
         → r ≡ firstOf (ofKind f e s)
     all-of s f x M t a =
-        first-waiter s M
+        first-waiter e F s M
         ∙ sym (ap firstOf (only-all (λ u. f (s .threads u .place)) (s .endpoints e .waiters) (λ u k. ap f (a u k) ∙ t)))
 
     nobody-of : (s : State) (f : Place → Bool) (x : Place) → f x ≡ false → AllAt x e s → 0 ≡ firstOf (ofKind f e s)

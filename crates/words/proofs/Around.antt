@@ -1,6 +1,6 @@
 -- The links around a link: link 0 is the queue itself, link t + 1 is thread t. Assumes nothing.
 use Prim.Native.Nat.{ℕ, zero, suc, _-_}
-use mathlib.Core.Path.{_≡_, refl, ap, sym, _∙_, subst}
+use mathlib.Core.Path.{_≡_, refl, sym, subst}
 use native.Mathlib.Omega.{arith}
 use Rattle.layout.specs.Addresses.{linkAt, next, prev, head, tail, afterAt, beforeAt}
 use Rattle.words.specs.Access.{Address}

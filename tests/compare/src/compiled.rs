@@ -22,24 +22,14 @@ pub fn numbers(call: &Call) -> Numbers {
     }
 }
 
-/// A call as the core has read it.
-fn call_of(numbers: &Numbers) -> Call {
-    let Numbers { number, subject, argument, badge, message } = *numbers;
-    match number {
-        1 => Call::CreateThread { thread: subject, priority: argument },
-        2 => Call::DestroyThread { thread: subject },
-        3 => Call::SetPriority { thread: subject, priority: argument },
-        4 => Call::CreateEndpoint { endpoint: subject },
-        5 => Call::Interrupt { line: subject },
-        6 => Call::Tick,
-        7 => Call::Send { endpoint: subject, badge, message },
-        8 => Call::Receive { endpoint: subject },
-        9 => Call::Yield,
-        10 => Call::Wait { line: subject },
-        11 => Call::Delete { endpoint: subject, allowance: argument },
-        12 => Call::Abort { endpoint: subject, allowance: argument, badge },
-        _ => panic!("the core has read what is no call: {numbers:?}"),
-    }
+/// A call as the core has read it; back to numbers it is what was read, so the way there hides nothing.
+fn call_of(read: &Numbers) -> Call {
+    let Numbers { number, subject, argument, badge, message } = *read;
+    let Some(call) = second::call_of(number, subject, argument, badge, message) else {
+        panic!("the core has read what is no call: {read:?}");
+    };
+    assert_eq!(numbers(&call), *read, "the numbers of the call read");
+    call
 }
 
 impl Core for Compiled {

@@ -62,6 +62,11 @@ fn decode(words: &[u32]) -> Option<Call> {
     }
     let badge = part(words, 1, 2)?;
     let message = part(words, 2, 3)?;
+    call_of(number, subject, argument, badge, message)
+}
+
+/// The call of five plain numbers; none if there is no call of that number.
+pub fn call_of(number: u32, subject: u32, argument: u32, badge: u32, message: u32) -> Option<Call> {
     Some(match number {
         1 => Call::CreateThread { thread: subject, priority: argument },
         2 => Call::DestroyThread { thread: subject },
@@ -74,7 +79,8 @@ fn decode(words: &[u32]) -> Option<Call> {
         9 => Call::Yield,
         10 => Call::Wait { line: subject },
         11 => Call::Delete { endpoint: subject, allowance: argument },
-        _ => Call::Abort { endpoint: subject, allowance: argument, badge },
+        12 => Call::Abort { endpoint: subject, allowance: argument, badge },
+        _ => return None,
     })
 }
 

@@ -18,7 +18,7 @@ mod tally;
 mod words;
 
 pub use call::{Answer, Call, Numbers};
-pub use journal::{read, write, Read, Written, WORDS};
+pub use journal::{call_of, read, write, Read, Written, WORDS};
 pub use listing::{listing, HEADER};
 pub use machine::Machine;
 pub use queue::{Queue, Summary};

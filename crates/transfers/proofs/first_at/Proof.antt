@@ -1,6 +1,7 @@
 -- The first waiter's place tells whether all are at it, or none is.
 -- Assumes nothing.
-use Rattle.transfers.proofs.Firsts.{at-empty, place-asked, at-other, at-place}
+use Rattle.transfers.proofs.Firsts.{at-empty, at-other, at-place}
+use Rattle.debts.proofs.Beginning.{place-asked}
 use borrow.Author.Needs.{needs}
 use Rattle.transfers.proofs.first_at.Statement.{statement}
 use Rattle.transfers.proofs.first_at.Tie as tie

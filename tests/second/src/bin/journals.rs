@@ -64,6 +64,12 @@ fn sender(thread: u32, endpoint: u32, badge: u32) -> Words {
     [create(thread, 10), send(endpoint, badge, 100 + thread)].concat()
 }
 
+/// A new endpoint with senders 2, 3 and so on of these badges queued.
+fn queued(at: u32, badges: &[u32]) -> Words {
+    let senders = (2..).zip(badges).flat_map(|(thread, &badge)| sender(thread, at, badge));
+    endpoint(at).into_iter().chain(senders).collect()
+}
+
 /// The largest badge, message and allowance.
 const TOP: u32 = (1 << 28) - 1;
 const ALL: u32 = 65_535;
@@ -170,12 +176,7 @@ fn priorities() -> Words {
 
 fn allowances() -> Words {
     [
-        endpoint(0),
-        sender(2, 0, 7),
-        sender(3, 0, 7),
-        sender(4, 0, 8),
-        sender(5, 0, 7),
-        sender(6, 0, 7),
+        queued(0, &[7, 7, 8, 7, 7]),
         create(1, 20),
         abort(0, 1, 7), // removes 2, broken off
         abort(0, 1, 7), // removes 3
@@ -195,10 +196,7 @@ fn allowances() -> Words {
 
 fn badges() -> Words {
     [
-        endpoint(0),
-        sender(2, 0, 0),
-        sender(3, 0, TOP),
-        sender(4, 0, 0),
+        queued(0, &[0, TOP, 0]),
         create(1, 20),
         abort(0, 1, 0), // removes 2, broken off
         create(5, 30),
@@ -282,11 +280,7 @@ fn destroyed() -> Words {
 
 fn deletes() -> Words {
     [
-        endpoint(0),
-        sender(2, 0, 7),
-        sender(3, 0, 7),
-        sender(4, 0, 8),
-        sender(5, 0, 7),
+        queued(0, &[7, 7, 8, 7]),
         create(1, 20),
         abort(0, 1, 7), // removes 2
         create(6, 30),

@@ -77,8 +77,8 @@ returns c =
     let told = c .before .ready in
     let l = c .before .before .before in
     let a = l .before .before .before .before .before .args in
-    let ready =
-    readyFor (a .tail .ended) (length (a .words .now) - l .loop .at .next) (length (l .loop .out) - l .loop .at .used) in (
+    let at = l .loop .at in
+    let ready = readyFor (a .tail .ended) (length (a .words .now) - at .next) (length (l .loop .out) - at .used) in (
       search needs,
       (
         counts _ _ (search needs),
