@@ -10,7 +10,7 @@ use native.Mathlib.Omega.{arith}
 use Rattle.machine.specs.State.{State, Thread, Place, absent, able, sending, receiving, waiting, Debt, nothing, owns}
 use Rattle.machine.specs.State.{noted, awaited, absentThread}
 use Rattle.machine.specs.Endpoints.{ownerOf}
-use Rattle.machine.specs.Sound.{Stores, DebtInRange}
+use Rattle.machine.specs.Sound.{Stores}
 use Rattle.machine.proofs.Lists.{Same, same, other, same?}
 use Rattle.layout.specs.Addresses.{Field, place, priority, ticks, outcome, badge, message, owes, note, owner, ofThread}
 use Rattle.layout.specs.Addresses.{ofEndpoint, ofLine, at, word}
@@ -18,12 +18,13 @@ use Rattle.layout.specs.Words.{linkOf, placeCode, debtCode, noteCode, lineCode,
 use Rattle.layout.specs.Decode.{placeOf, threadFrom}
 use Rattle.layout.proofs.Addresses.{below?}
 use Rattle.layout.proofs.Codes.{PlaceSmall, place-back, DebtSmall}
-use Rattle.layout.proofs.Blocks.{NeatThread, absent-neat, thread-back}
+use Rattle.layout.proofs.Blocks.{NeatThread, absent-neat, thread-back, debt-in-range}
+use Rattle.layout.proofs.Decision.{seat-small}
 use Rattle.layout.proofs.Tests.{Tells, tells-map, tells-and, tells-or, tells-eqb, tells-leb, tells-some, tells-awaited}
 use Rattle.checks.specs.Checks.{threadIn, endpointIn, absentTest, numbersTest, storedTest, waitsTest, owesTest}
 use Rattle.checks.specs.Checks.{presentTest, blockTest}
 use Rattle.checks.proofs.Tests.{tells-ltb, tells-pick, told}
-use Rattle.checks.proofs.Reading.{Reads, seat-small}
+use Rattle.checks.proofs.Reading.{Reads}
 
 -- What the tests say of a thread's words.
 
@@ -117,11 +118,6 @@ debt-coded m t n (suc w) h = go (below? w 64)
     go (inr g) =
         let k = h .1 (λ z. omega arith) in
         (noted (w - 64) n, (omega (arith, k .0), k .1), omega arith, refl)
-
-debt-in-range : (d : Debt) → DebtSmall d → DebtInRange d
-debt-in-range nothing h = tt
-debt-in-range (owns e) h = tt
-debt-in-range (noted e b) h = h
 
 -- Who stores a badge and message, by the code of the place.
 
@@ -322,7 +318,7 @@ module _ (m : List ℕ) (s : State) (R : Reads m s) (t : ℕ) (h : t ≤ 255) wh
       ⊎-elim (λ z. absurd (omega arith))
       (λ k. tells-awaited (s .lines l) t .holds
       (tells-eqb (lineCode (s .lines l)) (suc (suc t)) .back
-      (sym (R .slots (ofLine l) (seat-small m s R t e)) ∙ rw back at k)))
+      (sym (R .slots (ofLine l) (seat-small s (R .neat) t e)) ∙ rw back at k)))
       o
 
   on-line : Waits s t → (p : Place) → s .threads t .place ≡ p → PlaceSmall p → OnLine m t (placeCode p)

@@ -15,7 +15,7 @@ use Rattle.layout.specs.Addresses.{ofEndpoint, head, linkAt, word}
 use Rattle.layout.specs.Words.{linkOf, firstOf, lastOf, debtCode, statusCode, abortCode, badgeCode, endpointWord}
 use Rattle.layout.specs.Shows.{Chain}
 use Rattle.layout.specs.Decode.{linked, between, abortAt, endpointAt, endpointFrom}
-use Rattle.layout.proofs.Chains.{chain-first}
+use Rattle.layout.proofs.Chains.{chain-first, first-zero}
 use Rattle.layout.proofs.Codes.{within-same}
 use Rattle.layout.proofs.Ends.{NeatEndpoint, none-some}
 use Rattle.layout.proofs.Tests.{Tells, tells-true, tells-false, tells-map, tells-and, tells-agree, tells-eqb, tells-leb}
@@ -70,10 +70,6 @@ module _ (m : List ℕ) (e : ℕ) where
 
 -- Links
 
-pub first-none : (l : List ℕ) → firstOf l ≡ 0 → l ≡ []
-first-none [] e = refl
-first-none (t ∷ l) e = absurd (omega arith)
-
 last-some : (t : ℕ) (l : List ℕ) → lastOf (suc t) l ≡ 0 → ⊥
 last-some t [] e = omega arith
 last-some t (u ∷ l) e = last-some u l e
@@ -92,7 +88,7 @@ linked-again (suc t) h = rw (le-leb t 255 (omega arith))
 marked-end :
     {c d b : ℕ} {g : ℕ → ℕ} {l part : List ℕ} → Marked c d b g l part → (c ≡ 0) ↔ (d ≡ 0) → lastOf 0 part ≡ d
 marked-end {c} {part = part} M h =
-    ⊎-elim (λ z. ap (lastOf 0) (first-none part (M .first ∙ z)) ∙ sym (h .0 z)) (M .last) (told (tells-eqb c 0))
+    ⊎-elim (λ z. ap (lastOf 0) (first-zero part (M .first ∙ z)) ∙ sym (h .0 z)) (M .last) (told (tells-eqb c 0))
 
 -- From the tests to the endpoint
 
@@ -163,7 +159,7 @@ module _ (m : List ℕ) (e : ℕ) where
         → Chain m (256 + e) 0 l 0 → Same-end (λ p. endpointIn m p e) l (endpointAt n (λ p. endpointIn m p e) l)
     end-at zero z t a c =
         end-read missingEndpoint (sym z) (no-abort (t .1) a)
-        (sym (first-none l (sym (chain-first m (256 + e) 0 l c) ∙ t .0)))
+        (sym (first-zero l (sym (chain-first m (256 + e) 0 l c) ∙ t .0)))
     end-at (suc zero) z t a c =
         end-read (endpointAt 1 (λ p. endpointIn m p e) l) (sym z) (some-abort (endpointIn m aborting e) refl a) refl
     end-at (suc (suc zero)) z t a c =

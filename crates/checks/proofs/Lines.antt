@@ -17,9 +17,10 @@ use Rattle.layout.specs.Words.{linkOf, firstOf, lineCode}
 use Rattle.layout.specs.Decode.{lineOf}
 use Rattle.layout.proofs.Codes.{line-small}
 use Rattle.layout.proofs.Tests.{Tells, tells-true, tells-false, tells-map, tells-and, tells-or, tells-eqb, tells-leb}
+use Rattle.layout.proofs.Tests.{tells-below}
 use Rattle.checks.specs.Checks.{threadIn, lineFrom, lineTest, occupiedAt, summaryTest, runningFrom, runningTest}
 use Rattle.checks.specs.Checks.{unusedTest}
-use Rattle.checks.proofs.Tests.{tells-itself, tells-index}
+use Rattle.checks.proofs.Tests.{tells-itself}
 use Rattle.checks.proofs.Reading.{Reads, level-joined, same-occupied, same-word, same-top, tells-seat}
 
 -- Lines
@@ -79,7 +80,7 @@ pub tells-summary :
     → Tells (summaryTest m)
     (((w : ℕ) → w < 8 → word m (at (summary w)) ≡ wordOf (occupiedAt m) w) × (word m (at top) ≡ topOf (occupiedAt m)))
 unfolding summaryTest
-tells-summary m = tells-and (tells-index 8 _ _ (λ w h. tells-eqb _ _)) (tells-eqb _ _)
+tells-summary m = tells-and (tells-below 8 _ _ (λ w h. tells-eqb _ _)) (tells-eqb _ _)
 
 pub tells-unused : (m : List ℕ) (i : ℕ) → Tells (unusedTest m i) (word m (at (unused i)) ≡ 0)
 unfolding unusedTest
@@ -117,14 +118,14 @@ module _ (m : List ℕ) (s : State) (R : Reads m s) where
   tells-running = rw (R .slots running tt) (go (s .runs) refl)
     where
       go : (o : Option ℕ) → s .runs ≡ o → Tells (runningFrom (linkOf o) m) (Highest s o)
-      go none i = tells-index 256 _ _ tells-empty
+      go none i = tells-below 256 _ _ tells-empty
       go (some t) i =
           let small = R .neat .runs-small t i in
           let low : (p : ℕ) → Tells (leb p (threadIn m priority t)) (p ≤ s .threads t .priority)
           = λ p. rw (R .slots (ofThread priority t) small) (tells-leb p (s .threads t .priority)) in
           tells-map (λ r. (r .0 .1, r .1)) (λ r. ((small, r .0), r .1))
           (tells-and (tells-and (tells-leb t 255) (tells-seat m s R t able small tt))
-          (tells-index 256 _ _ (λ p k. tells-or (low p) (tells-empty p k))))
+          (tells-below 256 _ _ (λ p k. tells-or (low p) (tells-empty p k))))
 
   -- The summary and the unused words pass.
 

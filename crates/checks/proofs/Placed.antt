@@ -14,12 +14,13 @@ use Rattle.layout.specs.Words.{placeCode, queuesOf}
 use Rattle.layout.specs.Tables.{member}
 use Rattle.layout.proofs.Codes.{PlaceSmall}
 use Rattle.layout.proofs.Standing.{each-queue}
+use Rattle.layout.proofs.Decision.{seat-small}
 use Rattle.layout.proofs.Tests.{Tells, tells-false, tells-map, tells-and, tells-or, tells-not, tells-agree, tells-eqb}
 use Rattle.layout.proofs.Tests.{tells-leb, tells-member}
 use Rattle.checks.specs.Checks.{met, metBelow, queuedTest, placedTest}
 use Rattle.checks.proofs.Tests.{tells-ltb}
 use Rattle.checks.proofs.Walks.{met-along}
-use Rattle.checks.proofs.Reading.{Reads, tells-seat, tells-runs, seat-small}
+use Rattle.checks.proofs.Reading.{Reads, tells-seat, tells-runs}
 
 -- The thread stands in a queue; its place says that it does.
 abbrev pub InQueue : State → ℕ → Type 0
@@ -76,8 +77,8 @@ module _ (m : List ℕ) (s : State) (R : Reads m s) (t : ℕ) (h : t ≤ 255) wh
       to : ((e : ℕ) × Queued s t e) → (2 ≤ placeCode (s .threads t .place)) × (placeCode (s .threads t .place) < 130)
       to r =
           ⊎-elim
-          (λ i. (omega (arith, ap placeCode i), omega (arith, ap placeCode i, seat-small m s R t i)))
-          (λ i. (omega (arith, ap placeCode i), omega (arith, ap placeCode i, seat-small m s R t i))) (r .1)
+          (λ i. (omega (arith, ap placeCode i), omega (arith, ap placeCode i, seat-small s (R .neat) t i)))
+          (λ i. (omega (arith, ap placeCode i), omega (arith, ap placeCode i, seat-small s (R .neat) t i))) (r .1)
 
   pub tells-placed :
       Tells (placedTest m t)

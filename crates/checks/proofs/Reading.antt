@@ -1,8 +1,8 @@
 -- A memory whose words are those of a neat state and whose links join its queues: what words and walks tell of it.
 -- Assumes nothing.
-use Prim.Native.Nat.{ℕ, zero, suc, _+_, _≤_, _<_}
-use mathlib.Core.Path.{_≡_, refl, ap, subst}
-use mathlib.Core.Bool.{Bool, not}
+use Prim.Native.Nat.{ℕ, suc, _+_, _≤_}
+use mathlib.Core.Path.{_≡_, refl, ap}
+use mathlib.Core.Bool.{not}
 use mathlib.Core.Option.{some}
 use mathlib.Core.List.{List, [], _∷_}
 use native.Mathlib.Omega.{arith}
@@ -11,12 +11,13 @@ use borrow.Author.Tests.{ne-eqb}
 use Rattle.machine.specs.Lists.{Mem}
 use Rattle.machine.specs.State.{State, Place, able}
 use Rattle.machine.specs.Scheduling.{occupied}
-use Rattle.summary.specs.Levels.{bits, wordOf, topOf}
+use Rattle.summary.specs.Levels.{wordOf, topOf}
+use Rattle.summary.proofs.Masks.{bits-agree}
 use Rattle.layout.specs.Addresses.{Slot, ValidSlot, place, priority, ofThread, running, head, at, linkAt, word}
 use Rattle.layout.specs.Words.{placeCode, firstOf, occupiedIn, content, queuesOf}
 use Rattle.layout.specs.Shows.{Chain}
 use Rattle.layout.proofs.Chains.{chain-first}
-use Rattle.layout.proofs.Codes.{PlaceSmall, not-absent}
+use Rattle.layout.proofs.Codes.{PlaceSmall}
 use Rattle.layout.proofs.Standing.{queues-level, queues-endpoint}
 use Rattle.layout.proofs.Neat.{Neat}
 use Rattle.layout.proofs.Tests.{Tells, tells-and, tells-not, tells-eqb, tells-place, tells-some}
@@ -36,11 +37,6 @@ level-chain m s p h c = rw (queues-level s p h) at c
 
 -- The summary of levels that have a first is that of the state's.
 
-same-bits : (n : ℕ) (f g : ℕ → Bool) → ((k : ℕ) → k < n → f k ≡ g k) → bits n f ≡ bits n g
-unfolding bits
-same-bits zero f g h = refl
-same-bits (suc n) f g h = rw (h n (omega arith), same-bits n f g (λ k i. h k (omega arith)))
-
 module _ (m : List ℕ) (s : State) (c : (p : ℕ) → p ≤ 255 → Chain m p 0 (s .levels p) 0) where
   pub same-occupied : (p : ℕ) → p ≤ 255 → occupiedAt m p ≡ occupiedIn s p
   same-occupied p h = rw (chain-first m p 0 (s .levels p) (c p h)) (go (s .levels p))
@@ -51,11 +47,11 @@ module _ (m : List ℕ) (s : State) (c : (p : ℕ) → p ≤ 255 → Chain m p 0
 
   pub same-word : (w : ℕ) → w ≤ 7 → wordOf (occupiedAt m) w ≡ wordOf (occupiedIn s) w
   unfolding wordOf
-  same-word w h = same-bits 32 _ _ (λ k i. same-occupied _ (omega arith))
+  same-word w h = bits-agree 32 _ _ (λ k i. same-occupied _ (omega arith))
 
   pub same-top : topOf (occupiedAt m) ≡ topOf (occupiedIn s)
   unfolding topOf
-  same-top = same-bits 8 _ _ (λ w i. ap (λ (n : ℕ). not (eqb n 0)) (same-word w (omega arith)))
+  same-top = bits-agree 8 _ _ (λ w i. ap (λ (n : ℕ). not (eqb n 0)) (same-word w (omega arith)))
 
 module _ (m : List ℕ) (s : State) (R : Reads m s) where
   pub level-joined : (p : ℕ) → p ≤ 255 → Chain m p 0 (s .levels p) 0
@@ -63,14 +59,6 @@ module _ (m : List ℕ) (s : State) (R : Reads m s) where
 
   pub end-joined : (e : ℕ) → e ≤ 63 → Chain m (256 + e) 0 (s .endpoints e .waiters) 0
   end-joined e h = rw (queues-endpoint s e) at (R .chains (256 + e) (omega arith))
-
-  -- Numbers of a neat state that are out of range name nothing.
-
-  pub seated : (t : ℕ) {q : Place} → s .threads t .place ≡ q → 1 ≤ placeCode q → t ≤ 255
-  seated t e h = R .neat .threads t .numbers (not-absent e h) .thread
-
-  pub seat-small : (t : ℕ) {q : Place} → s .threads t .place ≡ q → PlaceSmall q
-  seat-small t e = subst PlaceSmall e (R .neat .threads t .place-small)
 
   -- Places, the running thread, the ready ones.
 

@@ -17,11 +17,12 @@ use Rattle.layout.proofs.Blocks.{beyond-absent}
 use Rattle.layout.proofs.Ends.{none-some}
 use Rattle.layout.proofs.Standing.{Queue, level, endpoint, queue?, queues-level, queues-endpoint, each-queue}
 use Rattle.layout.proofs.Standing.{queue-small, queue-distinct, queue-apart}
-use Rattle.layout.proofs.Neat.{Neat}
+use Rattle.layout.proofs.Neat.{Neat, nobody}
+use Rattle.layout.proofs.Decision.{seated, seat-small}
 use Rattle.checks.proofs.Tests.{told}
 use Rattle.checks.proofs.Walks.{chain-distinct}
 use Rattle.checks.proofs.Cursors.{part-in}
-use Rattle.checks.proofs.Reading.{Reads, level-joined, end-joined, seated, seat-small}
+use Rattle.checks.proofs.Reading.{Reads, level-joined, end-joined}
 use Rattle.checks.proofs.Waiters.{Alike}
 use Rattle.checks.proofs.Lines.{Highest}
 use Rattle.checks.proofs.Placed.{InQueue, Belongs, tells-belongs}
@@ -43,9 +44,9 @@ able-queued i = ⊎-elim (λ k. one-place i k (λ z. omega arith)) (λ k. one-pl
 
 queued-in : (m : List ℕ) (s : State) (R : Reads m s) (t e : ℕ) → Queued s t e → (t < 256) × (e < 64)
 queued-in m s R t e (inl i) =
-    (omega (arith, seated m s R t i (omega arith)), omega (arith, seat-small m s R t i))
+    (omega (arith, seated s (R .neat) t i (omega arith)), omega (arith, seat-small s (R .neat) t i))
 queued-in m s R t e (inr i) =
-    (omega (arith, seated m s R t i (omega arith)), omega (arith, seat-small m s R t i))
+    (omega (arith, seated s (R .neat) t i (omega arith)), omega (arith, seat-small s (R .neat) t i))
 
 -- From what is left of the tests to Sound
 
@@ -89,7 +90,7 @@ module _ (m : List ℕ) (s : State) (R : Reads m s) (L : Left m s) where
   ready-there t p k = let r = L .levels p (level-in t p k) t k in ((r .0 .0, r .1), r .0 .1)
 
   in-level : (t : ℕ) → Ready s t → Mem t (s .levels (s .threads t .priority))
-  in-level t r = go (L .placed t (omega (arith, seated m s R t (r .0) (omega arith))) .0 .1 (inl r))
+  in-level t r = go (L .placed t (omega (arith, seated s (R .neat) t (r .0) (omega arith))) .0 .1 (inl r))
     where
       go : InQueue s t → Mem t (s .levels (s .threads t .priority))
       go (q, k, i) = at-queue (queue? q (omega arith))
@@ -141,7 +142,7 @@ module _ (m : List ℕ) (s : State) (R : Reads m s) (L : Left m s) where
             (L .waiters e (queued-in m s R t e (inl i) .1) .0);
         on-line = λ t l. (
           λ i. L .lines l (line-in l t i) t i,
-          λ i. L .threads t (omega (arith, seated m s R t i (omega arith))) .0 l i,
+          λ i. L .threads t (omega (arith, seated s (R .neat) t i (omega arith))) .0 l i,
         );
       }
 
@@ -214,10 +215,6 @@ module _ (m : List ℕ) (s : State) (R : Reads m s) (L : Left m s) where
       }
 
 -- From Sound to what is left of the tests
-
-nobody : (l : List ℕ) → ((t : ℕ) → Mem t l → ⊥) → l ≡ []
-nobody [] h = refl
-nobody (t ∷ l) h = absurd (h t (inl refl))
 
 module _ (m : List ℕ) (s : State) (R : Reads m s) (S : Sound s) (K : Linked m (queuesOf s)) where
   pending-sends :

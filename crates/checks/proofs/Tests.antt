@@ -5,13 +5,11 @@ use mathlib.Core.Path.{_≡_, refl, sym, subst}
 use mathlib.Core.Logic.{_⊎_, inl, inr, ⊎-elim}
 use mathlib.Core.Bool.{Bool, true, false, _&&_}
 use mathlib.Core.List.{List, [], _∷_}
-use native.Mathlib.Omega.{arith}
 use lib.Dec.{ltb}
 use borrow.Author.Tests.{ltb-true, lt-ltb}
 use Rattle.machine.specs.Lists.{pick, Mem}
 use Rattle.machine.proofs.Lists.{clash}
-use Rattle.layout.specs.Tables.{all}
-use Rattle.layout.proofs.Tests.{Tells, tells-true, tells-map, tells-and, tells-all}
+use Rattle.layout.proofs.Tests.{Tells, tells-true, tells-map, tells-and}
 
 pub tells-ltb : (m n : ℕ) → Tells (ltb m n) (m < n)
 tells-ltb m n = record { holds = ltb-true m n; back = lt-ltb m n }
@@ -31,13 +29,6 @@ tells-pick {c} {a} {b} {C} {A} {B} t f g = go c refl
         rw e (tells-map (λ p. (λ _. p, λ n. absurd (n (t .holds e)))) (λ p. p .0 (t .holds e)) f)
     go false e =
         rw e (tells-map (λ q. (λ p. absurd (clash (t .back p) e), λ _. q)) (λ p. p .1 (λ k. clash (t .back k) e)) g)
-
--- Each index below n.
-pub tells-index :
-    (n : ℕ) (f : ℕ → Bool) (P : ℕ → Type 0) → ((i : ℕ) → i < n → Tells (f i) (P i))
-    → Tells (all n f) ((i : ℕ) → i < n → P i)
-tells-index n f P h =
-    tells-all n f (λ i. i < n → P i) (λ i k. tells-map (λ p _. p) (λ p. p k) (h i k)) (λ i g k. absurd (omega arith))
 
 -- The test holds for each in the list.
 abbrev pub every : (ℕ → Bool) → List ℕ → Bool

@@ -10,11 +10,11 @@ use native.Mathlib.Omega.{arith}
 use Rattle.machine.specs.Lists.{Mem}
 use Rattle.machine.specs.State.{State, able}
 use Rattle.layout.specs.Addresses.{status, aborting, next, prev, linkAt, word}
-use Rattle.layout.proofs.Tests.{Tells, tells-map, tells-and}
+use Rattle.layout.proofs.Tests.{Tells, tells-map, tells-and, tells-below}
 use Rattle.checks.specs.Checks.{endpointIn, blockTest, levelTest, statusTest, abortTest, waitersTest}
 use Rattle.checks.specs.Checks.{endpointTest, lineTest, summaryTest, runningTest, unusedTest, placedTest}
 use Rattle.checks.specs.Checks.{goodTest}
-use Rattle.checks.proofs.Tests.{tells-itself, tells-index}
+use Rattle.checks.proofs.Tests.{tells-itself}
 use Rattle.checks.proofs.Reading.{Reads, tells-level}
 use Rattle.checks.proofs.Blocks.{Waits, Owes, tells-block}
 use Rattle.checks.proofs.Ends.{Paired, tells-paired, status-passes}
@@ -54,10 +54,10 @@ tells-tried m =
     (λ T.
     (((((((T .blocks, T .levels), T .ends), T .lines), T .summary), T .running), T .unused), T .placed))
     (tells-and (tells-and (tells-and (tells-and (tells-and (tells-and (tells-and
-    (tells-index 256 _ _ (λ t h. tells-itself)) (tells-index 256 _ _ (λ p h. tells-itself)))
-    (tells-index 64 _ _ (λ e h. tells-and (tells-and tells-itself tells-itself) tells-itself)))
-    (tells-index 32 _ _ (λ l h. tells-itself))) tells-itself) tells-itself)
-    (tells-index 470 _ _ (λ i h. tells-itself))) (tells-index 256 _ _ (λ t h. tells-itself)))
+    (tells-below 256 _ _ (λ t h. tells-itself)) (tells-below 256 _ _ (λ p h. tells-itself)))
+    (tells-below 64 _ _ (λ e h. tells-and (tells-and tells-itself tells-itself) tells-itself)))
+    (tells-below 32 _ _ (λ l h. tells-itself))) tells-itself) tells-itself)
+    (tells-below 470 _ _ (λ i h. tells-itself))) (tells-below 256 _ _ (λ t h. tells-itself)))
 
 -- What is left of the tests.
 pub record Left (m : List ℕ) (s : State) : Type 0 where

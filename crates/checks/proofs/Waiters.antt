@@ -17,14 +17,13 @@ use Rattle.layout.specs.Addresses.{word, afterAt}
 use Rattle.layout.specs.Words.{firstOf, lastOf, placeCode, abortCode, badgeCode}
 use Rattle.layout.specs.Shows.{Chain}
 use Rattle.layout.specs.Decode.{between, queueFrom}
-use Rattle.layout.proofs.Chains.{chain-first}
+use Rattle.layout.proofs.Chains.{chain-first, first-zero}
 use Rattle.layout.proofs.Walks.{between-back}
 use Rattle.layout.proofs.Tests.{Tells, tells-map, tells-and, tells-or, tells-eqb}
 use Rattle.checks.specs.Checks.{threadIn, endpointIn, ahead, waitersFrom, kindOf, bannedOf, waitersTest}
 use Rattle.checks.proofs.Tests.{tells-itself, every, tells-every, told}
 use Rattle.checks.proofs.Walks.{phased, waiters-split, walk-found, walk-along, chain-distinct}
 use Rattle.checks.proofs.Cursors.{Marked, tells-marked}
-use Rattle.checks.proofs.Ends.{first-none}
 use Rattle.checks.proofs.Reading.{Reads, end-joined, tells-seat}
 
 -- The place that all in the queue must have, and the badge that may not stand outside the marks.
@@ -170,7 +169,7 @@ module _ (m : List ℕ) (s : State) (R : Reads m s) (e : ℕ) (h : e ≤ 63) whe
 
   alike : Kind m e → AllOf m e l → Alike s e
   alike (inl k) A = inl (sends A k)
-  alike (inr k) A = inr (receives A (k .0), first-none pend (sym (R .slots (ofEndpoint cursor e) h) ∙ k .1))
+  alike (inr k) A = inr (receives A (k .0), first-zero pend (sym (R .slots (ofEndpoint cursor e) h) ∙ k .1))
 
   none-outside : Kind m e → AllOf m e l → Marks-in m e l → NoneOutside s e
   none-outside (inr k) A M a t i p u b =

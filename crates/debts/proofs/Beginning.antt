@@ -19,7 +19,7 @@ use Rattle.layout.proofs.Standing.{queues-endpoint}
 use Rattle.words.specs.Access.{Address}
 use Rattle.links.specs.Links.{First}
 use Rattle.links.proofs.Readings.{tail-word}
-use Rattle.links.proofs.Splits.{first-zero}
+use Rattle.layout.proofs.Chains.{first-zero}
 use Rattle.store.specs.Steps.{Shown, Does, Tells}
 use Rattle.store.specs.Store.{IsThread, Owes, Aborts}
 use Rattle.store.specs.Readings.{placeIn}

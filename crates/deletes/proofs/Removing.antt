@@ -12,7 +12,7 @@ use Rattle.machine.specs.Aborts.{Removal, oneMore, removeUpTo}
 use Rattle.layout.specs.Words.{firstOf}
 use Rattle.layout.specs.Shows.{Shows}
 use Rattle.links.specs.Links.{First}
-use Rattle.links.proofs.Splits.{first-zero}
+use Rattle.layout.proofs.Chains.{first-zero}
 use Rattle.store.specs.Steps.{Shown, Does}
 use Rattle.queues.specs.Queues.{Waits}
 use Rattle.debts.proofs.Beginning.{first-waiter}

@@ -17,7 +17,7 @@ use Rattle.machine.specs.State.{State}
 use Rattle.machine.specs.Results.{Result, plain, refuse}
 use Rattle.machine.specs.Aborts.{delete, abort}
 use Rattle.machine.specs.Machine.{createThread, destroyThread, setPriority, createEndpoint, interrupt, tick, send}
-use Rattle.machine.specs.Machine.{receive, yield, wait, byCaller, perform, performIf, step}
+use Rattle.machine.specs.Machine.{receive, yield, wait, perform, performIf, step}
 use Rattle.machine.specs.Sound.{Sound}
 use Rattle.machine.proofs.Lists.{clash}
 use Rattle.layout.specs.Words.{linkOf}

@@ -1,7 +1,7 @@
 -- The entry: where the check refuses the call comes to the check's number; else to the machine's step.
 -- Assumes nothing.
 use Prim.Native.Nat.{ℕ}
-use mathlib.Core.Path.{_≡_, refl, sym, _∙_, ap, subst}
+use mathlib.Core.Path.{_≡_, refl, ap}
 use mathlib.Core.Bool.{Bool, true, false, _&&_}
 use mathlib.Core.Option.{Option, none, some}
 use mathlib.Core.List.{List}
@@ -16,11 +16,10 @@ use Rattle.machine.specs.Results.{plain}
 use Rattle.machine.specs.Machine.{step}
 use Rattle.machine.specs.Sound.{Sound}
 use Rattle.machine.proofs.Steps.{step-sound}
-use Rattle.layout.specs.Words.{image}
 use Rattle.layout.specs.Tables.{stateOf}
 use Rattle.layout.proofs.Image.{shows-image}
 use Rattle.layout.proofs.Tables.{state-exact, state-shows}
-use Rattle.tables.specs.Entries.{Checked, verdict, checked, zeros}
+use Rattle.tables.specs.Entries.{Checked, verdict, checked}
 use Rattle.store.specs.Steps.{Shown}
 use Rattle.results.specs.Results.{Performs}
 use Rattle.kernel.specs.Entry.{Called, taken, called}

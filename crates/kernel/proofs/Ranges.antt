@@ -1,16 +1,12 @@
 -- What a call in range says of its numbers, and which calls the running thread makes.
 -- Assumes nothing.
-use Prim.Native.Nat.{ℕ, suc, _≤_, _<_, _^_}
-use mathlib.Core.Path.{_≡_, refl, subst}
-use mathlib.Core.Bool.{Bool, true, false, _&&_}
-use mathlib.Core.Logic.{_⊎_, inl, inr}
-use native.Mathlib.Omega.{arith}
+use Prim.Native.Nat.{ℕ, _≤_, _<_, _^_}
+use mathlib.Core.Bool.{_&&_}
 use lib.Dec.{leb, ltb}
 use borrow.Author.Tests.{leb-true, ltb-true}
-use Rattle.machine.specs.declared.Call.{Call}
-use Rattle.machine.specs.declared.Call.the-variants.{CreateThread, DestroyThread, SetPriority, CreateEndpoint}
-use Rattle.machine.specs.declared.Call.the-variants.{Interrupt, Tick, Send, Receive, Yield, Wait, Delete, Abort}
-use Rattle.machine.specs.Calls.{numberOf, inRange, isAllowance}
+use Rattle.machine.specs.declared.Call.the-variants.{CreateThread}
+use Rattle.machine.specs.declared.Call.the-variants.{Send, Delete, Abort}
+use Rattle.machine.specs.Calls.{isAllowance}
 use Rattle.machine.proofs.Aborting.{both-true}
 use Rattle.kernel.specs.Steps.{Ranged}
 

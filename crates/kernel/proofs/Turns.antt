@@ -2,30 +2,24 @@
 -- Assumes nothing.
 use Prim.Native.Nat.{ℕ}
 use mathlib.Core.Path.{_≡_, refl, sym, _∙_, ap}
-use mathlib.Core.Bool.{Bool, true, false, _&&_}
-use mathlib.Core.Option.{Option, none, some}
 use mathlib.Core.List.{List, [], _∷_, _++_, append-nil}
-use lib.Dec.{eqb}
-use lib.ListN.{length, replicate, length-replicate}
+use lib.ListN.{length, length-replicate}
 use lib.Seq.{append-snoc}
 use borrow.Author.Tests.{eq-eqb}
-use Rattle.machine.specs.declared.Answer.{Answer}
 use Rattle.machine.specs.declared.Call.{Call}
-use Rattle.machine.specs.Lists.{pick}
-use Rattle.machine.specs.State.{State, freshState}
+use Rattle.machine.specs.State.{State}
 use Rattle.machine.specs.Machine.{step}
 use Rattle.machine.specs.Sound.{Sound}
-use Rattle.machine.specs.History.{History, Run, freshRun, runFrom, historyOf, recorded, told}
+use Rattle.machine.specs.History.{Run, freshRun, runFrom, historyOf, recorded, told}
 use Rattle.machine.specs.Claim.{Claim}
 use Rattle.machine.proofs.Demand.{demand}
 use Rattle.machine.proofs.Steps.{step-sound, fresh-sound}
 use Rattle.layout.specs.Words.{image}
-use Rattle.layout.specs.Tables.{stateOf}
 use Rattle.layout.proofs.Image.{length-image}
 use Rattle.layout.proofs.Tables.{state-image}
 use Rattle.tables.specs.Entries.{zeros, freshened}
-use Rattle.kernel.specs.Entry.{Called, taken, called}
-use Rattle.kernel.specs.Turns.{Turns, turns}
+use Rattle.kernel.specs.Entry.{Called, called}
+use Rattle.kernel.specs.Turns.{turns}
 
 -- On the memory of a sound state a call does what the machine does.
 pub called-image :

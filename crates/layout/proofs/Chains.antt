@@ -4,6 +4,7 @@ use Prim.Native.Nat.{ℕ, suc}
 use mathlib.Core.Path.{_≡_, refl, sym, _∙_, ap, subst}
 use mathlib.Core.Logic.{inl, inr}
 use mathlib.Core.List.{List, [], _∷_}
+use native.Mathlib.Omega.{arith}
 use borrow.Author.Tests.{eq-eqb, ne-eqb}
 use Rattle.machine.specs.Lists.{Mem, Distinct}
 use Rattle.machine.proofs.Lists.{Same, same, other, same?}
@@ -30,6 +31,11 @@ unfolding beforeIn
 before-miss x t u l n = rw (ne-eqb u t n)
 
 -- A thread that is not in the list has no neighbours there.
+-- A queue whose first link is 0 is empty.
+pub first-zero : (l : List ℕ) → firstOf l ≡ 0 → l ≡ []
+first-zero [] e = refl
+first-zero (t ∷ l) e = absurd (omega arith)
+
 pub after-none : (t : ℕ) (l : List ℕ) → (Mem t l → ⊥) → afterIn t l ≡ 0
 unfolding afterIn
 after-none t [] n = refl

@@ -31,10 +31,10 @@ neither f g = (λ a. absurd (f a), λ b. absurd (g b))
 module _ (s : State) (N : Neat s) where
   -- Numbers of a neat state that are out of range name nothing.
 
-  seated : (t : ℕ) {q : Place} → s .threads t .place ≡ q → 1 ≤ placeCode q → t ≤ 255
+  pub seated : (t : ℕ) {q : Place} → s .threads t .place ≡ q → 1 ≤ placeCode q → t ≤ 255
   seated t e h = N .threads t .numbers (not-absent e h) .thread
 
-  seat-small : (t : ℕ) {q : Place} → s .threads t .place ≡ q → PlaceSmall q
+  pub seat-small : (t : ℕ) {q : Place} → s .threads t .place ≡ q → PlaceSmall q
   seat-small t e = subst PlaceSmall e (N .threads t .place-small)
 
   ready-seated : (t : ℕ) → 256 ≤ t → Ready s t → ⊥

@@ -31,7 +31,7 @@ unfolding tabulate
 length-tabulate zero f = refl
 length-tabulate (suc n) f = ap suc (length-tabulate n (λ i. f (suc i)))
 
-getD-tabulate : (n : ℕ) (f : ℕ → ℕ) (i : ℕ) → i < n → getD (tabulate n f) i 0 ≡ f i
+pub getD-tabulate : (n : ℕ) (f : ℕ → ℕ) (i : ℕ) → i < n → getD (tabulate n f) i 0 ≡ f i
 unfolding tabulate
 getD-tabulate zero f i h = absurd (omega arith)
 getD-tabulate (suc n) f zero h = refl

@@ -90,7 +90,7 @@ tells-not {a} {A} s = go (decided s)
 
 -- Indices
 
-tells-below :
+pub tells-below :
     (n : ℕ) (f : ℕ → Bool) (P : ℕ → Type 0) → ((i : ℕ) → i < n → Tells (f i) (P i))
     → Tells (all n f) ((i : ℕ) → i < n → P i)
 unfolding all

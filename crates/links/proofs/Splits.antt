@@ -34,10 +34,6 @@ last-of x [] k o s = o
 last-of x (t ∷ l) k o s = last-of (suc t) l k (s t (inl refl)) (λ u m. s u (inr m))
 
 -- An empty list is one whose first link is 0.
-pub first-zero : (l : List ℕ) → firstOf l ≡ 0 → l ≡ []
-first-zero [] e = refl
-first-zero (t ∷ l) e = absurd (omega arith)
-
 pub last-snoc : (x t : ℕ) (l : List ℕ) → lastOf x (l ++ (t ∷ [])) ≡ suc t
 last-snoc x t [] = refl
 last-snoc x t (u ∷ l) = last-snoc (suc u) t l

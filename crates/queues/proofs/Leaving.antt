@@ -15,7 +15,7 @@ use Rattle.layout.specs.Shows.{Linked, Shows}
 use Rattle.layout.proofs.Standing.{queues-level, queues-endpoint as endpoint-queue}
 use Rattle.links.specs.Links.{Leavable, Leaves, First}
 use Rattle.links.proofs.Neatness.{linked-neat, free-leave}
-use Rattle.links.proofs.Splits.{first-zero}
+use Rattle.layout.proofs.Chains.{first-zero}
 use Rattle.store.specs.Steps.{Shown, Does, Tells}
 use Rattle.store.specs.Store.{IsThread}
 use Rattle.store.specs.Readings.{priorityIn}

@@ -1,26 +1,26 @@
 -- What the steps ask holds in the middle of every call.
 -- Assumes nothing.
-use Prim.Native.Nat.{ℕ, _+_, _≤_, _<_}
-use mathlib.Core.Path.{_≡_, refl, sym, _∙_, ap, subst}
+use Prim.Native.Nat.{ℕ, _≤_, _<_}
+use mathlib.Core.Path.{_≡_, refl, sym, subst}
 use mathlib.Core.Logic.{_⊎_, inl, inr, ⊎-elim}
 use mathlib.Core.Option.{Option, none, some}
-use mathlib.Core.List.{List, [], _∷_, _++_}
+use mathlib.Core.List.{List, [], _∷_}
 use native.Mathlib.Omega.{arith}
-use Rattle.machine.specs.Lists.{put, without, Mem, Distinct}
+use Rattle.machine.specs.Lists.{put, without, Mem}
 use Rattle.machine.specs.State.{State, Place, absent, able, sending, receiving, owns, Abort, awaited, quiet}
 use Rattle.machine.specs.State.{Endpoint, missingEndpoint, setLine}
 use Rattle.machine.specs.Endpoints.{ownerOf, pendingOf}
 use Rattle.machine.specs.Scheduling.{unqueue}
-use Rattle.machine.specs.Sound.{Present, Ready, Queued, Part}
+use Rattle.machine.specs.Sound.{Present, Ready, Queued}
 use Rattle.machine.specs.Mid.{Mid}
-use Rattle.machine.proofs.Lists.{Same, same, other, same?, put-same, put-other, mem-left, mem-right, mem-without}
+use Rattle.machine.proofs.Lists.{Same, same, other, same?, put-same, put-other, mem-without}
 use Rattle.machine.proofs.Sites.{differ, not-at}
 use Rattle.machine.proofs.Aborting.{running-present}
 use Rattle.layout.specs.Words.{queuesOf}
 use Rattle.layout.proofs.Addresses.{below?}
 use Rattle.layout.proofs.Standing.{queue?, Queue, level, endpoint, queues-level, queues-endpoint}
 use Rattle.links.specs.Links.{Free}
-use Rattle.store.specs.Store.{HasAbort, creating, prioritising}
+use Rattle.store.specs.Store.{creating, prioritising}
 use Rattle.queues.specs.Queues.{Loose, Stands, Chooses, Comes, Waits}
 use Rattle.debts.specs.Debts.{Debtor, Calls, Joins, Endable, AllAt, Alike, Begins, First}
 

@@ -1,12 +1,12 @@
 -- The end of a call: refused, accepted, and steps before the end.
 -- Assumes nothing.
 use Prim.Native.Nat.{ℕ}
-use mathlib.Core.Path.{_≡_, refl, sym, _∙_, ap, subst}
+use mathlib.Core.Path.{_≡_, refl, _∙_, ap, subst}
 use mathlib.Core.List.{List, []}
 use Rattle.machine.specs.declared.Answer.{Answer}
 use Rattle.machine.specs.State.{State}
 use Rattle.machine.specs.Scheduling.{choose}
-use Rattle.machine.specs.Results.{Result, Look, plain, accept, done, blocked, refuse}
+use Rattle.machine.specs.Results.{Result, plain, accept, refuse}
 use Rattle.layout.specs.Shows.{Shows}
 use Rattle.store.specs.Steps.{Shown, Does}
 use Rattle.queues.specs.Queues.{Chooses}

@@ -18,7 +18,7 @@ use Rattle.machine.proofs.Debts.{dropDebt-drops}
 use Rattle.layout.specs.Words.{placeCode, firstOf}
 use Rattle.layout.specs.Shows.{Shows}
 use Rattle.links.specs.Links.{First}
-use Rattle.links.proofs.Splits.{first-zero}
+use Rattle.layout.proofs.Chains.{first-zero}
 use Rattle.store.specs.Steps.{Tells}
 use Rattle.store.specs.Store.{IsThread}
 use Rattle.store.specs.Readings.{placeIn}

@@ -8,6 +8,7 @@ use lib.Dec.{eqb, eqb·zero-suc, eqb·suc-zero, eqb·suc-suc}
 use lib.ListN.{length, getD, set, drop, replicate, drop-of-length-le}
 use Rattle.machine.specs.Lists.{pick, put}
 use Rattle.layout.specs.Words.{tabulate}
+use Rattle.layout.proofs.Image.{getD-tabulate}
 use Rattle.walks.specs.Marks.{marksOf, nobody}
 
 -- A fill up to the end has filled all.
@@ -16,12 +17,6 @@ pub filled :
 filled d i v l h =
     let e : i ≡ length d = omega arith in
     rw (drop-of-length-le d h, append-nil) (ap (λ (n : ℕ). replicate n v) e)
-
-getD-tabulate : (n : ℕ) (f : ℕ → ℕ) (i : ℕ) → i < n → getD (tabulate n f) i 0 ≡ f i
-unfolding tabulate
-getD-tabulate zero f i h = absurd (omega arith)
-getD-tabulate (suc n) f zero h = refl
-getD-tabulate (suc n) f (suc i) h = getD-tabulate n (λ k. f (suc k)) i (omega arith)
 
 same-table : (n : ℕ) (f g : ℕ → ℕ) → ((i : ℕ) → f i ≡ g i) → tabulate n f ≡ tabulate n g
 same-table n f g h = ap (tabulate n) (fun-ext h)
