@@ -13,7 +13,7 @@ use Rattle.journal.specs.declared.types.Read.the-variants.{Found}
 use Rattle.journal.specs.Words.{wordsOf, readAt}
 use Rattle.journal.proofs.RoundTrip.{writes-what-was-read}
 use Rattle.io.specs.Counts.{Counts}
-use Rattle.trace.specs.Turns.{bit}
+use Rattle.batches.specs.Turns.{bit}
 
 some-words : (c : Call) → 0 < length (wordsOf c)
 unfolding wordsOf

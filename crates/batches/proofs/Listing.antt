@@ -20,10 +20,10 @@ use Rattle.listing.specs.Line.{lineOf}
 use Rattle.listing.specs.Buffer.{Wrote}
 use Rattle.listing.proofs.Texts.{pasted-nil, wrote-then}
 use Rattle.kernel.specs.Entry.{Called, called, runningLink}
-use Rattle.trace.specs.declared.lines.Cursor.{Cursor}
-use Rattle.trace.specs.Turns.{bit, lastCode, readyFor}
-use Rattle.trace.specs.Rows.{threadOf, takenFrom}
-use Rattle.trace.specs.Lines.{callLine, lastLine, Took, Stopped, Stepped, linesOf, lastOf, NoCall, Listed}
+use Rattle.batches.specs.declared.Cursor.{Cursor}
+use Rattle.batches.specs.Turns.{bit, lastCode, readyFor}
+use Rattle.batches.specs.Rows.{threadOf, takenFrom}
+use Rattle.batches.specs.Lines.{callLine, lastLine, Took, Stopped, Stepped, linesOf, lastOf, NoCall, Listed}
 
 -- Whether the next call can be listed.
 

@@ -1,12 +1,12 @@
--- `trace::lines::step` meets its contract: a call that is found ends within the words, behind the place it was read at,
+-- `batches::step` meets its contract: a call that is found ends within the words, behind the place it was read at,
 -- and the line has the answer and the running thread of the tables after it.
 -- Assumes nothing.
 use mathlib.Core.Path.{refl, sym, _∙_}
 use borrow.Author.Needs.{needs}
-use Rattle.trace.proofs.Reading.{Onward, found-onward}
-use Rattle.trace.proofs.Bytes.{step-took, step-stopped}
-use Rattle.trace.proofs.lines.step.Statement.{statement}
-use Rattle.trace.proofs.lines.step.Tie as tie
+use Rattle.batches.proofs.Reading.{Onward, found-onward}
+use Rattle.batches.proofs.Bytes.{step-took, step-stopped}
+use Rattle.batches.proofs.step.Statement.{statement}
+use Rattle.batches.proofs.step.Tie as tie
 
 -- where a call was found
 onward :

@@ -23,10 +23,10 @@ use Rattle.journal.proofs.types.Read.{the-type}
 use Rattle.listing.specs.Line.{lineOf}
 use Rattle.listing.specs.Buffer.{written, after, pasted, Wrote}
 use Rattle.kernel.specs.Entry.{Called, called, runningLink}
-use Rattle.trace.specs.declared.lines.Cursor.{Cursor}
-use Rattle.trace.specs.Turns.{lastCode}
-use Rattle.trace.specs.Rows.{threadOf}
-use Rattle.trace.specs.Lines.{Added, callLine, lastLine, Took, Stopped, Stepped}
+use Rattle.batches.specs.declared.Cursor.{Cursor}
+use Rattle.batches.specs.Turns.{lastCode}
+use Rattle.batches.specs.Rows.{threadOf}
+use Rattle.batches.specs.Lines.{Added, callLine, lastLine, Took, Stopped, Stepped}
 
 -- Who runs, by the link.
 

@@ -16,9 +16,9 @@ use Rattle.journal.specs.Rows.{Row}
 use Rattle.listing.specs.Line.{lineOf}
 use Rattle.listing.specs.Buffer.{Wrote}
 use Rattle.kernel.specs.Entry.{Called, called, runningLink}
-use Rattle.trace.specs.declared.lines.Cursor.{Cursor}
-use Rattle.trace.specs.Turns.{lastCode}
-use Rattle.trace.specs.Rows.{threadOf, takenFrom}
+use Rattle.batches.specs.declared.Cursor.{Cursor}
+use Rattle.batches.specs.Turns.{lastCode}
+use Rattle.batches.specs.Rows.{threadOf, takenFrom}
 
 -- Where every line has room behind the bytes used, these bytes stand there; r counts them all.
 pub record Added (out : List ℕ) (used : ℕ) (bytes : List ℕ) (r : ℕ) (out′ : List ℕ) : Type 0 where

@@ -1,11 +1,11 @@
--- `trace::lines::odd_code` meets its contract: its test is whether there are odd bytes.
+-- `batches::odd_code` meets its contract: its test is whether there are odd bytes.
 -- Assumes nothing.
 use Prim.Native.Nat.{ℕ, zero, suc}
 use mathlib.Core.Path.{_≡_, refl}
 use borrow.Author.Needs.{needs}
-use Rattle.trace.specs.Turns.{oddCode}
-use Rattle.trace.proofs.lines.odd_code.Statement.{statement}
-use Rattle.trace.proofs.lines.odd_code.Tie as tie
+use Rattle.batches.specs.Turns.{oddCode}
+use Rattle.batches.proofs.odd_code.Statement.{statement}
+use Rattle.batches.proofs.odd_code.Tie as tie
 
 some-odd : (n : ℕ) → (n ≡ 0 → ⊥) → 18 ≡ oddCode n
 some-odd zero h = absurd (h refl)

@@ -21,7 +21,7 @@ use Rattle.tables.specs.Entries.{freshened, zeros}
 use Rattle.kernel.specs.Entry.{Called, called, runningLink}
 use Rattle.kernel.proofs.Runner.{running-image}
 use Rattle.kernel.proofs.Turns.{called-image}
-use Rattle.trace.specs.Rows.{threadOf, takenFrom, takenRows}
+use Rattle.batches.specs.Rows.{threadOf, takenFrom, takenRows}
 
 linked : (o : Option ℕ) → threadOf (linkOf o) ≡ o
 linked none = refl

@@ -1,16 +1,16 @@
--- `trace::lines::batch` meets its contract, each step adding its row's line, and ends: the words left to read get
+-- `batches::batch` meets its contract, each step adding its row's line, and ends: the words left to read get
 -- fewer, or the listing stops.
 -- Assumes nothing.
 use Prim.Native.Nat.{_+_, _-_, _^_, _≤_, _<_}
 use mathlib.Core.Path.{_≡_, refl}
 use lib.ListN.{length}
 use borrow.Author.Needs.{needs}
-use Rattle.trace.specs.Turns.{bit, readyFor}
-use Rattle.trace.specs.Lines.{Listed}
-use Rattle.trace.proofs.Reading.{fewer, counts}
-use Rattle.trace.proofs.Listing.{not-both, told-no, none-listed, room-for-one, one-more}
-use Rattle.trace.proofs.lines.batch.Statement.{statement}
-use Rattle.trace.proofs.lines.batch.Tie as tie
+use Rattle.batches.specs.Turns.{bit, readyFor}
+use Rattle.batches.specs.Lines.{Listed}
+use Rattle.batches.proofs.Reading.{fewer, counts}
+use Rattle.batches.proofs.Listing.{not-both, told-no, none-listed, room-for-one, one-more}
+use Rattle.batches.proofs.batch.Statement.{statement}
+use Rattle.batches.proofs.batch.Tie as tie
 
 abbrev Inv-loop : tie.InvT-loop
 Inv-loop words tail index tables₀ scratch₀ out₀ at₀ tables scratch out at =

@@ -1,4 +1,5 @@
-// The lines of the calls that words hold.
+// The lines of a batch of a journal's words: each call is read, taken and given its line.
+// Which rows and which bytes they are stands in specs/Rows and specs/Lines.
 ghost use Prim.Native.Nat.{_+_, _-_, _^_, _≤_, _<_};
 ghost use mathlib.Core.Path.{_≡_};
 ghost use mathlib.Core.Bool.{true, false};
@@ -7,9 +8,9 @@ ghost use Rattle.io.specs.Counts.{Counts};
 ghost use Rattle.journal.specs.Words.{readAt};
 ghost use Rattle.kernel.specs.Entry.{runningLink};
 ghost use Rattle.listing.specs.Line.{lineOf, threadOf};
-ghost use Rattle.trace.specs.Turns.{bit, oddCode, lastCode, readyFor};
-ghost use Rattle.trace.specs.Rows as rows;
-ghost use Rattle.trace.specs.Lines.{Added, lastLine, Stepped, Listed};
+ghost use Rattle.batches.specs.Turns.{bit, oddCode, lastCode, readyFor};
+ghost use Rattle.batches.specs.Rows as rows;
+ghost use Rattle.batches.specs.Lines.{Added, lastLine, Stepped, Listed};
 use journal::types::Read;
 use listing::Running;
 use machine::Answer;

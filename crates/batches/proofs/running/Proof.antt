@@ -1,9 +1,9 @@
--- `trace::lines::running` meets its contract: a link is 0 for nobody, else one more than the thread.
+-- `batches::running` meets its contract: a link is 0 for nobody, else one more than the thread.
 -- Assumes nothing.
 use borrow.Author.Needs.{needs}
-use Rattle.trace.proofs.Bytes.{nobody, somebody}
-use Rattle.trace.proofs.lines.running.Statement.{statement}
-use Rattle.trace.proofs.lines.running.Tie as tie
+use Rattle.batches.proofs.Bytes.{nobody, somebody}
+use Rattle.batches.proofs.running.Statement.{statement}
+use Rattle.batches.proofs.running.Tie as tie
 
 running-requires : tie.Need-running-requires
 running-requires c κs = search needs

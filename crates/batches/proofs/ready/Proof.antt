@@ -1,4 +1,4 @@
--- `trace::lines::ready` meets its contract: its tests are those of the definition.
+-- `batches::ready` meets its contract: its tests are those of the definition.
 -- Assumes nothing.
 use Prim.Native.Nat.{_-_}
 use mathlib.Core.Path.{_≡_}
@@ -6,9 +6,9 @@ use mathlib.Core.Bool.{_||_}
 use mathlib.Core.Logic.{inl, inr}
 use lib.Dec.{leb}
 use borrow.Author.Needs.{needs}
-use Rattle.trace.proofs.Listing.{by-end, by-words, by-room, by-neither}
-use Rattle.trace.proofs.lines.ready.Statement.{statement}
-use Rattle.trace.proofs.lines.ready.Tie as tie
+use Rattle.batches.proofs.Listing.{by-end, by-words, by-room, by-neither}
+use Rattle.batches.proofs.ready.Statement.{statement}
+use Rattle.batches.proofs.ready.Tie as tie
 
 -- where the two ways to have all words meet
 words-come :

@@ -1,10 +1,10 @@
--- `trace::lines::add` meets its contract: the line stands at the front of the part behind the bytes used.
+-- `batches::add` meets its contract: the line stands at the front of the part behind the bytes used.
 -- Assumes nothing.
 use mathlib.Core.Path.{refl}
 use borrow.Author.Needs.{needs}
-use Rattle.trace.proofs.Bytes.{text-added}
-use Rattle.trace.proofs.lines.add.Statement.{statement}
-use Rattle.trace.proofs.lines.add.Tie as tie
+use Rattle.batches.proofs.Bytes.{text-added}
+use Rattle.batches.proofs.add.Statement.{statement}
+use Rattle.batches.proofs.add.Tie as tie
 
 sub-line : tie.Need-sub-line
 sub-line c = search needs

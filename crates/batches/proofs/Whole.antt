@@ -18,11 +18,11 @@ use Rattle.listing.specs.Line.{lineOf}
 use Rattle.listing.specs.Buffer.{Wrote}
 use Rattle.tables.specs.Entries.{freshened}
 use Rattle.kernel.specs.Entry.{runningLink}
-use Rattle.trace.specs.declared.lines.Cursor.{Cursor}
-use Rattle.trace.specs.Turns.{lastCode}
-use Rattle.trace.specs.Rows.{threadOf, takenFrom, takenRows}
-use Rattle.trace.specs.Lines.{lastLine, linesOf, lastOf, NoCall, Listed}
-use Rattle.trace.proofs.Rows.{rows-of-the-machine}
+use Rattle.batches.specs.declared.Cursor.{Cursor}
+use Rattle.batches.specs.Turns.{lastCode}
+use Rattle.batches.specs.Rows.{threadOf, takenFrom, takenRows}
+use Rattle.batches.specs.Lines.{lastLine, linesOf, lastOf, NoCall, Listed}
+use Rattle.batches.proofs.Rows.{rows-of-the-machine}
 
 lines-append : (a b : List Row) → linesOf (a ++ b) ≡ linesOf a ++ linesOf b
 lines-append [] b = refl

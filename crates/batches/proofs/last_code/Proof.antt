@@ -1,10 +1,10 @@
 -- What the last line says, by the reading. Assumes nothing.
 use borrow.Author.Needs.{needs}
-use Rattle.trace.proofs.lines.last_code.Statement.{statement}
-use Rattle.trace.proofs.lines.last_code.Tie as tie
-use Rattle.trace.proofs.lines.last_code.Reads as reads
-use Rattle.trace.proofs.lines.last_code.Lts as lts
-use Rattle.trace.proofs.lines.odd_code.Reads as odd-code-reads
+use Rattle.batches.proofs.last_code.Statement.{statement}
+use Rattle.batches.proofs.last_code.Tie as tie
+use Rattle.batches.proofs.last_code.Reads as reads
+use Rattle.batches.proofs.last_code.Lts as lts
+use Rattle.batches.proofs.odd_code.Reads as odd-code-reads
 
 enum-known-reading : tie.Need-enum-known-reading
 enum-known-reading c = search needs

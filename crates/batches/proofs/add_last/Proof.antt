@@ -1,9 +1,9 @@
--- `trace::lines::add_last` meets its contract, by whether there is a last line.
+-- `batches::add_last` meets its contract, by whether there is a last line.
 -- Assumes nothing.
 use borrow.Author.Needs.{needs}
-use Rattle.trace.proofs.Bytes.{no-last, last-added}
-use Rattle.trace.proofs.lines.add_last.Statement.{statement}
-use Rattle.trace.proofs.lines.add_last.Tie as tie
+use Rattle.batches.proofs.Bytes.{no-last, last-added}
+use Rattle.batches.proofs.add_last.Statement.{statement}
+use Rattle.batches.proofs.add_last.Tie as tie
 
 returns : tie.Need-returns
 returns c = (search needs, no-last _ _ _ _ _ (c .if1 .taken))
