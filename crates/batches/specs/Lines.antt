@@ -5,7 +5,7 @@ use mathlib.Core.Path.{_≡_}
 use mathlib.Core.Bool.{Bool, true, false}
 use mathlib.Core.Option.{Option}
 use mathlib.Core.List.{List, [], _∷_, _++_}
-use lib.ListN.{length}
+use lib.ListN.{length, drop}
 use Rattle.machine.specs.declared.Call.{Call}
 use Rattle.machine.specs.Calls.{numberOf}
 use Rattle.machine.specs.Results.{plain}
@@ -74,20 +74,30 @@ NoCall (Found c behind) = ⊥
 NoCall (Refused code place) = Unit {0}
 NoCall Ended = Unit {0}
 
--- The lines at the buffer's front are those of the rows that begin the journal's, and of the last line if the listing
--- stopped; the rows of the journal are these and then those from the cursor on.
+-- These rows begin the listing of every journal that begins with these words; the others are those of the words from
+-- `next` on and of whatever comes behind them.
+pub record Covers
+    (words : List ℕ) (i : ℕ) (m x : List ℕ) (rows : List Row) (next j : ℕ) (m′ x′ : List ℕ) : Type 0 where
+  pub within : next ≤ length words
+  pub rest :
+      (more : List ℕ) (n : ℕ)
+      → takenFrom (length rows + n) (readAt (words ++ more) 0) i (words ++ more) m x
+      ≡ rows ++ takenFrom n (readAt (drop next words ++ more) 0) j (drop next words ++ more) m′ x′
+  pub index : j ≡ i + length rows
+  pub few : length rows ≤ next
+
+-- The lines at the buffer's front are those of the rows that the batch covers, and the last line if the listing
+-- stopped: it stops only where no call stands, and where no words that may still come change that.
 pub record Listed
-    (words : List ℕ) (odd i : ℕ) (m x out : List ℕ) (r : Cursor) (m′ x′ out′ : List ℕ) : Type 0 where
+    (ended : Bool) (words : List ℕ) (odd i : ℕ) (m x out : List ℕ) (r : Cursor) (m′ x′ out′ : List ℕ) : Type 0 where
   pub rows : List Row
+  pub covers : Covers words i m x rows (r .next) (r .index) m′ x′
   pub bytes :
       Wrote out 0
       (linesOf rows
       ++ lastOf (r .going) (r .index) (lastCode (readAt words (r .next)) odd) (threadOf (runningLink m′)))
       (r .used) out′
-  pub rest :
-      (n : ℕ)
-      → takenFrom (length rows + n) (readAt words 0) i words m x
-      ≡ rows ++ takenFrom n (readAt words (r .next)) (r .index) words m′ x′
-  pub index : r .index ≡ i + length rows
-  pub few : length rows ≤ r .next
   pub over : r .going ≡ false → NoCall (readAt words (r .next))
+  pub sure :
+      r .going ≡ false → (more : List ℕ) → (ended ≡ true → more ≡ [])
+      → readAt (words ++ more) (r .next) ≡ readAt words (r .next)

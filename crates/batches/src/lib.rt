@@ -149,7 +149,7 @@ pub fn batch(
     ensures { λ r. ⌜ r .next ≤ length (now (words .entry)) ⌝ }
     ensures { λ r. ⌜ Counts (r .used) (now (out .exit)) ⌝ }
     ensures { λ r. ⌜ (index + length (now (words .entry)) < 2 ^ 64 →
-        Listed (now (words .entry)) (tail .odd) index
+        Listed (tail .ended) (now (words .entry)) (tail .odd) index
         (now (tables .entry)) (now (scratch .entry)) (now (out .entry))
         r (now (tables .exit)) (now (scratch .exit)) (now (out .exit))) ⌝ }
     ensures { λ r. ⌜ (r .going ≡ true →

@@ -8,7 +8,7 @@ use borrow.Author.Needs.{needs}
 use Rattle.batches.specs.Turns.{bit, readyFor}
 use Rattle.batches.specs.Lines.{Listed}
 use Rattle.batches.proofs.Reading.{fewer, counts}
-use Rattle.batches.proofs.Listing.{not-both, told-no, none-listed, room-for-one, one-more}
+use Rattle.batches.proofs.Listing.{not-both, told-no, none-listed, room-for-one, words-there, one-more}
 use Rattle.batches.proofs.batch.Statement.{statement}
 use Rattle.batches.proofs.batch.Tie as tie
 
@@ -16,7 +16,8 @@ abbrev Inv-loop : tie.InvT-loop
 Inv-loop words tail index tables₀ scratch₀ out₀ at₀ tables scratch out at =
     (length tables ≡ length tables₀) × (length scratch ≡ length scratch₀) × (length out ≡ length out₀)
     × (at .next ≤ length words) × (at .used ≤ length out₀)
-    × (index + length words < 2 ^ 64 → Listed words (tail .odd) index tables₀ scratch₀ out₀ at tables scratch out)
+    × (index + length words < 2 ^ 64 →
+    Listed (tail .ended) words (tail .odd) index tables₀ scratch₀ out₀ at tables scratch out)
 
 abbrev μ-loop : tie.MeasureT-loop
 μ-loop words tail index tables₀ scratch₀ out₀ at₀ tables scratch out at = length words + bit (at .going) - at .next
@@ -28,7 +29,7 @@ loop-holds c = (
   search needs,
   search needs,
   search needs,
-  λ h. none-listed _ _ _ _ _ _ _ refl refl refl refl,
+  λ h. none-listed _ _ _ _ _ _ _ _ refl refl refl refl,
 )
 
 ready-requires : tie.Need-ready-requires Inv-loop μ-loop
@@ -47,19 +48,25 @@ loop-less c =
 loop-again : tie.Need-loop-again Inv-loop μ-loop
 loop-again c =
     let s = c .before .before .before .before .before .before in
+    let told = s .before .before .before .before in
     let t = s .before .before .before .before .before .before in
     let start = t .before .before .before .before .before .before in
-    let inv = t .before .loop .inv in (
+    let inv = t .before .loop .inv in
+    let at = t .before .loop .at in
+    let count = length (start .args .words .now) in
+    let room = length (t .before .loop .out) in
+    let ended = start .args .tail .ended in (
       search needs,
       search needs,
       search needs,
       search needs,
       search needs,
       λ h.
-          one-more _ _ _ _ _ _ _ _ _ _ _ _ _ _ h (t .loop-test .taken)
-          (room-for-one _ _ (start .args .tail .ended) (length (start .args .words .now) - t .before .loop .at .next) _
-          (s .before .before .before .before .if1 .taken)
-          (s .before .before .before .before .before .ready .ensures) (search needs))
+          one-more _ _ _ _ _ _ _ _ _ _ _ _ _ _ _ h (t .loop-test .taken)
+          (words-there (at .next) count ended (room - at .used) _ (told .if1 .taken) (told .before .ready .ensures)
+          (search needs))
+          (room-for-one (at .used) room ended (count - at .next) _ (told .if1 .taken) (told .before .ready .ensures)
+          (search needs))
           (inv .2) (s .step .ensures .0) (s .step .ensures .1 .0) (s .step .ensures .1 .1 .1) (inv .5 h),
     )
 
@@ -77,8 +84,9 @@ returns c =
     let told = c .before .ready in
     let l = c .before .before .before in
     let a = l .before .before .before .before .before .args in
+    let at = l .loop .at in
     let ready =
-    readyFor (a .tail .ended) (length (a .words .now) - l .loop .at .next) (length (l .loop .out) - l .loop .at .used) in (
+    readyFor (a .tail .ended) (length (a .words .now) - at .next) (length (l .loop .out) - at .used) in (
       search needs,
       (
         counts _ _ (search needs),
