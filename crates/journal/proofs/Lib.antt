@@ -6,6 +6,7 @@ pub mod Causes
 pub mod Outcomes
 pub mod RoundTrip
 pub mod Refusals
+pub mod Appended
 pub mod Table
 pub mod Answers
 pub mod Example

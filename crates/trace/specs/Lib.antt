@@ -1,4 +1,1 @@
 pub mod Words
-pub mod Turns
-pub mod Rows
-pub mod Lines

@@ -5,10 +5,9 @@ ghost use mathlib.Core.Path.{_≡_};
 ghost use lib.ListN.{length};
 
 mod input;
-mod lines;
 mod output;
 
-use crate::lines::Tail;
+use batches::Tail;
 
 // Between two turns: the bytes held, whether no more will come, the next line's index, whether the listing goes on.
 struct Progress {
@@ -37,7 +36,7 @@ fn list(bytes: &[u8], ended: bool, index: u64, tables: &mut [u32], scratch: &mut
         ended,
         odd: bytes.len() % 4,
     };
-    let at = lines::batch(&words[..count], tail, index, tables, scratch, &mut out);
+    let at = batches::batch(&words[..count], tail, index, tables, scratch, &mut out);
     let used = at.used;
     let shown = output::show(&out[..used]);
     Listed {

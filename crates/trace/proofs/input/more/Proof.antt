@@ -1,7 +1,7 @@
 -- `trace::input::more` is safe: the bytes held are as before, or as after a read.
 -- Assumes nothing.
 use borrow.Author.Needs.{needs}
-use Rattle.trace.proofs.Reading.{counts}
+use Rattle.batches.proofs.Reading.{counts}
 use Rattle.trace.proofs.input.more.Statement.{statement}
 use Rattle.trace.proofs.input.more.Tie as tie
 

@@ -1,7 +1,7 @@
 -- `trace::input::read` is safe: a read gives no more bytes than there was room for.
 -- Assumes nothing.
 use borrow.Author.Needs.{needs}
-use Rattle.trace.proofs.Reading.{counts}
+use Rattle.batches.proofs.Reading.{counts}
 use Rattle.trace.proofs.input.read.Statement.{statement}
 use Rattle.trace.proofs.input.read.Tie as tie
 

@@ -5,7 +5,7 @@ use mathlib.Core.Path.{_≡_}
 use lib.ListN.{length}
 use borrow.Author.Needs.{needs}
 use Rattle.trace.specs.Words.{WordsOf}
-use Rattle.trace.proofs.Reading.{counts}
+use Rattle.batches.proofs.Reading.{counts}
 use Rattle.trace.proofs.Buffers.{no-words, one-word-more, fewer-words}
 use Rattle.trace.proofs.input.words.Statement.{statement}
 use Rattle.trace.proofs.input.words.Tie as tie
