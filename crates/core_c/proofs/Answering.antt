@@ -9,11 +9,12 @@ use Rattle.machine.specs.declared.Call.{Call}
 use Rattle.machine.specs.Results.{plain}
 use Rattle.tables.specs.Entries.{Checked, checked}
 use Rattle.journal.specs.declared.types.Written.{Written}
+use Rattle.journal.specs.declared.types.Named.{Named}
+use Rattle.journal.specs.Steps.{named, nameOf}
+use Rattle.journal.proofs.Answers.{name-named}
 use Rattle.kernel.specs.Entry.{Called}
-use Rattle.core_c.specs.declared.types.Named.{Named}
-use Rattle.core_c.specs.Numbers.{callIn, named, nameOf}
+use Rattle.core_c.specs.Numbers.{callIn}
 use Rattle.core_c.specs.Entries.{Answered, refusal, calledFor, four, asAnswered, answered, writtenFor}
-use Rattle.core_c.proofs.Naming.{name-named}
 
 abbrev calledOf : Answer → List ℕ → List ℕ → Called
 calledOf a m x = record { answer = a; tables = m; scratch = x }

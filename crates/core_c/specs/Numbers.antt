@@ -1,7 +1,7 @@
 -- A call as five plain numbers: its number, subject, argument, badge and message. Those that it has not are 0.
 use Prim.Native.Nat.{ℕ}
 use mathlib.Core.List.{List, [], _∷_}
-use mathlib.Core.Option.{Option, none, some}
+use mathlib.Core.Option.{Option, some}
 use lib.Dec.{eqb}
 use lib.ListN.{getD}
 use Rattle.machine.specs.declared.Call.{Call}
@@ -9,8 +9,6 @@ use Rattle.machine.specs.declared.Call.the-variants.{CreateThread, DestroyThrea
 use Rattle.machine.specs.declared.Call.the-variants.{Interrupt, Tick, Send, Receive, Yield, Wait, Delete, Abort}
 use Rattle.machine.specs.Lists.{pick}
 use Rattle.journal.specs.Words.{unused, callOf}
-use Rattle.core_c.specs.declared.types.Named.{Named}
-use Rattle.core_c.specs.declared.types.Named.the-variants.{One, Nothing}
 
 -- each of the five
 abbrev pub number : List ℕ → ℕ
@@ -53,12 +51,3 @@ numbersOf Yield = 9 ∷ 0 ∷ 0 ∷ 0 ∷ 0 ∷ []
 numbersOf (Wait l) = 10 ∷ l ∷ 0 ∷ 0 ∷ 0 ∷ []
 numbersOf (Delete e a) = 11 ∷ e ∷ a ∷ 0 ∷ 0 ∷ []
 numbersOf (Abort e a b) = 12 ∷ e ∷ a ∷ b ∷ 0 ∷ []
-
--- the option as the code has it, and back
-abbrev pub named : Option Call → Named
-named none = Nothing
-named (some c) = One c
-
-abbrev pub nameOf : Named → Option Call
-nameOf (One c) = some c
-nameOf Nothing = none

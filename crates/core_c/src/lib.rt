@@ -6,16 +6,17 @@ ghost use mathlib.Core.Path.{_≡_};
 ghost use mathlib.Core.Option.{none};
 ghost use Rattle.tables.specs.Entries.{Freshened, Checked, freshened, checked};
 ghost use Rattle.journal.specs.declared.types.Written.{Written};
+ghost use Rattle.journal.specs.Steps.{nameOf};
 ghost use Rattle.kernel.specs.Entry.{Called, runningLink};
-ghost use Rattle.core_c.specs.Numbers.{nameOf, callIn};
+ghost use Rattle.core_c.specs.Numbers.{callIn};
 ghost use Rattle.core_c.specs.declared.types.Reading.{Reading};
 ghost use Rattle.core_c.specs.Entries.{Answered, calledFor, answered, reading, writtenFor, threadOf};
 
 mod numbers;
 mod types;
 
-use crate::types::Named;
 use crate::types::Reading;
+use journal::types::Named;
 use journal::types::Read;
 use journal::types::Written;
 use machine::Answer;

@@ -1,12 +1,5 @@
 // What the entry points' parts hand to each other. A module of its own: a type and a function of one name could not
 // stand in one.
-use machine::Call;
-
-// The call that five numbers name, if they name one.
-pub enum Named {
-    One(Call),
-    Nothing,
-}
 
 // What the reader answers: its code, the word where it stands afterwards, and the call as five numbers.
 pub struct Reading {

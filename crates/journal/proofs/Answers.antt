@@ -2,7 +2,7 @@
 -- Assumes nothing.
 use mathlib.Core.Path.{_≡_, refl, sym, ap, _∙_}
 use mathlib.Core.Bool.{Bool, true, false}
-use mathlib.Core.List.{List}
+use mathlib.Core.List.{List, []}
 use mathlib.Core.Logic.{_≢_}
 use mathlib.Core.Option.{Option, none, some}
 use Prim.Native.Nat.{ℕ, _+_, _-_, _<_}
@@ -15,13 +15,14 @@ use lib.Seq.{drop-cons, take-all}
 use Rattle.machine.specs.declared.Call.{Call}
 use Rattle.machine.specs.declared.Call.the-variants.{Send, Abort}
 use Rattle.machine.specs.Calls.{inRange}
-use Rattle.journal.specs.declared.Named.{Named}
-use Rattle.journal.specs.declared.Named.the-variants.{One, Nothing}
+use Rattle.journal.specs.declared.types.Named.{Named}
+use Rattle.journal.specs.declared.types.Named.the-variants.{One, Nothing}
 use Rattle.journal.specs.declared.Number.the-variants.{Is, Wrong}
 use Rattle.journal.specs.Steps.{named, nameOf, number}
 use Rattle.journal.specs.Words.{topBits, topByte, callNumber, subject, argument, wordsTaken, unused, numberIn}
 use Rattle.journal.specs.Words.{sendOf, abortOf, callOf, callAt, judged, readFrom, readAt}
 use Rattle.journal.proofs.Numbers.{by-number, taken-low, taken-high}
+use Rattle.journal.proofs.Options.{unused-none}
 use Rattle.journal.proofs.Naming.{Fits, in-range-fits}
 
 pub named-name : (x : Named) → x ≡ named (nameOf x)
@@ -46,31 +47,49 @@ pub number-wrong : (o : Option ℕ) → Wrong ≡ number o → o ≡ none
 number-wrong none e = refl
 number-wrong (some k) e = cc
 
--- a number that is none of 1 to 12, as the last arm of a match on them knows it
+-- a number that is none of a one-word call, as the last arm of a match on them knows it
 abbrev pub Other : ℕ → Type 0
 Other n =
-    (((((((((((Unit {0} × n ≢ 1) × n ≢ 2) × n ≢ 3) × n ≢ 4) × n ≢ 5) × n ≢ 6) × n ≢ 7) × n ≢ 8) × n ≢ 9) × n ≢ 10)
-    × n ≢ 11)
-    × n ≢ 12
+    (((((((((Unit {0} × n ≢ 1) × n ≢ 2) × n ≢ 3) × n ≢ 4) × n ≢ 5) × n ≢ 6) × n ≢ 8) × n ≢ 9) × n ≢ 10) × n ≢ 11
 
-pub no-number : (s a : ℕ) (rest : List ℕ) (n : ℕ) → Other n → callOf n s a rest ≡ none
+pub no-short : (s a n : ℕ) → Other n → callOf n s a [] ≡ none
 unfolding callOf
-no-number s a rest =
-    by-number (λ n. Other n → callOf n s a rest ≡ none)
+no-short s a =
+    by-number (λ n. Other n → callOf n s a [] ≡ none)
     (λ h. refl)
-    (λ h. absurd (h .0 .0 .0 .0 .0 .0 .0 .0 .0 .0 .0 .1 refl))
-    (λ h. absurd (h .0 .0 .0 .0 .0 .0 .0 .0 .0 .0 .1 refl))
     (λ h. absurd (h .0 .0 .0 .0 .0 .0 .0 .0 .0 .1 refl))
     (λ h. absurd (h .0 .0 .0 .0 .0 .0 .0 .0 .1 refl))
     (λ h. absurd (h .0 .0 .0 .0 .0 .0 .0 .1 refl))
     (λ h. absurd (h .0 .0 .0 .0 .0 .0 .1 refl))
     (λ h. absurd (h .0 .0 .0 .0 .0 .1 refl))
     (λ h. absurd (h .0 .0 .0 .0 .1 refl))
+    (λ h. unused-none a)
     (λ h. absurd (h .0 .0 .0 .1 refl))
     (λ h. absurd (h .0 .0 .1 refl))
     (λ h. absurd (h .0 .1 refl))
     (λ h. absurd (h .1 refl))
+    (λ h. refl)
     (λ k h. refl)
+
+-- but for a send and an abort, the words after a call word say nothing
+pub rest-unused : (s a : ℕ) (rest : List ℕ) (n : ℕ) → n ≢ 7 → n ≢ 12 → callOf n s a [] ≡ callOf n s a rest
+unfolding callOf
+rest-unused s a rest =
+    by-number (λ n. n ≢ 7 → n ≢ 12 → callOf n s a [] ≡ callOf n s a rest)
+    (λ h k. refl)
+    (λ h k. refl)
+    (λ h k. refl)
+    (λ h k. refl)
+    (λ h k. refl)
+    (λ h k. refl)
+    (λ h k. refl)
+    (λ h k. absurd (h refl))
+    (λ h k. refl)
+    (λ h k. refl)
+    (λ h k. refl)
+    (λ h k. refl)
+    (λ h k. absurd (k refl))
+    (λ m h k. refl)
 
 -- the part of a list from a place on
 pub part-is : (l : List ℕ) (n : ℕ) → take (length l - n) (drop n l) ≡ drop n l

@@ -1,10 +1,10 @@
--- What the inner functions answer, where the code has an enum for what may be missing.
+-- What the functions that name a call answer, where the code has an enum for what may be missing.
 -- Assumes nothing.
 use Prim.Native.Nat.{ℕ}
 use mathlib.Core.Option.{Option, none, some}
 use Rattle.machine.specs.declared.Call.{Call}
-use Rattle.journal.specs.declared.Named.{Named}
-use Rattle.journal.specs.declared.Named.the-variants.{One, Nothing}
+use Rattle.journal.specs.declared.types.Named.{Named}
+use Rattle.journal.specs.declared.types.Named.the-variants.{One, Nothing}
 use Rattle.journal.specs.declared.Number.{Number}
 use Rattle.journal.specs.declared.Number.the-variants.{Is, Wrong}
 

@@ -3,6 +3,7 @@ mod taken;
 pub mod types;
 
 use crate::taken::words_taken;
+use crate::types::Named;
 use crate::types::Read;
 use crate::types::Written;
 use machine::Call;
@@ -14,12 +15,6 @@ ghost use Rattle.machine.specs.Calls.{inRange};
 ghost use Rattle.journal.specs.Words.{numberIn, unused, sendOf, abortOf, callOf, callAt, judged, readAt};
 ghost use Rattle.journal.specs.Words.{callWord, badgeWord, messageWord, asWritten, wordsOf, written};
 ghost use Rattle.journal.specs.Steps.{named, nameOf, number};
-
-// The call that words name, if they name one.
-enum Named {
-    One(Call),
-    Nothing,
-}
 
 // The number in a word of the kind asked for, if it is one.
 enum Number {
@@ -48,7 +43,7 @@ fn number_in(rest: &[u32], top: u32) -> Number
 }
 
 // An unused part is 0, or no call is named.
-fn if_unused(part: u32, call: Named) -> Named
+pub fn if_unused(part: u32, call: Named) -> Named
     ensures { λ r. ⌜ r ≡ named (unused part (nameOf call)) ⌝ }
 {
     if part == 0 { call } else { Named::Nothing }
@@ -83,9 +78,9 @@ fn abort(endpoint: u32, allowance: u32, rest: &[u32]) -> Named
     })
 }
 
-// The call of the parts of a call word, with the words after it, which the rest of the journal begins with.
-fn call_of(number: u32, subject: u32, argument: u32, rest: &[u32]) -> Named
-    ensures { λ r. ⌜ r ≡ named (callOf number subject argument (now (rest .entry))) ⌝ }
+// The call of a number, a subject and an argument alone.
+pub fn short_call(number: u32, subject: u32, argument: u32) -> Named
+    ensures { λ r. ⌜ r ≡ named (callOf number subject argument []) ⌝ }
 {
     match number {
         1 => Named::One(Call::CreateThread {
@@ -106,7 +101,6 @@ fn call_of(number: u32, subject: u32, argument: u32, rest: &[u32]) -> Named
         ),
         5 => if_unused(argument, Named::One(Call::Interrupt { line: subject })),
         6 => if_unused(subject, if_unused(argument, Named::One(Call::Tick))),
-        7 => if_unused(argument, send(subject, rest)),
         8 => if_unused(argument, Named::One(Call::Receive { endpoint: subject })),
         9 => if_unused(subject, if_unused(argument, Named::One(Call::Yield))),
         10 => if_unused(argument, Named::One(Call::Wait { line: subject })),
@@ -114,8 +108,18 @@ fn call_of(number: u32, subject: u32, argument: u32, rest: &[u32]) -> Named
             endpoint: subject,
             allowance: argument,
         }),
-        12 => abort(subject, argument, rest),
         _ => Named::Nothing,
+    }
+}
+
+// The call of the parts of a call word, with the words after it, which the rest of the journal begins with.
+fn call_of(number: u32, subject: u32, argument: u32, rest: &[u32]) -> Named
+    ensures { λ r. ⌜ r ≡ named (callOf number subject argument (now (rest .entry))) ⌝ }
+{
+    match number {
+        7 => if_unused(argument, send(subject, rest)),
+        12 => abort(subject, argument, rest),
+        _ => short_call(number, subject, argument),
     }
 }
 

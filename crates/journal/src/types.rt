@@ -1,5 +1,12 @@
-// What reading and writing answer. A module of its own: `Read` and the function `read` could not stand in one.
+// What naming, reading and writing a call answer. A module of its own: `Read` and the function `read` could not stand
+// in one.
 use machine::Call;
+
+// The call that words or numbers name, if they name one.
+pub enum Named {
+    One(Call),
+    Nothing,
+}
 
 // What the words at a place read as.
 pub enum Read {

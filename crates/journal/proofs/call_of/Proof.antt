@@ -1,142 +1,52 @@
--- `journal::call_of` meets its contract: each arm knows the number, and the table of calls computes there.
+-- `journal::call_of` meets its contract: a send and an abort read on, and no other call does.
 -- Assumes nothing.
-use mathlib.Core.Path.{sym, ap}
-use mathlib.Core.Option.{some}
-use Rattle.machine.specs.declared.Call.the-variants.{Tick, Yield}
+use mathlib.Core.Path.{ap, _∙_}
 use Rattle.journal.specs.Steps.{named}
-use Rattle.journal.specs.Words.{callOf, unused, sendOf}
-use Rattle.journal.proofs.Answers.{unused-above, no-number}
+use Rattle.journal.specs.Words.{callOf, sendOf}
+use Rattle.journal.proofs.Answers.{unused-above, rest-unused}
 use borrow.Author.Needs.{needs}
 use Rattle.journal.proofs.call_of.Statement.{statement}
 use Rattle.journal.proofs.call_of.Tie as tie
 
-if-unused-requires : tie.Need-if-unused-requires
-if-unused-requires c κs = search needs
-
-if-unused-requires-2 : tie.Need-if-unused-requires-2
-if-unused-requires-2 c κs = search needs
-
-if-unused-requires-3 : tie.Need-if-unused-requires-3
-if-unused-requires-3 c κs = search needs
-
-if-unused-requires-4 : tie.Need-if-unused-requires-4
-if-unused-requires-4 c κs = search needs
-
-if-unused-requires-5 : tie.Need-if-unused-requires-5
-if-unused-requires-5 c κs = search needs
-
 send-requires : tie.Need-send-requires
 send-requires c κs = search needs
 
-if-unused-requires-6 : tie.Need-if-unused-requires-6
-if-unused-requires-6 c κs = search needs
-
-if-unused-requires-7 : tie.Need-if-unused-requires-7
-if-unused-requires-7 c κs = search needs
-
-if-unused-requires-8 : tie.Need-if-unused-requires-8
-if-unused-requires-8 c κs = search needs
-
-if-unused-requires-9 : tie.Need-if-unused-requires-9
-if-unused-requires-9 c κs = search needs
-
-if-unused-requires-10 : tie.Need-if-unused-requires-10
-if-unused-requires-10 c κs = search needs
+if-unused-requires : tie.Need-if-unused-requires
+if-unused-requires c κs = search needs
 
 abort-requires : tie.Need-abort-requires
 abort-requires c κs = search needs
 
+short-call-requires : tie.Need-short-call-requires
+short-call-requires c κs = search needs
+
 returns : tie.Need-returns
 unfolding callOf
-returns c = rw (c .match .keys1)
+returns c =
+    let a = c .before .before .before .before .args in
+    rw (c .before .before .match .keys1)
+    (unused-above (a .argument) (sendOf (a .subject) (a .rest .now)) _ _ (c .before .send .ensures)
+    (c .if-unused .ensures))
 
 returns-2 : tie.Need-returns-2
 unfolding callOf
-returns-2 c = rw (c .before .match .keys2) (c .if-unused .ensures)
+returns-2 c = rw (c .before .match .keys2) (c .abort .ensures)
 
 returns-3 : tie.Need-returns-3
-unfolding callOf
-returns-3 c = rw (c .match .keys3)
-
-returns-4 : tie.Need-returns-4
-unfolding callOf
-returns-4 c = rw (c .before .match .keys4) (c .if-unused2 .ensures)
-
-returns-5 : tie.Need-returns-5
-unfolding callOf
-returns-5 c = rw (c .before .match .keys5) (c .if-unused3 .ensures)
-
-returns-6 : tie.Need-returns-6
-unfolding callOf
-returns-6 c =
-    let a = c .before .before .before .before .args in
-    rw (c .before .before .match .keys6)
-    (unused-above (a .subject) (unused (a .argument) (some Tick)) _ _ (c .before .if-unused4 .ensures)
-    (c .if-unused5 .ensures))
-
-returns-7 : tie.Need-returns-7
-unfolding callOf
-returns-7 c =
-    let a = c .before .before .before .before .args in
-    rw (c .before .before .match .keys7)
-    (unused-above (a .argument) (sendOf (a .subject) (a .rest .now)) _ _ (c .before .send .ensures)
-    (c .if-unused6 .ensures))
-
-returns-8 : tie.Need-returns-8
-unfolding callOf
-returns-8 c = rw (c .before .match .keys8) (c .if-unused7 .ensures)
-
-returns-9 : tie.Need-returns-9
-unfolding callOf
-returns-9 c =
-    let a = c .before .before .before .before .args in
-    rw (c .before .before .match .keys9)
-    (unused-above (a .subject) (unused (a .argument) (some Yield)) _ _ (c .before .if-unused8 .ensures)
-    (c .if-unused9 .ensures))
-
-returns-10 : tie.Need-returns-10
-unfolding callOf
-returns-10 c = rw (c .before .match .keys10) (c .if-unused10 .ensures)
-
-returns-11 : tie.Need-returns-11
-unfolding callOf
-returns-11 c = rw (c .match .keys11)
-
-returns-12 : tie.Need-returns-12
-unfolding callOf
-returns-12 c = rw (c .before .match .keys12) (c .abort .ensures)
-
-returns-13 : tie.Need-returns-13
-returns-13 c =
-    let a = c .before .before .args in
-    ap named (sym (no-number (a .subject) (a .argument) (a .rest .now) (a .number) (c .match .rest)))
+returns-3 c =
+    let a = c .before .before .before .args in
+    let other = c .before .match .rest in
+    c .short-call .ensures
+    ∙ ap named (rest-unused (a .subject) (a .argument) (a .rest .now) (a .number) (other .0 .1) (other .1))
 
 pub call-of-spec : {M : Type 1} → statement M
 call-of-spec =
     tie.close
     (tie.spec
-    if-unused-requires
-    if-unused-requires-2
-    if-unused-requires-3
-    if-unused-requires-4
-    if-unused-requires-5
     send-requires
-    if-unused-requires-6
-    if-unused-requires-7
-    if-unused-requires-8
-    if-unused-requires-9
-    if-unused-requires-10
+    if-unused-requires
     abort-requires
+    short-call-requires
     returns
     returns-2
-    returns-3
-    returns-4
-    returns-5
-    returns-6
-    returns-7
-    returns-8
-    returns-9
-    returns-10
-    returns-11
-    returns-12
-    returns-13)
+    returns-3)

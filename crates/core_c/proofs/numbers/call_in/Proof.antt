@@ -1,7 +1,7 @@
 -- The three ways of `callIn`. Assumes nothing.
 use mathlib.Core.Path.{_∙_, ap}
-use Rattle.core_c.specs.Numbers.{named}
-use Rattle.core_c.proofs.Naming.{is-send, is-abort, is-short}
+use Rattle.journal.specs.Steps.{named}
+use Rattle.core_c.proofs.Naming.{is-send, is-abort, is-short, short-is}
 use borrow.Author.Needs.{needs}
 use Rattle.core_c.proofs.numbers.call_in.Statement.{statement}
 use Rattle.core_c.proofs.numbers.call_in.Tie as tie
@@ -12,11 +12,11 @@ array-read-if1 c = search needs
 array-read-if-unused : tie.Need-array-read-if-unused
 array-read-if-unused c = search needs
 
-array-read-t14 : tie.Need-array-read-t14
-array-read-t14 c = search needs
+array-read-t15 : tie.Need-array-read-t15
+array-read-t15 c = search needs
 
-array-read-t17 : tie.Need-array-read-t17
-array-read-t17 c = search needs
+array-read-t18 : tie.Need-array-read-t18
+array-read-t18 c = search needs
 
 array-read-if-unused-2 : tie.Need-array-read-if-unused-2
 array-read-if-unused-2 c = search needs
@@ -33,11 +33,11 @@ array-read-if2 c = search needs
 array-read-if-unused-3 : tie.Need-array-read-if-unused-3
 array-read-if-unused-3 c = search needs
 
-array-read-t28 : tie.Need-array-read-t28
-array-read-t28 c = search needs
+array-read-t29 : tie.Need-array-read-t29
+array-read-t29 c = search needs
 
-array-read-t31 : tie.Need-array-read-t31
-array-read-t31 c = search needs
+array-read-t32 : tie.Need-array-read-t32
+array-read-t32 c = search needs
 
 array-read-if-unused-4 : tie.Need-array-read-if-unused-4
 array-read-if-unused-4 c = search needs
@@ -48,11 +48,35 @@ if-unused-requires-2 c κs = search needs
 returns-2 : tie.Need-returns-2
 returns-2 c = c .if-unused2 .ensures ∙ ap named (is-abort _ (c .before .if2 .taken))
 
-short-requires : tie.Need-short-requires
-short-requires c κs = search needs
+array-read-short-call : tie.Need-array-read-short-call
+array-read-short-call c = search needs
+
+array-read-short-call-2 : tie.Need-array-read-short-call-2
+array-read-short-call-2 c = search needs
+
+array-read-short-call-3 : tie.Need-array-read-short-call-3
+array-read-short-call-3 c = search needs
+
+short-call-requires : tie.Need-short-call-requires
+short-call-requires c κs = search needs
+
+array-read-if-unused-5 : tie.Need-array-read-if-unused-5
+array-read-if-unused-5 c = search needs
+
+array-read-if-unused-6 : tie.Need-array-read-if-unused-6
+array-read-if-unused-6 c = search needs
+
+if-unused-requires-3 : tie.Need-if-unused-requires-3
+if-unused-requires-3 c κs = search needs
+
+if-unused-requires-4 : tie.Need-if-unused-requires-4
+if-unused-requires-4 c κs = search needs
 
 returns-3 : tie.Need-returns-3
-returns-3 c = c .short .ensures ∙ ap named (is-short _ (c .before .before .if1 .left) (c .before .if2 .left))
+returns-3 c =
+    let call = c .before .before in
+    short-is _ _ _ _ (call .short-call .ensures) (c .before .if-unused3 .ensures) (c .if-unused4 .ensures)
+    ∙ ap named (is-short _ (call .before .before .if1 .left) (call .before .if2 .left))
 
 pub call-in-spec : {M : Type 1} → statement M
 call-in-spec =
@@ -60,17 +84,24 @@ call-in-spec =
     (tie.spec
     array-read-if1
     array-read-if-unused
-    array-read-t14
-    array-read-t17
+    array-read-t15
+    array-read-t18
     array-read-if-unused-2
     if-unused-requires
     returns
     array-read-if2
     array-read-if-unused-3
-    array-read-t28
-    array-read-t31
+    array-read-t29
+    array-read-t32
     array-read-if-unused-4
     if-unused-requires-2
     returns-2
-    short-requires
+    array-read-short-call
+    array-read-short-call-2
+    array-read-short-call-3
+    short-call-requires
+    array-read-if-unused-5
+    array-read-if-unused-6
+    if-unused-requires-3
+    if-unused-requires-4
     returns-3)

@@ -1,13 +1,14 @@
--- Each arm knows the number, and the table of calls computes there. Assumes nothing.
+-- `journal::short_call` meets its contract: each arm knows the number, and the table of calls computes there.
+-- Assumes nothing.
 use mathlib.Core.Path.{sym, ap}
 use mathlib.Core.Option.{some}
 use Rattle.machine.specs.declared.Call.the-variants.{Tick, Yield}
+use Rattle.journal.specs.Steps.{named}
 use Rattle.journal.specs.Words.{callOf, unused}
-use Rattle.core_c.specs.Numbers.{named}
-use Rattle.core_c.proofs.Naming.{unused-above, no-short}
+use Rattle.journal.proofs.Answers.{unused-above, no-short}
 use borrow.Author.Needs.{needs}
-use Rattle.core_c.proofs.numbers.short_call.Statement.{statement}
-use Rattle.core_c.proofs.numbers.short_call.Tie as tie
+use Rattle.journal.proofs.short_call.Statement.{statement}
+use Rattle.journal.proofs.short_call.Tie as tie
 
 if-unused-requires : tie.Need-if-unused-requires
 if-unused-requires c κs = search needs
