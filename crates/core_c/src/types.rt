@@ -1,5 +1,4 @@
-// What the entry points' parts hand to each other. A module of its own: a type and a function of one name could not
-// stand in one.
+// The type that the reader for C answers with.
 
 // What the reader answers: its code, the word where it stands afterwards, and the call as five numbers.
 pub struct Reading {
