@@ -45,8 +45,8 @@ module _ {m n₁ n₂ n : List ℕ} {q t p : ℕ} (J : Joinable m q t) (small : 
   joined =
       record {
         kept = kept-more (kept-more (kept-one (J .size) W₁) W₂ (W₁ .size)) W₃ (W₂ .size);
-        links = λ queues L N free.
-            linked-join queues around L N free (J .queue) (J .thread) last after-last before-t
+        links = λ queues L free.
+            linked-join queues around L free (J .queue) (J .thread) last after-last before-t
             (after-t
             (λ e. free q (J .queue)
             (of-mem (queues q) t e (subst (λ (x : ℕ). Of (queues q) x) last (tail-of L q (J .queue))))))

@@ -17,7 +17,7 @@ use Rattle.links.proofs.Relinks.{linked-leave}
 use Rattle.links.proofs.Writes.{Wrote, wrote, kept-one, kept-more}
 
 pub leaver-small : {m : List ℕ} {q t : ℕ} → Leavable m q t → t ≤ 255
-leaver-small {m} {q} {t} G = G .neat .small q t (G .queue) (G .stands)
+leaver-small {m} {q} {t} G = G .linked .small q t (G .queue) (G .stands)
 
 -- What is known of the links of t: p to the one before it, w to the next.
 pub record Neighbours (m : List ℕ) (t p w : ℕ) : Type 0 where
@@ -38,7 +38,7 @@ neighbours-of {m} {q} {t} G =
     let a = s .before in
     let b = s .behind in
     let e = s .whole in
-    let d : Distinct (a ++ (t ∷ b)) = rw e at (G .neat .once q h) in
+    let d : Distinct (a ++ (t ∷ b)) = rw e at (G .linked .once q h) in
     let L = G .linked in
     record {
       thread = leaver-small G;
@@ -86,8 +86,8 @@ module _ {m n₁ n₂ n₃ n : List ℕ} {q t p w : ℕ} (G : Leavable m q t) (B
       record {
         kept =
             kept-more (kept-more (kept-more (kept-one (G .size) W₁) W₂ (W₁ .size)) W₃ (W₂ .size)) W₄ (W₃ .size);
-        links = λ queues L N k.
-            linked-leave queues around L N k (G .queue) (B .before) (B .after) after-p before-w bare;
+        links = λ queues L k.
+            linked-leave queues around L k (G .queue) (B .before) (B .after) after-p before-w bare;
       }
 
 -- The stores as the code makes them, each at the address that an address function gave.

@@ -7,7 +7,13 @@ use mathlib.Core.List.{List, [], _∷_, _++_}
 use Rattle.machine.specs.Lists.{Mem, Distinct, put, without}
 use Rattle.machine.proofs.Lists.{put-all, mem-snoc, mem-without, distinct-snoc, distinct-without}
 use Rattle.layout.specs.Shows.{Linked}
-use Rattle.links.specs.Links.{Neat, Free}
+use Rattle.links.specs.Links.{Free}
+
+-- Threads in range, each in one queue at most, and there once.
+pub record Neat (queues : ℕ → List ℕ) : Type 0 where
+  pub small : (q t : ℕ) → q ≤ 319 → Mem t (queues q) → t ≤ 255
+  pub once : (q : ℕ) → q ≤ 319 → Distinct (queues q)
+  pub apart : (q r t : ℕ) → q ≤ 319 → r ≤ 319 → Mem t (queues q) → Mem t (queues r) → q ≡ r
 
 pub linked-neat : {m : List ℕ} {queues : ℕ → List ℕ} → Linked m queues → Neat queues
 linked-neat L = record { small = L .small; once = L .once; apart = L .apart }

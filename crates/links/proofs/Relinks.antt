@@ -10,10 +10,10 @@ use Rattle.machine.proofs.Lists.{mem-keep, distinct-left, distinct-right, disti
 use Rattle.layout.specs.Addresses.{next, prev, tail, linkAt, word, afterAt, beforeAt}
 use Rattle.layout.specs.Words.{firstOf, lastOf}
 use Rattle.layout.specs.Shows.{Chain, Linked}
-use Rattle.links.specs.Links.{Neat, Free}
+use Rattle.links.specs.Links.{Free}
 use Rattle.links.proofs.Splits.{Of, of-mem, first-of, last-of, Split, split, not-before, not-behind}
 use Rattle.links.proofs.Splits.{without-split}
-use Rattle.links.proofs.Neatness.{neat-join, neat-leave}
+use Rattle.links.proofs.Neatness.{Neat, linked-neat, neat-join, neat-leave}
 use Rattle.links.proofs.Chains.{Around, nexts, prevs, heads, tails, chain-frame, chain-join, chain-leave}
 use Rattle.links.proofs.Readings.{chained, tail-word, tail-of, next-split, prev-split}
 
@@ -69,34 +69,34 @@ module _ {m n : List ℕ} {q p w t : ℕ} {queues : ℕ → List ℕ} (A : Aroun
 
 -- t joins the tail of queue q: the link after the last one, the link back from t and the tail are stored.
 pub linked-join :
-    {m n : List ℕ} {q p t : ℕ} (queues : ℕ → List ℕ) → Around m n q p 0 t → Linked m queues → Neat queues
+    {m n : List ℕ} {q p t : ℕ} (queues : ℕ → List ℕ) → Around m n q p 0 t → Linked m queues
     → Free queues t → q ≤ 319 → t ≤ 255 → word m (linkAt (tail q)) ≡ p → word n (afterAt q p) ≡ suc t
     → word n (linkAt (prev t)) ≡ p → word n (linkAt (next t)) ≡ word m (linkAt (next t))
     → word n (linkAt (tail q)) ≡ suc t → Linked n (put queues q (queues q ++ (t ∷ [])))
-linked-join {m} {n} {q} {p} {t} queues A L N free h g e fa fb fn ft =
+linked-join {m} {n} {q} {p} {t} queues A L free h g e fa fb fn ft =
     let l = queues q in
     let z : lastOf 0 l ≡ p = sym (tail-word L q h) ∙ e in
     relinked A L h (subst (λ (x : ℕ). Of l x) e (tail-of L q h)) tt (λ r i _. free r i)
-    (l ++ (t ∷ [])) (neat-join q t N free g)
-    (chain-join A l h refl z (N .once q h)
-    (λ u k. (N .small q u h k, λ y. free q h (subst (λ (v : ℕ). Mem v l) y k))) fa fb
+    (l ++ (t ∷ [])) (neat-join q t (linked-neat L) free g)
+    (chain-join A l h refl z (L .once q h)
+    (λ u k. (L .small q u h k, λ y. free q h (subst (λ (v : ℕ). Mem v l) y k))) fa fb
     (fn ∙ L .bare t g free .0) ft (L .chains q h))
     (λ u _ k. mem-left u l (t ∷ []) k) (λ k. absurd (k (mem-last t l)))
 
 -- t leaves queue q: its neighbours are joined, and its own links are 0.
 pub linked-leave :
-    {m n : List ℕ} {q p w t : ℕ} (queues : ℕ → List ℕ) → Around m n q p w t → Linked m queues → Neat queues
+    {m n : List ℕ} {q p w t : ℕ} (queues : ℕ → List ℕ) → Around m n q p w t → Linked m queues
     → Mem t (queues q) → q ≤ 319 → word m (linkAt (prev t)) ≡ p → word m (linkAt (next t)) ≡ w
     → word n (afterAt q p) ≡ w → word n (beforeAt q w) ≡ p
     → (word n (linkAt (next t)) ≡ 0) × (word n (linkAt (prev t)) ≡ 0) → Linked n (put queues q (without t (queues q)))
-linked-leave {m} {n} {q} {p} {w} {t} queues A L N k h ep ew fa fb bare-t = go (split t (queues q) k)
+linked-leave {m} {n} {q} {p} {w} {t} queues A L k h ep ew fa fb bare-t = go (split t (queues q) k)
   where
     go : Split t (queues q) → Linked n (put queues q (without t (queues q)))
     go s =
         let a = s .before in
         let b = s .behind in
         let e = s .whole in
-        let d : Distinct (a ++ (t ∷ b)) = rw e at (N .once q h) in
+        let d : Distinct (a ++ (t ∷ b)) = rw e at (L .once q h) in
         let zp : lastOf 0 a ≡ p = sym (prev-split L q h t a b e) ∙ ep in
         let zw : firstOf b ≡ w = sym (next-split L q h t a b e) ∙ ew in
         let left : (u : ℕ) → Mem u a → Mem u (queues q) = λ u i. rw e (mem-left u a (t ∷ b) i) in
@@ -107,16 +107,16 @@ linked-leave {m} {n} {q} {p} {w} {t} queues A L N k h ep ew fa fb bare-t = go (s
         let gone : without t (queues q) ≡ a ++ b = ap (without t) e ∙ without-split t a b d in
         relinked A L h (subst (λ (x : ℕ). Of (queues q) x) zp (last-of 0 a (queues q) tt left))
         (subst (λ (x : ℕ). Of (queues q) x) zw (first-of b (queues q) right))
-        (λ r g o i. o (N .apart r q t g h i k)) (without t (queues q)) (neat-leave q t N)
+        (λ r g o i. o (L .apart r q t g h i k)) (without t (queues q)) (neat-leave q t (linked-neat L))
         (rw gone
         (chain-leave A a b h zp zw (distinct-left a (t ∷ b) d) (distinct-right a (t ∷ b) d .1)
         (λ u i. (
-          N .small q u h (left u i),
+          L .small q u h (left u i),
           λ y. not-before t a b d (subst (λ (v : ℕ). Mem v a) y i),
           λ y. across u i (of-mem b u y ow),
         ))
         (λ u i. (
-          N .small q u h (right u i),
+          L .small q u h (right u i),
           λ y. not-behind t a b d (subst (λ (v : ℕ). Mem v b) y i),
           λ y. across u (of-mem a u y op) i,
         )) fa fb (chained L q h t a b e)))

@@ -4,16 +4,10 @@ use Prim.Native.Nat.{ℕ, _≤_}
 use mathlib.Core.Path.{_≡_}
 use mathlib.Core.List.{List, [], _∷_, _++_}
 use lib.ListN.{length}
-use Rattle.machine.specs.Lists.{put, without, Mem, Distinct}
+use Rattle.machine.specs.Lists.{put, without, Mem}
 use Rattle.layout.specs.Addresses.{Slot, ValidSlot, at, next, prev, head, linkAt, word}
 use Rattle.layout.specs.Words.{firstOf, lastOf}
 use Rattle.layout.specs.Shows.{Linked}
-
--- Threads in range, each in one queue at most, and there once.
-pub record Neat (queues : ℕ → List ℕ) : Type 0 where
-  pub small : (q t : ℕ) → q ≤ 319 → Mem t (queues q) → t ≤ 255
-  pub once : (q : ℕ) → q ≤ 319 → Distinct (queues q)
-  pub apart : (q r t : ℕ) → q ≤ 319 → r ≤ 319 → Mem t (queues q) → Mem t (queues r) → q ≡ r
 
 -- t stands in no queue.
 abbrev pub Free : (ℕ → List ℕ) → ℕ → Type 0
@@ -31,14 +25,13 @@ pub record Joinable (m : List ℕ) (q t : ℕ) : Type 0 where
   pub thread : t ≤ 255
   pub queues : ℕ → List ℕ
   pub linked : Linked m queues
-  pub neat : Neat queues
   pub free : Free queues t
 
 -- t has joined the tail of queue q.
 pub record Joins (m : List ℕ) (q t : ℕ) (m′ : List ℕ) : Type 0 where
   pub kept : Kept m m′
   pub links :
-      (queues : ℕ → List ℕ) → Linked m queues → Neat queues → Free queues t
+      (queues : ℕ → List ℕ) → Linked m queues → Free queues t
       → Linked m′ (put queues q (queues q ++ (t ∷ [])))
 
 -- A queue in which thread t stands.
@@ -47,14 +40,13 @@ pub record Leavable (m : List ℕ) (q t : ℕ) : Type 0 where
   pub queue : q ≤ 319
   pub queues : ℕ → List ℕ
   pub linked : Linked m queues
-  pub neat : Neat queues
   pub stands : Mem t (queues q)
 
 -- t has left queue q, wherever it stood in it.
 pub record Leaves (m : List ℕ) (q t : ℕ) (m′ : List ℕ) : Type 0 where
   pub kept : Kept m m′
   pub links :
-      (queues : ℕ → List ℕ) → Linked m queues → Neat queues → Mem t (queues q)
+      (queues : ℕ → List ℕ) → Linked m queues → Mem t (queues q)
       → Linked m′ (put queues q (without t (queues q)))
 
 -- r is the link to the first of queue q, 0 where it is empty.

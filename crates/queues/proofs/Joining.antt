@@ -16,7 +16,6 @@ use Rattle.layout.specs.Words.{queuesOf}
 use Rattle.layout.specs.Shows.{Linked, Shows}
 use Rattle.layout.proofs.Standing.{queues-level, queues-endpoint}
 use Rattle.links.specs.Links.{Joinable, Joins}
-use Rattle.links.proofs.Neatness.{linked-neat}
 use Rattle.store.specs.Steps.{Shown, Does, Tells}
 use Rattle.store.specs.Store.{IsThread, placing, Places, Runs}
 use Rattle.store.specs.Readings.{priorityIn}
@@ -53,7 +52,6 @@ module _ {m : List ℕ} {t p : ℕ} (R : Tells m (IsThread t) p (priorityIn t)) 
         thread = S .holds .thread;
         queues = queuesOf (S .state);
         linked = S .shows .links;
-        neat = linked-neat (S .shows .links);
         free = S .holds .free;
       }
 
@@ -73,7 +71,7 @@ module _ {m : List ℕ} {t p : ℕ} (R : Tells m (IsThread t) p (priorityIn t)) 
       go s M h e =
           let k : p ≤ 255 = omega (arith, h .level) in
           let L : Linked n (put (queuesOf s) p (queuesOf s p ++ (t ∷ []))) =
-          J .links (queuesOf s) (M .links) (linked-neat (M .links)) (h .free) in
+          J .links (queuesOf s) (M .links) (h .free) in
           rw (← e)
           (level-marked p (s .levels p ++ (t ∷ [])) k M (J .kept) (rw (queues-level s p k) at L) D
           (filled (s .levels p)))
@@ -143,7 +141,6 @@ module _ {m : List ℕ} {t e : ℕ} where
         thread = S .holds .thread;
         queues = queuesOf (S .state);
         linked = S .shows .links;
-        neat = linked-neat (S .shows .links);
         free = S .holds .free;
       }
 
@@ -154,6 +151,6 @@ module _ {m : List ℕ} {t e : ℕ} where
       go : (s : State) → Shows m s → Comes t e s → Shows n (joinEndpoint t e s)
       go s M h =
           let L : Linked n (put (queuesOf s) (256 + e) (queuesOf s (256 + e) ++ (t ∷ []))) =
-          J .links (queuesOf s) (M .links) (linked-neat (M .links)) (h .free) in
+          J .links (queuesOf s) (M .links) (h .free) in
           waiters-linked s e (s .endpoints e .waiters ++ (t ∷ [])) (h .endpoint) M (J .kept)
           (rw (queues-endpoint s e) at L)

@@ -42,7 +42,6 @@ module _ {m : List ℕ} {p t : ℕ} where
         queue = omega (arith, S .holds .level);
         queues = queuesOf (S .state);
         linked = S .shows .links;
-        neat = linked-neat (S .shows .links);
         stands = rw (queues-level (S .state) p (S .holds .level)) (S .holds .stands);
       }
 
@@ -50,7 +49,7 @@ module _ {m : List ℕ} {p t : ℕ} where
     unlinked : (s : State) → Shows m s → StandsAt p t s → Linked n (put (queuesOf s) p (without t (s .levels p)))
     unlinked s M h =
         let e = queues-level s p (h .level) in
-        rw e at (U .links (queuesOf s) (M .links) (linked-neat (M .links)) (rw e (h .stands)))
+        rw e at (U .links (queuesOf s) (M .links) (rw e (h .stands)))
 
     first-left :
         {r : ℕ} → First n p r → (s : State) → Shows m s → StandsAt p t s → r ≡ firstOf (without t (s .levels p))
@@ -125,7 +124,6 @@ module _ {m n : List ℕ} {t e : ℕ} (P : Does m n (Waits t e) (passingAt t e))
         queue = omega (arith, S .holds .endpoint);
         queues = queuesOf (passingAt t e (S .state));
         linked = M .links;
-        neat = linked-neat (M .links);
         stands = still-stands (S .state) (S .holds);
       }
 
@@ -138,7 +136,7 @@ module _ {m n : List ℕ} {t e : ℕ} (P : Does m n (Waits t e) (passingAt t e))
           let z = passingAt t e s in
           let N : Shows n z = P .shows s M h in
           let L : Linked o (put (queuesOf z) (256 + e) (without t (queuesOf z (256 + e)))) =
-          U .links (queuesOf z) (N .links) (linked-neat (N .links)) (still-stands s h) in
+          U .links (queuesOf z) (N .links) (still-stands s h) in
           let K : Shows o (waited e (without t (z .endpoints e .waiters)) z) =
           waiters-linked z e (without t (z .endpoints e .waiters)) (h .endpoint) N (U .kept)
           (rw (endpoint-queue z e) at L) in
