@@ -1,44 +1,24 @@
--- The marks of an abort: storing a cursor and an end mark, and passing them on where a waiter leaves.
+-- The marks of an abort are passed on where a waiter leaves.
 -- Assumes nothing.
 use Prim.Native.Nat.{ℕ, _+_}
 use mathlib.Core.Path.{_≡_, refl, sym, _∙_, ap}
 use mathlib.Core.Option.{Option, none, some}
 use mathlib.Core.List.{List, [], _∷_, _++_, append-assoc}
 use native.Mathlib.Omega.{arith}
-use lib.ListN.{set}
 use Rattle.machine.specs.Lists.{without, Distinct}
 use Rattle.machine.specs.State.{State, Abort}
 use Rattle.machine.proofs.Lists.{distinct-left, distinct-right}
-use Rattle.layout.specs.Addresses.{cursor, end, ofEndpoint, offset, at}
+use Rattle.layout.specs.Addresses.{at}
 use Rattle.layout.specs.Words.{firstOf, lastOf, queuesOf}
 use Rattle.layout.specs.Shows.{Shows}
 use Rattle.layout.proofs.Standing.{queues-endpoint}
-use Rattle.words.specs.Access.{Address}
 use Rattle.links.specs.Links.{Next, Prev}
 use Rattle.store.specs.Steps.{Does, Tells}
-use Rattle.store.specs.Store.{IsEndpoint}
+use Rattle.store.specs.Store.{IsEndpoint, Looks}
 use Rattle.store.specs.Readings.{cursorIn, endIn}
-use Rattle.store.proofs.Sites.{parts, site-shows, site-store, site-start}
-use Rattle.queues.specs.Queues.{Waits, Looks, passingAt}
+use Rattle.store.proofs.Sites.{parts, site-shows, site-start}
+use Rattle.queues.specs.Queues.{Waits, passingAt}
 use Rattle.queues.proofs.Passing.{pass-both, pass-cursor, pass-end, pass-neither}
-
--- The two stores.
-pub looks :
-    (e : ℕ) {m n o : List ℕ} {i j : ℕ} (first last : ℕ) → Address i (at (ofEndpoint cursor e)) → n ≡ set m i first
-    → Address j (at (ofEndpoint end e)) → o ≡ set n j last → Looks m e first last o
-unfolding offset
-looks e {m} {n} {o} {i} {j} first last a b c d =
-    record {
-      does = λ l f g.
-          record {
-            shows = λ s M h.
-                let z : s .endpoints e .abort ≡ some (h .1 .0) = h .1 .1 in
-                site-shows e (h .0) m o _ s _ M
-                (site-store e (h .0) m n o _ end j last c d
-                (site-store e (h .0) m m n _ cursor i first a b (site-start e (h .0) m s M))) refl
-                (parts _ _ refl (rw z) (rw z) (rw z) (rw z (sym f)) (rw z (sym g)));
-          };
-    }
 
 -- What is to look at is a part of the queue, so nobody stands twice in it.
 module _ {m : List ℕ} {t e : ℕ} (s : State) (M : Shows m s) (h : Waits t e s) (a : Abort)

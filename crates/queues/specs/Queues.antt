@@ -2,16 +2,16 @@
 -- stands, the level's queue without it, and the marks of an abort that passes it by.
 use Prim.Native.Nat.{ℕ, _≤_}
 use mathlib.Core.Path.{_≡_}
-use mathlib.Core.Option.{Option, none, some}
+use mathlib.Core.Option.{some}
 use mathlib.Core.List.{List, _++_}
 use Rattle.machine.specs.Lists.{without, Mem}
 use Rattle.machine.specs.State.{State, Place, Abort, setLevel}
 use Rattle.machine.specs.Scheduling.{block, highest}
 use Rattle.machine.specs.Endpoints.{passing, setAbort}
-use Rattle.layout.specs.Words.{placeCode, linkOf, firstOf, lastOf, queuesOf}
+use Rattle.layout.specs.Words.{placeCode, linkOf, queuesOf}
 use Rattle.links.specs.Links.{Free}
 use Rattle.store.specs.Steps.{Does}
-use Rattle.store.specs.Store.{IsThread, HasAbort}
+use Rattle.store.specs.Store.{IsThread}
 
 -- t stands in no queue, and its level is in range.
 pub record Loose (t : ℕ) (s : State) : Type 0 where
@@ -61,18 +61,6 @@ leaveLevel p t s = setLevel p (without t (s .levels p)) s
 -- The highest occupied level as a link: level p is p + 1, and none is 0.
 abbrev pub highestLink : State → ℕ
 highestLink s = linkOf (highest (s .levels))
-
--- The abort at endpoint e has the waiters of a list to look at.
-abbrev pub withPending : List ℕ → Option Abort → Option Abort
-withPending l none = none
-withPending l (some a) = some (record { badge = a .badge; owner = a .owner; pending = l })
-
-abbrev pub lookingAt : ℕ → List ℕ → State → State
-lookingAt e l s = setAbort e (withPending l (s .endpoints e .abort)) s
-
--- Cursor and end mark enter the code as links; the abort looks at whatever list they are the first and the last of.
-pub record Looks (m : List ℕ) (e cursor end : ℕ) (m′ : List ℕ) : Type 0 where
-  pub does : (l : List ℕ) → firstOf l ≡ cursor → lastOf 0 l ≡ end → Does m m′ (HasAbort e) (lookingAt e l)
 
 -- The abort at endpoint e has not to look at t any more.
 abbrev pub passingAt : ℕ → ℕ → State → State

@@ -6,7 +6,7 @@ ghost use Rattle.machine.specs.Scheduling.{dispatch as dispatching, chooseFor, 
 ghost use Rattle.machine.specs.Endpoints.{joinEndpoint, leaveEndpoint, wakeFrom as rousing};
 ghost use Rattle.store.specs.Steps.{Shown, Does, Tells};
 ghost use Rattle.store.specs.Store.{IsThread, IsEndpoint, Any};
-ghost use Rattle.queues.specs.Queues.{Loose, Stands, StandsAt, Chooses, Comes, Waits, Blocks, Looks};
+ghost use Rattle.queues.specs.Queues.{Loose, Stands, StandsAt, Chooses, Comes, Waits, Blocks};
 ghost use Rattle.queues.specs.Queues.{leaveLevel, passingAt, highestLink};
 use summary::Level;
 
@@ -130,15 +130,6 @@ pub fn join_endpoint(tables: &mut [u32], t: usize, e: usize)
     links::push_tail(tables, 256 + e, t);
 }
 
-// The abort at endpoint e looks at the waiters from a cursor to an end mark, both 0 for none.
-fn set_marks(tables: &mut [u32], e: usize, cursor: u32, end: u32)
-    requires { ⌜ Shown (now tables) (IsEndpoint e) ⌝ }
-    ensures { λ _. ⌜ Looks (now (tables .entry)) e cursor end (now (tables .exit)) ⌝ }
-{
-    words::put(tables, words::cursor_at(e), cursor);
-    words::put(tables, words::end_at(e), end);
-}
-
 // Thread t goes from those that the abort at endpoint e has to look at: a mark that it is passes to its neighbour.
 fn pass_marks(tables: &mut [u32], t: usize, e: usize)
     requires { ⌜ Shown (now tables) (Waits t e) ⌝ }
@@ -149,16 +140,16 @@ fn pass_marks(tables: &mut [u32], t: usize, e: usize)
     let end = store::end(tables, e);
     if cursor == link {
         if end == link {
-            set_marks(tables, e, 0, 0);
+            store::set_marks(tables, e, 0, 0);
             return;
         }
         let next = links::next(tables, t);
-        set_marks(tables, e, next, end);
+        store::set_marks(tables, e, next, end);
         return;
     }
     if end == link {
         let prev = links::prev(tables, t);
-        set_marks(tables, e, cursor, prev);
+        store::set_marks(tables, e, cursor, prev);
     }
 }
 

@@ -17,7 +17,7 @@ use Rattle.layout.specs.Words.{queuesOf}
 use Rattle.layout.specs.Shows.{Shows}
 use Rattle.layout.proofs.Stores.{at-injective}
 use Rattle.words.specs.Access.{Address}
-use Rattle.store.specs.Store.{Stands, Aborts, Owners}
+use Rattle.store.specs.Store.{Stands, Aborts, Owners, Looks}
 use Rattle.store.proofs.Rows.{Row, change, IsRow, row-store, row-start, row-shows}
 
 -- The slots that are not of endpoint e.
@@ -170,3 +170,21 @@ module _ (e : ℕ) {m n₁ : List ℕ} {i₁ : ℕ} where
             (site-store e h m n₂ n₃ _ owner i₃ own a₃ e₃
             (site-store e h m n₁ n₂ _ aborted i₂ badge a₂ e₂
             (site-store e h m m n₁ _ aborting i₁ here a₁ e₁ (site-start e h m s M)))))
+
+-- The two stores of the marks.
+pub looks :
+    (e : ℕ) {m n o : List ℕ} {i j : ℕ} (first last : ℕ) → Address i (at (ofEndpoint cursor e)) → n ≡ set m i first
+    → Address j (at (ofEndpoint end e)) → o ≡ set n j last → Looks m e first last o
+unfolding offset
+looks e {m} {n} {o} {i} {j} first last a b c d =
+    record {
+      does = λ l f g.
+          record {
+            shows = λ s M h.
+                let z : s .endpoints e .abort ≡ some (h .1 .0) = h .1 .1 in
+                site-shows e (h .0) m o _ s _ M
+                (site-store e (h .0) m n o _ end j last c d
+                (site-store e (h .0) m m n _ cursor i first a b (site-start e (h .0) m s M))) refl
+                (parts _ _ refl (rw z) (rw z) (rw z) (rw z (sym f)) (rw z (sym g)));
+          };
+    }

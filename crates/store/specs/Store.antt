@@ -84,3 +84,15 @@ HasAbort e s = (e ≤ 63) × ((a : Abort) × (s .endpoints e .abort ≡ Option.s
 -- The owner of an abort that stands.
 pub record Owners (m : List ℕ) (e link : ℕ) (m′ : List ℕ) : Type 0 where
   pub does : (o : Option ℕ) → linkOf o ≡ link → Does m m′ (HasAbort e) (owned e o)
+
+-- The abort at endpoint e has the waiters of a list to look at.
+abbrev pub withPending : List ℕ → Option Abort → Option Abort
+withPending l Option.none = Option.none
+withPending l (Option.some a) = Option.some (record { badge = a .badge; owner = a .owner; pending = l })
+
+abbrev pub lookingAt : ℕ → List ℕ → State → State
+lookingAt e l s = setAbort e (withPending l (s .endpoints e .abort)) s
+
+-- Cursor and end mark enter the code as links; the abort looks at whatever list they are the first and the last of.
+pub record Looks (m : List ℕ) (e cursor end : ℕ) (m′ : List ℕ) : Type 0 where
+  pub does : (l : List ℕ) → firstOf l ≡ cursor → lastOf 0 l ≡ end → Does m m′ (HasAbort e) (lookingAt e l)

@@ -7,7 +7,7 @@ ghost use lib.ListN.{length};
 ghost use Rattle.store.specs.Steps.{Shown, Does, Tells};
 ghost use Rattle.store.specs.Store.{IsThread, IsEndpoint, IsLine, Any, HasAbort};
 ghost use Rattle.store.specs.Store.{prioritising, ticking, creating, clearing};
-ghost use Rattle.store.specs.Store.{Places, Owes, Runs, Lines, Stands, Aborts, Owners};
+ghost use Rattle.store.specs.Store.{Places, Owes, Runs, Lines, Stands, Aborts, Owners, Looks};
 ghost use Rattle.store.specs.Readings.{placeIn, priorityIn, ticksIn, outcomeIn, badgeIn, messageIn};
 ghost use Rattle.store.specs.Readings.{owesIn, noteIn, statusIn, abortingIn, abortedIn, ownerIn, cursorIn};
 ghost use Rattle.store.specs.Readings.{endIn, lineIn, runningIn};
@@ -250,6 +250,15 @@ pub fn set_owner(tables: &mut [u32], e: usize, link: u32)
     ensures { λ _. ⌜ Owners (now (tables .entry)) e link (now (tables .exit)) ⌝ }
 {
     words::put(tables, words::owner_at(e), link);
+}
+
+// The abort at endpoint e looks at the waiters from a cursor to an end mark, both 0 for none.
+pub fn set_marks(tables: &mut [u32], e: usize, cursor: u32, end: u32)
+    requires { ⌜ Shown (now tables) (IsEndpoint e) ⌝ }
+    ensures { λ _. ⌜ Looks (now (tables .entry)) e cursor end (now (tables .exit)) ⌝ }
+{
+    words::put(tables, words::cursor_at(e), cursor);
+    words::put(tables, words::end_at(e), end);
 }
 
 // The summary that stands in the tables.

@@ -1,8 +1,8 @@
 -- Two stores, of the cursor and of the end mark. Assumes nothing.
-use Rattle.queues.proofs.Marking.{looks}
+use Rattle.store.proofs.Sites.{looks}
 use borrow.Author.Needs.{needs}
-use Rattle.queues.proofs.set_marks.Statement.{statement}
-use Rattle.queues.proofs.set_marks.Tie as tie
+use Rattle.store.proofs.set_marks.Statement.{statement}
+use Rattle.store.proofs.set_marks.Tie as tie
 
 cursor-at-requires : tie.Need-cursor-at-requires
 cursor-at-requires c κs = search needs
