@@ -12,13 +12,10 @@ use Rattle.machine.specs.State.{State, Thread, sending, receiving, owns, Abort}
 use Rattle.machine.specs.Endpoints.{isSending, senders, setAbort}
 use Rattle.machine.specs.Aborts.{begin}
 use Rattle.machine.proofs.Lists.{only-nil, only-all, only-none}
-use Rattle.layout.specs.Addresses.{tail, linkAt, word}
 use Rattle.layout.specs.Words.{placeCode, firstOf, lastOf, queuesOf}
 use Rattle.layout.specs.Shows.{Shows}
 use Rattle.layout.proofs.Standing.{queues-endpoint}
-use Rattle.words.specs.Access.{Address}
-use Rattle.links.specs.Links.{First}
-use Rattle.links.proofs.Readings.{tail-word}
+use Rattle.links.specs.Links.{First, Last}
 use Rattle.layout.proofs.Chains.{first-zero}
 use Rattle.store.specs.Steps.{Shown, Does, Tells}
 use Rattle.store.specs.Store.{IsThread, Owes, Aborts}
@@ -96,14 +93,12 @@ module _ {m : List ℕ} {e r : ℕ} (T : Tells m (Alike e) r (firstSender e)) wh
             sym (ap (lastOf 0) (first-zero l (sym (T .tells s M A) ∙ z)));
       }
 
-  pub last-sends :
-      {i d : ℕ} → (r ≡ 0 → ⊥) → Address i (linkAt (tail (256 + e))) → d ≡ word m i → Tells m (Alike e) d (lastSender e)
-  last-sends {i} {d} z a k = record { tells = λ s M A. go s M (A .endpoint) (T .tells s M A) (A .alike) }
+  pub last-sends : {d : ℕ} → (r ≡ 0 → ⊥) → Last m (256 + e) d → Tells m (Alike e) d (lastSender e)
+  last-sends {d} z k = record { tells = λ s M A. go s M (A .endpoint) (T .tells s M A) (A .alike) }
     where
       last-waiter : (s : State) → Shows m s → e ≤ 63 → d ≡ lastOf 0 (s .endpoints e .waiters)
       last-waiter s M h =
-          k ∙ ap (word m) (a .is) ∙ tail-word (M .links) (256 + e) (omega arith)
-          ∙ ap (lastOf 0) (queues-endpoint s e)
+          k .last (queuesOf s) (M .links) ∙ ap (lastOf 0) (queues-endpoint s e)
 
       go : (s : State) → Shows m s → e ≤ 63 → r ≡ firstSender e s
           → AllAt (sending e) e s ⊎ AllAt (receiving e) e s → d ≡ lastSender e s

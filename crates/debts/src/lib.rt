@@ -139,7 +139,7 @@ fn last_sender(tables: &[u32], e: usize) -> u32
     if first == 0 {
         return 0;
     }
-    words::get(tables, words::tail_at(256 + e))
+    links::last(tables, 256 + e)
 }
 
 // Thread t begins an abort of this badge at endpoint e, which has its senders to look at.

@@ -10,7 +10,7 @@ use Rattle.layout.specs.Words.{firstOf, lastOf}
 use Rattle.layout.specs.Shows.{Chain, Linked}
 use Rattle.layout.proofs.Chains.{chain-first, chain-last}
 use Rattle.words.specs.Access.{Address}
-use Rattle.links.specs.Links.{First, Next, Prev}
+use Rattle.links.specs.Links.{First, Last, Next, Prev}
 use Rattle.links.proofs.Splits.{Of, of-small, first-of, last-of}
 use Rattle.links.proofs.Chains.{chain-joint, chain-behind}
 
@@ -60,6 +60,9 @@ pub reads-first : {m : List ℕ} {q r i : ℕ} → q ≤ 319 → Address i (link
 reads-first {m} {q} {r} h a e =
     let f : r ≡ word m (linkAt (head q)) = e ∙ ap (word m) (a .is) in
     record { is = f; first = λ queues L. f ∙ head-word L q h }
+
+pub reads-last : {m : List ℕ} {q r i : ℕ} → q ≤ 319 → Address i (linkAt (tail q)) → r ≡ word m i → Last m q r
+reads-last {m} {q} h a e = record { last = λ queues L. e ∙ ap (word m) (a .is) ∙ tail-word L q h }
 
 pub reads-next : {m : List ℕ} {t r i : ℕ} → t ≤ 255 → Address i (linkAt (next t)) → r ≡ word m i → Next m t r
 reads-next {m} {t} {r} h a e =

@@ -54,6 +54,10 @@ pub record First (m : List ℕ) (q r : ℕ) : Type 0 where
   pub is : r ≡ word m (linkAt (head q))
   pub first : (queues : ℕ → List ℕ) → Linked m queues → r ≡ firstOf (queues q)
 
+-- r is the link to the last of queue q, 0 where it is empty.
+pub record Last (m : List ℕ) (q r : ℕ) : Type 0 where
+  pub last : (queues : ℕ → List ℕ) → Linked m queues → r ≡ lastOf 0 (queues q)
+
 -- r is the link to the one behind t in its queue, 0 where t is the last or in no queue.
 pub record Next (m : List ℕ) (t r : ℕ) : Type 0 where
   pub is : r ≡ word m (linkAt (next t))

@@ -3,7 +3,7 @@
 ghost use mathlib.Core.Path.{_≡_};
 ghost use Prim.Native.Nat.{_≤_};
 ghost use lib.ListN.{length};
-ghost use Rattle.links.specs.Links.{Joinable, Joins, Leavable, Leaves, First, Next, Prev};
+ghost use Rattle.links.specs.Links.{Joinable, Joins, Leavable, Leaves, First, Last, Next, Prev};
 
 // Thread t joins the tail of queue q.
 pub fn push_tail(tables: &mut [u32], q: usize, t: usize)
@@ -36,6 +36,14 @@ pub fn first(tables: &[u32], q: usize) -> u32
     ensures { λ r. ⌜ First (now (tables .entry)) q r ⌝ }
 {
     words::get(tables, words::head_at(q))
+}
+
+// The link to the last of queue q, 0 for none.
+pub fn last(tables: &[u32], q: usize) -> u32
+    requires { ⌜ (length (now tables) ≡ 4096) × (q ≤ 319) ⌝ }
+    ensures { λ r. ⌜ Last (now (tables .entry)) q r ⌝ }
+{
+    words::get(tables, words::tail_at(q))
 }
 
 // The link to the one behind thread t in its queue.

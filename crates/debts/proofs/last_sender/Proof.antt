@@ -11,14 +11,11 @@ first-sender-requires c κs = search needs
 returns : tie.Need-returns
 returns c = search last-none
 
-add-tail-at : tie.Need-add-tail-at
-add-tail-at c = search needs
+add-last : tie.Need-add-last
+add-last c = search needs
 
-tail-at-requires : tie.Need-tail-at-requires
-tail-at-requires c κs = search needs
-
-get-requires : tie.Need-get-requires
-get-requires c κs = search needs
+last-requires : tie.Need-last-requires
+last-requires c κs = search needs
 
 returns-2 : tie.Need-returns-2
 returns-2 c = search last-sends
@@ -26,4 +23,4 @@ returns-2 c = search last-sends
 pub last-sender-spec : {M : Type 1} → statement M
 last-sender-spec =
     tie.close
-    (tie.spec first-sender-requires returns add-tail-at tail-at-requires get-requires returns-2)
+    (tie.spec first-sender-requires returns add-last last-requires returns-2)

@@ -1,0 +1,19 @@
+-- The link to the last of a queue is the word at its tail.
+-- Assumes nothing.
+use borrow.Author.Needs.{needs}
+use Rattle.links.proofs.Readings.{reads-last}
+use Rattle.links.proofs.last.Statement.{statement}
+use Rattle.links.proofs.last.Tie as tie
+
+tail-at-requires : tie.Need-tail-at-requires
+tail-at-requires c κs = search needs
+
+get-requires : tie.Need-get-requires
+get-requires c κs = search needs
+
+returns : tie.Need-returns
+returns c =
+    reads-last (c .before .before .before .pre .1) (c .before .tail-at .ensures) (c .get .ensures)
+
+pub last-spec : {M : Type 1} → statement M
+last-spec = tie.close (tie.spec tail-at-requires get-requires returns)
