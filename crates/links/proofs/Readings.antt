@@ -57,27 +57,15 @@ module _ {m : List ℕ} {queues : ℕ → List ℕ} (L : Linked m queues) (q : �
 -- The links as the functions read them, at the address that an address function gave.
 
 pub reads-first : {m : List ℕ} {q r i : ℕ} → q ≤ 319 → Address i (linkAt (head q)) → r ≡ word m i → First m q r
-reads-first {m} {q} {r} h a e =
-    let f : r ≡ word m (linkAt (head q)) = e ∙ ap (word m) (a .is) in
-    record { is = f; first = λ queues L. f ∙ head-word L q h }
+reads-first {m} {q} h a e = record { first = λ queues L. e ∙ ap (word m) (a .is) ∙ head-word L q h }
 
 pub reads-last : {m : List ℕ} {q r i : ℕ} → q ≤ 319 → Address i (linkAt (tail q)) → r ≡ word m i → Last m q r
 reads-last {m} {q} h a e = record { last = λ queues L. e ∙ ap (word m) (a .is) ∙ tail-word L q h }
 
-pub reads-next : {m : List ℕ} {t r i : ℕ} → t ≤ 255 → Address i (linkAt (next t)) → r ≡ word m i → Next m t r
-reads-next {m} {t} {r} h a e =
-    let f : r ≡ word m (linkAt (next t)) = e ∙ ap (word m) (a .is) in
-    record {
-      is = f;
-      next = λ queues L q before behind g s. f ∙ next-split L q g t before behind s;
-      bare = λ queues L free. f ∙ L .bare t h free .0;
-    }
+pub reads-next : {m : List ℕ} {t r i : ℕ} → Address i (linkAt (next t)) → r ≡ word m i → Next m t r
+reads-next {m} {t} a e =
+    record { next = λ queues L q before behind g s. e ∙ ap (word m) (a .is) ∙ next-split L q g t before behind s }
 
-pub reads-prev : {m : List ℕ} {t r i : ℕ} → t ≤ 255 → Address i (linkAt (prev t)) → r ≡ word m i → Prev m t r
-reads-prev {m} {t} {r} h a e =
-    let f : r ≡ word m (linkAt (prev t)) = e ∙ ap (word m) (a .is) in
-    record {
-      is = f;
-      prev = λ queues L q before behind g s. f ∙ prev-split L q g t before behind s;
-      bare = λ queues L free. f ∙ L .bare t h free .1;
-    }
+pub reads-prev : {m : List ℕ} {t r i : ℕ} → Address i (linkAt (prev t)) → r ≡ word m i → Prev m t r
+reads-prev {m} {t} a e =
+    record { prev = λ queues L q before behind g s. e ∙ ap (word m) (a .is) ∙ prev-split L q g t before behind s }

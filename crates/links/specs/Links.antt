@@ -5,7 +5,7 @@ use mathlib.Core.Path.{_≡_}
 use mathlib.Core.List.{List, [], _∷_, _++_}
 use lib.ListN.{length}
 use Rattle.machine.specs.Lists.{put, without, Mem}
-use Rattle.layout.specs.Addresses.{Slot, ValidSlot, at, next, prev, head, linkAt, word}
+use Rattle.layout.specs.Addresses.{Slot, ValidSlot, at, next, prev, word}
 use Rattle.layout.specs.Words.{firstOf, lastOf}
 use Rattle.layout.specs.Shows.{Linked}
 
@@ -51,25 +51,20 @@ pub record Leaves (m : List ℕ) (q t : ℕ) (m′ : List ℕ) : Type 0 where
 
 -- r is the link to the first of queue q, 0 where it is empty.
 pub record First (m : List ℕ) (q r : ℕ) : Type 0 where
-  pub is : r ≡ word m (linkAt (head q))
   pub first : (queues : ℕ → List ℕ) → Linked m queues → r ≡ firstOf (queues q)
 
 -- r is the link to the last of queue q, 0 where it is empty.
 pub record Last (m : List ℕ) (q r : ℕ) : Type 0 where
   pub last : (queues : ℕ → List ℕ) → Linked m queues → r ≡ lastOf 0 (queues q)
 
--- r is the link to the one behind t in its queue, 0 where t is the last or in no queue.
+-- r is the link to the one behind t in its queue, 0 where t is the last.
 pub record Next (m : List ℕ) (t r : ℕ) : Type 0 where
-  pub is : r ≡ word m (linkAt (next t))
   pub next :
       (queues : ℕ → List ℕ) → Linked m queues → (q : ℕ) (before behind : List ℕ) → q ≤ 319
       → queues q ≡ before ++ (t ∷ behind) → r ≡ firstOf behind
-  pub bare : (queues : ℕ → List ℕ) → Linked m queues → Free queues t → r ≡ 0
 
--- r is the link to the one before t in its queue, 0 where t is the first or in no queue.
+-- r is the link to the one before t in its queue, 0 where t is the first.
 pub record Prev (m : List ℕ) (t r : ℕ) : Type 0 where
-  pub is : r ≡ word m (linkAt (prev t))
   pub prev :
       (queues : ℕ → List ℕ) → Linked m queues → (q : ℕ) (before behind : List ℕ) → q ≤ 319
       → queues q ≡ before ++ (t ∷ behind) → r ≡ lastOf 0 before
-  pub bare : (queues : ℕ → List ℕ) → Linked m queues → Free queues t → r ≡ 0

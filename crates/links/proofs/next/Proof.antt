@@ -13,7 +13,7 @@ get-requires c κs = search needs
 
 returns : tie.Need-returns
 returns c =
-    reads-next (c .before .before .before .pre .1) (c .before .next-at .ensures) (c .get .ensures)
+    reads-next (c .before .next-at .ensures) (c .get .ensures)
 
 pub next-spec : {M : Type 1} → statement M
 next-spec = tie.close (tie.spec next-at-requires get-requires returns)

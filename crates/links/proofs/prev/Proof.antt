@@ -13,7 +13,7 @@ get-requires c κs = search needs
 
 returns : tie.Need-returns
 returns c =
-    reads-prev (c .before .before .before .pre .1) (c .before .prev-at .ensures) (c .get .ensures)
+    reads-prev (c .before .prev-at .ensures) (c .get .ensures)
 
 pub prev-spec : {M : Type 1} → statement M
 prev-spec = tie.close (tie.spec prev-at-requires get-requires returns)
