@@ -1,14 +1,17 @@
--- The buffer's words are those in the bytes, so a batch of them lists the bytes' calls.
+-- The buffer's words are those in the bytes, so a batch of them lists the bytes' calls; what a turn does with them.
 -- Assumes nothing.
-use Prim.Native.Nat.{ℕ, zero, suc, _+_, _*_, _/_, _^_, _≤_, _<_}
-use mathlib.Core.Path.{_≡_, refl, ap, subst, _∙_}
-use mathlib.Core.Bool.{Bool}
+use Prim.Native.Nat.{ℕ, zero, suc, _+_, _*_, _/_, _%_, _^_, _≤_, _<_}
+use mathlib.Core.Path.{_≡_, refl, sym, ap, subst, _∙_}
+use mathlib.Core.Bool.{Bool, true, false, _&&_}
 use mathlib.Core.List.{List, [], _∷_}
 use native.Mathlib.Omega.{arith}
-use lib.ListN.{length, take, getD}
+use lib.ListN.{length, take, drop, getD}
 use Rattle.batches.specs.declared.Cursor.{Cursor}
 use Rattle.batches.specs.Lines.{Listed}
-use Rattle.trace.specs.Words.{littleEndian, WordsOf, wordsIn}
+use Rattle.trace.specs.declared.Progress.{Progress}
+use Rattle.trace.specs.Words.{littleEndian, WordsOf, MovedFrom, ReadBehind, wordsIn}
+use Rattle.trace.specs.Turns.{Turned}
+use Rattle.trace.proofs.Buffers.{moved-rest}
 
 -- Four bytes further on the words are the next ones.
 next-words :
@@ -58,3 +61,33 @@ pub bytes-listed :
     i + length (wordsIn bytes) < 2 ^ 64 → Listed ended (wordsIn bytes) odd i m x out r m′ x′ out′
 bytes-listed bytes words n e h all ended odd i m x out r m′ x′ out′ =
     subst (λ l. i + length l < 2 ^ 64 → Listed ended l odd i m x out r m′ x′ out′) (taken-words bytes words n e h all)
+
+going-on : (a b : Bool) → (a && b) ≡ true → a ≡ true
+going-on true b e = refl
+going-on false b e = e
+
+-- A turn: bytes are read behind those held, all of them are listed, and those left over are moved to the front.
+pub turned :
+    (p r : Progress) (bytes b₁ b₂ : List ℕ) (held₁ : ℕ) →
+    ReadBehind (p .held) bytes held₁ b₁ → held₁ ≤ length b₁ → length b₂ ≡ length b₁ →
+    (m x out : List ℕ) (at : Cursor) (m′ x′ out′ : List ℕ) →
+    (p .index + length (wordsIn (take held₁ b₁)) < 2 ^ 64 →
+    Listed (r .ended) (wordsIn (take held₁ b₁)) (length (take held₁ b₁) % 4) (p .index) m x out at m′ x′ out′) →
+    r .held + at .next * 4 ≡ held₁ → MovedFrom (at .next * 4) b₁ b₂ (r .held) →
+    r .index ≡ at .index → (shown : Bool) → r .going ≡ (at .going && shown) →
+    Turned p bytes m x r b₂ m′ x′
+turned p r bytes b₁ b₂ held₁ got h same m x out at m′ x′ out′ did left moved index shown going = record {
+  read = got .read;
+  at = at;
+  out = out;
+  out′ = out′;
+  listed =
+      subst
+      (λ l.
+      p .index + length (wordsIn l) < 2 ^ 64 →
+      Listed (r .ended) (wordsIn l) (length l % 4) (p .index) m x out at m′ x′ out′)
+      (got .all) did;
+  rest = moved-rest b₁ b₂ held₁ (at .next * 4) (r .held) h same left moved ∙ ap (drop (at .next * 4)) (got .all);
+  index = index;
+  going = λ e. going-on (at .going) shown (sym going ∙ e);
+}

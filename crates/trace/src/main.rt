@@ -2,10 +2,12 @@
 // A word that does not read as a call, and odd bytes at the end, stop the listing with a last line.
 ghost use Prim.Native.Nat.{_+_, _*_, _%_, _^_, _≤_, _<_};
 ghost use mathlib.Core.Path.{_≡_};
+ghost use mathlib.Core.Logic.{_⊎_};
 ghost use lib.ListN.{length};
 ghost use Rattle.io.specs.Counts.{Counts};
 ghost use Rattle.batches.specs.Lines.{Listed};
 ghost use Rattle.trace.specs.Words.{wordsIn};
+ghost use Rattle.trace.specs.Turns.{Turned, Unread};
 
 mod input;
 mod output;
@@ -51,6 +53,9 @@ fn list(
 fn turn(p: Progress, bytes: &mut [u8], tables: &mut [u32], scratch: &mut [u32]) -> Progress
     requires { ⌜ (length (now bytes) ≡ 4096) × (p .held ≤ 4096) ⌝ }
     ensures { λ r. ⌜ r .held ≤ 4096 ⌝ }
+    ensures { λ r. ⌜ (Unread p (now (tables .entry)) (now (scratch .entry)) r (now (tables .exit)) (now (scratch .exit))
+        ⊎ Turned p (now (bytes .entry)) (now (tables .entry)) (now (scratch .entry))
+        r (now (bytes .exit)) (now (tables .exit)) (now (scratch .exit))) ⌝ }
 {
     let got = input::more(bytes, p.held, p.ended);
     let held = got.held;

@@ -1,8 +1,11 @@
--- `trace::turn` is safe: the bytes kept are no more than those held, and these fit the buffer.
+-- `trace::turn` meets its contract: nothing could be read, or all bytes held are listed and those left over kept.
 -- Assumes nothing.
 use Prim.Native.Nat.{_≤_}
+use mathlib.Core.Path.{refl}
+use mathlib.Core.Logic.{inl, inr}
 use native.Mathlib.Omega.{arith}
 use borrow.Author.Needs.{needs}
+use Rattle.trace.proofs.Listing.{turned}
 use Rattle.trace.proofs.turn.Statement.{statement}
 use Rattle.trace.proofs.turn.Tie as tie
 
@@ -19,7 +22,7 @@ same-length : tie.Need-same-length
 same-length c = search needs
 
 returns : tie.Need-returns
-returns c = search needs
+returns c = (search needs, inl (record { going = refl; index = refl; tables = refl; scratch = refl }))
 
 slice-reshare-prefix-list : tie.Need-slice-reshare-prefix-list
 slice-reshare-prefix-list c = search needs
@@ -62,7 +65,17 @@ held-fits : (c : tie.After-slice-known4) → c .before .before .more .result .he
 held-fits c = search needs
 
 returns-2 : tie.Need-returns-2
-returns-2 c = omega (arith, c .before .before .before .keep .ensures .0, held-fits (c .before .before .before .before .before .before .before .before .before .before .before .before .before .before .before .before .before .before .before))
+returns-2 c =
+    let kept = c .before .before .before in
+    let shown = kept .before .before .before in
+    let list = shown .before .before .before .before .before .before .before in
+    let held = list .before .before .before .before .before .before in
+    let got = held .before .before .more .ensures in (
+      omega (arith, kept .keep .ensures .0, held-fits held),
+      inr
+          (turned _ _ _ _ _ _ (got .1) (got .0 .0) (search needs) _ _ _ _ _ _ _ (list .list .ensures .1 .1)
+          (kept .keep .ensures .0) (kept .keep .ensures .1) refl (shown .show .result) refl),
+    )
 
 pub turn-spec : {M : Type 1} → statement M
 turn-spec =
