@@ -1,13 +1,13 @@
--- Buffers that are filled from the front: after one store more, one word or byte more is right.
+-- Buffers that are filled from the front: after one store more, one word or byte more is right; what a read leaves.
 -- Assumes nothing.
 use Prim.Native.Nat.{ℕ, _+_, _*_, _≤_, _<_}
-use mathlib.Core.Path.{_≡_, refl, subst, _∙_}
-use mathlib.Core.List.{List}
+use mathlib.Core.Path.{_≡_, refl, sym, ap, subst, _∙_}
+use mathlib.Core.List.{List, [], _++_, append-nil}
 use native.Mathlib.Omega.{arith}
-use lib.ListN.{length, getD, set}
-use lib.Seq.{getD-set-same, getD-set-other}
+use lib.ListN.{length, getD, set, take, drop, length-drop}
+use lib.Seq.{getD-set-same, getD-set-other, length-take-le, take-append-add, ext-getD, getD-take, getD-drop}
 use Rattle.machine.proofs.Lists.{Same, same, other, same?}
-use Rattle.trace.specs.Words.{littleEndian, WordsOf, MovedFrom}
+use Rattle.trace.specs.Words.{littleEndian, WordsOf, MovedFrom, ReadBehind}
 
 -- what holds of the places before i, and of i, holds of those before i + 1
 below-more :
@@ -68,3 +68,32 @@ fewer-words bytes words i count all h = record { each = λ j l. all .each j (ome
 pub fewer-moved :
     (from : ℕ) (bytes m : List ℕ) (i count : ℕ) → MovedFrom from bytes m i → count ≤ i → MovedFrom from bytes m count
 fewer-moved from bytes m i count all h = record { each = λ j l. all .each j (omega (arith, h, l)) }
+
+-- What a read leaves: nothing read, or the part behind the bytes held.
+pub none-read : (held : ℕ) (bytes : List ℕ) → ReadBehind held bytes held bytes
+none-read held bytes = record { read = []; all = sym (append-nil (take held bytes)) }
+
+pub part-read :
+    (bytes : List ℕ) (held : ℕ) → held ≤ length bytes →
+    (part bytes′ : List ℕ) (n : ℕ) → bytes′ ≡ take held bytes ++ part → ReadBehind held bytes (held + n) bytes′
+part-read bytes held h part bytes′ n e = record {
+  read = take n part;
+  all =
+      ap (take (held + n)) e
+      ∙ ap (λ (k : ℕ). take (k + n) (take held bytes ++ part)) (sym (length-take-le held bytes h))
+      ∙ take-append-add (take held bytes) part n;
+}
+
+-- The bytes moved are those held from a place on.
+pub moved-rest :
+    (bytes m : List ℕ) (held from left : ℕ) → held ≤ length bytes → length m ≡ length bytes → left + from ≡ held →
+    MovedFrom from bytes m left → take left m ≡ drop from (take held bytes)
+moved-rest bytes m held from left h as-long e moved =
+    let long = length-take-le left m (omega (arith, h, as-long, e)) in
+    ext-getD 0 (take left m) (drop from (take held bytes))
+    (omega (arith, long, e, length-drop from (take held bytes), length-take-le held bytes h))
+    (λ i l.
+    getD-take left m i 0 (omega (arith, l, long))
+    ∙ moved .each i (omega (arith, l, long))
+    ∙ sym (getD-take held bytes (from + i) 0 (omega (arith, l, long, e)))
+    ∙ sym (getD-drop from (take held bytes) i 0))

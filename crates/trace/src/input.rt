@@ -3,7 +3,7 @@ ghost use Prim.Native.Nat.{_+_, _*_, _/_, _≤_, _<_};
 ghost use mathlib.Core.Path.{_≡_};
 ghost use lib.ListN.{length};
 ghost use Rattle.io.specs.Counts.{Counts};
-ghost use Rattle.trace.specs.Words.{littleEndian, WordsOf, MovedFrom};
+ghost use Rattle.trace.specs.Words.{littleEndian, WordsOf, MovedFrom, ReadBehind};
 
 // The bytes of the longest call: with so many the reader need not wait for more.
 const ENOUGH: usize = 12;
@@ -19,6 +19,7 @@ pub struct Got {
 fn read(bytes: &mut [u8], held: usize) -> Got
     requires { ⌜ held ≤ length (now bytes) ⌝ }
     ensures { λ r. ⌜ Counts (r .held) (now (bytes .exit)) ⌝ }
+    ensures { λ r. ⌜ ReadBehind held (now (bytes .entry)) (r .held) (now (bytes .exit)) ⌝ }
 {
     let got = libc::read(libc::STDIN_FILENO, &mut bytes[held..]);
     let n = io::count(got, &bytes[held..]);
@@ -33,6 +34,7 @@ fn read(bytes: &mut [u8], held: usize) -> Got
 pub fn more(bytes: &mut [u8], held: usize, ended: bool) -> Got
     requires { ⌜ held ≤ length (now bytes) ⌝ }
     ensures { λ r. ⌜ Counts (r .held) (now (bytes .exit)) ⌝ }
+    ensures { λ r. ⌜ ReadBehind held (now (bytes .entry)) (r .held) (now (bytes .exit)) ⌝ }
 {
     if ended || ENOUGH <= held {
         return Got {

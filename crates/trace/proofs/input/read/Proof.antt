@@ -1,7 +1,9 @@
--- `trace::input::read` is safe: a read gives no more bytes than there was room for.
+-- `trace::input::read` meets its contract: a read gives no more bytes than there was room for, behind those held.
 -- Assumes nothing.
+use mathlib.Core.Path.{refl}
 use borrow.Author.Needs.{needs}
 use Rattle.batches.proofs.Reading.{counts}
+use Rattle.trace.proofs.Buffers.{part-read}
 use Rattle.trace.proofs.input.read.Statement.{statement}
 use Rattle.trace.proofs.input.read.Tie as tie
 
@@ -36,7 +38,9 @@ same-length : tie.Need-same-length
 same-length c = search needs
 
 returns : tie.Need-returns
-returns c = counts _ _ (search needs)
+returns c =
+    let start = c .before .before .before .before .before .before .before .before in
+    (counts _ _ (search needs), part-read (start .args .bytes .now) (start .args .held) (start .pre) _ _ _ refl)
 
 pub read-spec : {M : Type 1} → statement M
 read-spec =
