@@ -15,7 +15,7 @@ use Rattle.journal.specs.Words.{readAt}
 use Rattle.journal.specs.Rows.{Row}
 use Rattle.listing.specs.Line.{lineOf}
 use Rattle.listing.specs.Buffer.{Wrote}
-use Rattle.kernel.specs.Entry.{Called, called, runningLink}
+use Rattle.kernel.specs.Entry.{called, runningLink}
 use Rattle.batches.specs.declared.Cursor.{Cursor}
 use Rattle.batches.specs.Turns.{lastCode}
 use Rattle.batches.specs.Rows.{threadOf, takenFrom}

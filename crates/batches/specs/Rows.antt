@@ -11,7 +11,7 @@ use Rattle.journal.specs.declared.types.Read.the-variants.{Found, Refused, Ende
 use Rattle.journal.specs.Words.{readAt}
 use Rattle.journal.specs.Rows.{Row}
 use Rattle.tables.specs.Entries.{freshened}
-use Rattle.kernel.specs.Entry.{Called, called, runningLink}
+use Rattle.kernel.specs.Entry.{called, runningLink}
 
 -- The thread that a link is to.
 abbrev pub threadOf : ℕ → Option ℕ

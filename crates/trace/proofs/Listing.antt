@@ -9,7 +9,7 @@ use lib.ListN.{length, take, drop, getD}
 use Rattle.batches.specs.declared.Cursor.{Cursor}
 use Rattle.batches.specs.Lines.{Listed}
 use Rattle.trace.specs.declared.Progress.{Progress}
-use Rattle.trace.specs.Words.{littleEndian, WordsOf, MovedFrom, ReadBehind, wordsIn}
+use Rattle.trace.specs.Words.{WordsOf, MovedFrom, ReadBehind, wordsIn}
 use Rattle.trace.specs.Turns.{Turned}
 use Rattle.trace.proofs.Buffers.{moved-rest}
 
