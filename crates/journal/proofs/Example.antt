@@ -1,8 +1,7 @@
 -- The example of document 01: its words, read by the reader's definition and made in turn, give its twelve lines.
--- Assumes nothing.
 use Prim.Native.Nat.{ℕ}
 use mathlib.Core.Path.{_≡_, refl}
-use mathlib.Core.Option.{some}
+use mathlib.Core.Option.{Option, none, some}
 use mathlib.Core.List.{List, [], _∷_}
 use Rattle.machine.proofs.Computed.{computed}
 use Rattle.journal.specs.Words.{callOf, callAt, wordsTaken, readFrom, readAt}
@@ -14,15 +13,21 @@ example =
     ∷ 0x20000008 ∷ 0x300000C8 ∷ 0x1C000001 ∷ 0x20000007 ∷ 0x17000000 ∷ 0x20000007 ∷ 0x30000065 ∷ 0x18000000
     ∷ 0x1C000005 ∷ 0x20000007 ∷ 0x12030000 ∷ 0x1C000001 ∷ 0x20000007 ∷ []
 
--- n, call, code, count, badge, message, running
-line : ℕ → ℕ → ℕ → ℕ → ℕ → ℕ → ℕ → Row
-line n call code count badge message running =
+-- n, call, code, count, badge, message; the running thread, or none
+abbrev pub row : ℕ → ℕ → ℕ → ℕ → ℕ → ℕ → Option ℕ → Row
+row n call code count badge message running =
     record {
       index = n;
       call = call;
       answer = record { code = code; count = count; badge = badge; message = message };
-      running = some running;
+      running = running;
     }
+
+abbrev pub line : ℕ → ℕ → ℕ → ℕ → ℕ → ℕ → ℕ → Row
+line n call code count badge message running = row n call code count badge message (some running)
+
+abbrev pub idle : ℕ → ℕ → ℕ → ℕ → ℕ → ℕ → Row
+idle n call code count badge message = row n call code count badge message none
 
 lines : List Row
 lines =
@@ -42,5 +47,5 @@ lines =
 
 -- "The twelve lines above are proved of the machine."
 twelve-lines : rowsOf example ≡ lines
-unfolding rowsOf rowsFrom readAt readFrom callAt callOf wordsTaken example lines line computed
+unfolding rowsOf rowsFrom readAt readFrom callAt callOf wordsTaken example lines computed
 twelve-lines = refl

@@ -134,6 +134,16 @@ name-linkAt (prev t) h = thread-row t 7 h (omega arith)
 name-linkAt (head q) h = queue-row q 0 h (omega arith) (2560 + 2 * q) (omega arith)
 name-linkAt (tail q) h = queue-row q 1 h (omega arith) (2561 + 2 * q) (omega arith)
 
+-- The place in its row names a word of a thread, and of an endpoint.
+pub same-field : (f g : Field) (t : ℕ) → column f ≡ column g → ofThread f t ≡ ofThread g t
+same-field f g t e =
+    let k : slot (ofThread f t) ≡ slot (ofThread g t) = sym (field-name f t) ∙ ap (inThread t) e ∙ field-name g t in cc
+
+pub same-part : (p q : Part) (e : ℕ) → offset p ≡ offset q → ofEndpoint p e ≡ ofEndpoint q e
+same-part p q e k =
+    let j : slot (ofEndpoint p e) ≡ slot (ofEndpoint q e) = sym (part-name p e) ∙ ap (inEndpoint e) k ∙ part-name q e in
+    cc
+
 -- Each valid name is the name of its address: two valid names have the same address only if they are the same.
 pub name-address : (a : Name) → Valid a → nameOf (address a) ≡ a
 name-address (slot a) h = name-at a h

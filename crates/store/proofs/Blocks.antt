@@ -1,6 +1,6 @@
 -- The block of a thread: after stores to some of its words the memory shows the state with another thread there.
 -- Assumes nothing.
-use Prim.Native.Nat.{ℕ, _+_, _*_, _≤_}
+use Prim.Native.Nat.{ℕ, _≤_}
 use mathlib.Core.Path.{_≡_, refl, sym, _∙_, ap}
 use mathlib.Core.List.{List}
 use lib.ListN.{set}
@@ -11,7 +11,7 @@ use Rattle.layout.specs.Addresses.{Field, place, priority, ticks, outcome, badg
 use Rattle.layout.specs.Addresses.{ofEndpoint, ofLine, summary, top, running, unused, ValidSlot, column, at, word}
 use Rattle.layout.specs.Words.{placeCode, debtCode, noteCode, threadWord, content, queuesOf}
 use Rattle.layout.specs.Shows.{Shows}
-use Rattle.layout.proofs.Stores.{at-injective}
+use Rattle.layout.proofs.Addresses.{same-field}
 use Rattle.words.specs.Access.{Address}
 use Rattle.store.specs.Steps.{Does}
 use Rattle.store.specs.Store.{IsThread, prioritising, ticking, Places, Owes}
@@ -48,15 +48,11 @@ fields w x a b c d e f g h owes = g
 fields w x a b c d e f g h note = h
 
 module _ (t : ℕ) (small : t ≤ 255) where
-  same-column : (f g : Field) → column f ≡ column g → blockRow t f ≡ blockRow t g
-  unfolding at
-  same-column f g e = at-injective (blockRow t f) (blockRow t g) small small (ap (λ k. 10 * t + k) e)
-
   is-block : IsRow (blockRow t) (OffBlock t) column
   is-block =
       record {
         valid = λ f. small;
-        to = same-column;
+        to = λ f g. same-field f g t;
         from = λ f g e. let k : f ≡ g = cc in ap column k;
         off = λ a f o e. (rw e at o) refl;
       }

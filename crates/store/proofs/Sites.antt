@@ -1,6 +1,6 @@
 -- The words of an endpoint: after stores to some of them the memory shows the state with another endpoint there, which
 -- has the same waiters. Assumes nothing.
-use Prim.Native.Nat.{ℕ, _+_, _*_, _-_, _≤_}
+use Prim.Native.Nat.{ℕ, _-_, _≤_}
 use mathlib.Core.Path.{_≡_, refl, sym, _∙_, ap}
 use mathlib.Core.Option.{none, some}
 use mathlib.Core.List.{List}
@@ -15,7 +15,7 @@ use Rattle.layout.specs.Addresses.{ofLine, summary, top, running, unused, Valid
 use Rattle.layout.specs.Words.{statusCode, abortCode, badgeCode, linkOf, firstOf, lastOf, endpointWord, content}
 use Rattle.layout.specs.Words.{queuesOf}
 use Rattle.layout.specs.Shows.{Shows}
-use Rattle.layout.proofs.Stores.{at-injective}
+use Rattle.layout.proofs.Addresses.{same-part}
 use Rattle.words.specs.Access.{Address}
 use Rattle.store.specs.Store.{Stands, Aborts, Owners, Looks}
 use Rattle.store.proofs.Rows.{Row, change, IsRow, row-store, row-start, row-shows}
@@ -50,15 +50,11 @@ parts w x a b c d e f cursor = e
 parts w x a b c d e f end = f
 
 module _ (e : ℕ) (small : e ≤ 63) where
-  same-offset : (p q : Part) → offset p ≡ offset q → siteRow e p ≡ siteRow e q
-  unfolding at
-  same-offset p q k = at-injective (siteRow e p) (siteRow e q) small small (ap (λ j. 3200 + 6 * e + j) k)
-
   is-site : IsRow (siteRow e) (OffSite e) offset
   is-site =
       record {
         valid = λ p. small;
-        to = same-offset;
+        to = λ p q. same-part p q e;
         from = λ p q k. let j : p ≡ q = cc in ap offset j;
         off = λ a p o k. (rw k at o) refl;
       }

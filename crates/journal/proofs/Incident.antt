@@ -1,0 +1,41 @@
+-- The incident of release 6 (docs/INCIDENT.md): its words, made in turn on the machine, give the listing told there.
+use Prim.Native.Nat.{ℕ}
+use mathlib.Core.Path.{_≡_, refl}
+use mathlib.Core.List.{List, [], _∷_}
+use Rattle.machine.proofs.Computed.{computed}
+use Rattle.journal.specs.Words.{callOf, callAt, wordsTaken, readFrom, readAt}
+use Rattle.journal.specs.Rows.{Row, rowsFrom, rowsOf}
+use Rattle.journal.proofs.Example.{line, idle}
+
+incident : List ℕ
+incident =
+    0x11020005 ∷ 0x14000000 ∷ 0x17000000 ∷ 0x20000007 ∷ 0x30000064 ∷ 0x11030005 ∷ 0x17000000 ∷ 0x20000008
+    ∷ 0x300000C8 ∷ 0x11040005 ∷ 0x17000000 ∷ 0x20000007 ∷ 0x30000065 ∷ 0x1101000A ∷ 0x1C000001 ∷ 0x20000007
+    ∷ 0x12030000 ∷ 0x1105000B ∷ 0x17000000 ∷ 0x20000007 ∷ 0x3000012C ∷ 0x1A000000 ∷ 0x1C000005 ∷ 0x20000007
+    ∷ 0x15000000 ∷ 0x17000000 ∷ 0x20000007 ∷ 0x3000012C ∷ 0x18000000 ∷ []
+
+told : List Row
+told =
+    line 0 1 0 0 0 0 2
+    ∷ line 1 4 0 0 0 0 2
+    ∷ idle 2 7 1 0 0 0
+    ∷ line 3 1 0 0 0 0 3
+    ∷ idle 4 7 1 0 0 0
+    ∷ line 5 1 0 0 0 0 4
+    ∷ idle 6 7 1 0 0 0
+    ∷ line 7 1 0 0 0 0 1
+    ∷ line 8 12 2 1 0 0 1
+    ∷ line 9 2 0 0 0 0 1
+    ∷ line 10 1 0 0 0 0 5
+    ∷ line 11 7 26 0 0 0 5
+    ∷ line 12 10 1 0 0 0 1
+    ∷ line 13 12 0 1 0 0 1
+    ∷ line 14 5 0 0 0 0 5
+    ∷ line 15 7 1 0 0 0 1
+    ∷ line 16 8 0 0 7 300 5
+    ∷ []
+
+-- The new holder's message is the one received: 300 in the last line.
+incident-lines : rowsOf incident ≡ told
+unfolding rowsOf rowsFrom readAt readFrom callAt callOf wordsTaken incident told computed
+incident-lines = refl
