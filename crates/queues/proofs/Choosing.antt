@@ -1,6 +1,6 @@
 -- The highest occupied level as the summary finds it, its head that runs, and the choice of the thread that runs.
 -- Assumes nothing.
-use Prim.Native.Nat.{ℕ, zero, suc, _+_, _-_, _≤_, _<_}
+use Prim.Native.Nat.{ℕ, suc, _+_, _-_, _≤_, _<_}
 use mathlib.Core.Path.{_≡_, refl, sym, _∙_, ap, subst}
 use mathlib.Core.Logic.{inl}
 use mathlib.Core.Option.{Option, none, some}
@@ -8,16 +8,17 @@ use mathlib.Core.List.{List, [], _∷_}
 use native.Mathlib.Omega.{arith}
 use lib.ListN.{length}
 use borrow.Author.Tests.{lt-ltb, le-ltb}
-use Rattle.machine.specs.Lists.{pick, without, Distinct}
+use Rattle.machine.specs.Lists.{without, Distinct}
 use Rattle.machine.specs.State.{State, setRuns, setLevel}
-use Rattle.machine.specs.Scheduling.{standDown, occupied, highestBelow, highest, dispatchHead, dispatchAt, dispatch}
+use Rattle.machine.specs.Scheduling.{standDown, highest, dispatchHead, dispatchAt, dispatch}
 use Rattle.machine.specs.Scheduling.{displace, chooseFor, choose}
 use Rattle.machine.proofs.Lists.{without-first}
 use Rattle.machine.proofs.Choosing.{Highest, highest-is}
 use Rattle.summary.specs.declared.Summary.{Summary}
 use Rattle.summary.specs.declared.Level.{Level}
 use Rattle.summary.specs.declared.Level.the-variants.{At, Nothing}
-use Rattle.summary.specs.Levels.{highestIn, levelOf, IsSummary, Finds}
+use Rattle.summary.proofs.Tops.{highest-levels}
+use Rattle.summary.specs.Levels.{levelOf, IsSummary, Finds}
 use Rattle.layout.specs.Words.{linkOf, firstOf, queuesOf, occupiedIn}
 use Rattle.layout.specs.Shows.{Shows}
 use Rattle.layout.proofs.Standing.{queues-level}
@@ -31,18 +32,12 @@ use Rattle.queues.proofs.Joining.{shown-next}
 
 -- The level that the summary finds is the machine's.
 
-highest-levels : (n : ℕ) (levels : ℕ → List ℕ) → highestIn n (λ p. occupied (levels p)) ≡ highestBelow n levels
-unfolding highestIn highestBelow
-highest-levels zero levels = refl
-highest-levels (suc n) levels = ap (pick (occupied (levels n)) (some n)) (highest-levels n levels)
-
 pub summary-loaded : {m : List ℕ} {sm : Summary} → Shown m Any → Loads m sm → IsSummary sm
 summary-loaded S L = record { levels = occupiedIn (S .state); shown = L .shown (S .state) (S .shows) }
 
 module _ {m : List ℕ} {sm : Summary} {l : Level} (L : Loads m sm) (F : Finds sm l) where
   found : (s : State) → Shows m s → levelOf l ≡ highest (s .levels)
-  unfolding highest
-  found s M = F .found (occupiedIn s) (L .shown s M) ∙ highest-levels 256 (s .levels)
+  found s M = F .found (occupiedIn s) (L .shown s M) ∙ sym (highest-levels (s .levels))
 
   pub level-small : (p : ℕ) → l ≡ At p → Shown m Any → p < 256
   level-small p e S =
