@@ -19,7 +19,7 @@ use Rattle.layout.specs.Decode.{placeOf, threadFrom}
 use Rattle.layout.proofs.Addresses.{below?}
 use Rattle.layout.proofs.Codes.{PlaceSmall, place-back, DebtSmall}
 use Rattle.layout.proofs.Blocks.{NeatThread, absent-neat, thread-back, debt-in-range}
-use Rattle.layout.proofs.Decision.{seat-small}
+use Rattle.layout.proofs.Neat.{seat-small}
 use Rattle.layout.proofs.Tests.{Tells, tells-map, tells-and, tells-or, tells-eqb, tells-leb, tells-some, tells-awaited}
 use Rattle.checks.specs.Checks.{threadIn, endpointIn, absentTest, numbersTest, storedTest, waitsTest, owesTest}
 use Rattle.checks.specs.Checks.{presentTest, blockTest}

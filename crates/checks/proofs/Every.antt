@@ -6,7 +6,7 @@ use mathlib.Core.Logic.{⊎-elim}
 use mathlib.Core.Path.{_≡_, refl, sym, subst}
 use native.Mathlib.Nat.{eq-or-lt-of-le, le-of-suc-le-suc}
 use native.Mathlib.Omega.{arith}
-use Rattle.layout.specs.Tables.{all}
+use Rattle.layout.specs.Tests.{all}
 
 pub and-false : (b : Bool) → (b && false) ≡ false
 and-false true = refl

@@ -1,21 +1,16 @@
 -- The tests of the check hold exactly where the memory shows a sound state.
 -- Assumes nothing.
 use Prim.Native.Nat.{ℕ}
-use mathlib.Core.Path.{_≡_, refl}
+use mathlib.Core.Path.{_≡_}
 use mathlib.Core.Logic.{_↔_}
-use mathlib.Core.Bool.{Bool, true, false}
-use mathlib.Core.Option.{Option, none, some}
+use mathlib.Core.Bool.{true}
 use mathlib.Core.List.{List}
 use lib.ListN.{length}
-use Rattle.machine.specs.Lists.{pick}
 use Rattle.machine.specs.State.{State}
 use Rattle.machine.specs.Sound.{Sound}
-use Rattle.machine.proofs.Lists.{clash}
 use Rattle.layout.specs.Shows.{Shows}
 use Rattle.layout.specs.Decode.{decode}
-use Rattle.layout.specs.Tables.{stateOf}
 use Rattle.layout.proofs.Neat.{sound-neat}
-use Rattle.layout.proofs.Tables.{shows-state, state-exact, state-shows}
 use Rattle.checks.specs.Checks.{goodTest}
 use Rattle.checks.proofs.Reading.{Reads}
 use Rattle.checks.proofs.Tried.{tells-tried, left-of, tried-of}
@@ -43,16 +38,6 @@ pub sound-good : (m : List ℕ) (s : State) → Sound s → Shows m s → goodTe
 sound-good m s S M =
     let R : Reads m s = record { neat = sound-neat s S; slots = M .slots; chains = M .links .chains } in
     tells-tried m .back (tried-of m s R (sound-left m s R S (M .links)))
-
--- The tests decide which state the memory shows: the decoded one, or none.
-pub good-state : (m : List ℕ) → length m ≡ 4096 → stateOf m ≡ pick (goodTest m) (some (decode m)) none
-good-state m size = go (goodTest m) refl (stateOf m) refl
-  where
-    go : (b : Bool) → goodTest m ≡ b → (o : Option State) → stateOf m ≡ o
-        → stateOf m ≡ pick (goodTest m) (some (decode m)) none
-    go true h o e = let r = good-decoded m size h in rw h (shows-state m (decode m) (r .0) (r .1))
-    go false h none e = rw h e
-    go false h (some s) e = absurd (clash (sound-good m s (state-exact m s .0 e .0) (state-shows m s e)) h)
 
 -- All tests pass exactly where the memory shows a sound state.
 pub good-exactly : (m : List ℕ) → length m ≡ 4096 → (goodTest m ≡ true) ↔ Sound-tables m

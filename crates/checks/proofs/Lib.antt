@@ -12,3 +12,4 @@ pub mod Tried
 pub mod Shown
 pub mod Soundness
 pub mod Good
+pub mod Tables

@@ -11,10 +11,10 @@ use Rattle.machine.specs.Sound.{Ready, Queued}
 use Rattle.machine.proofs.Lists.{Same, same, other, same?}
 use Rattle.layout.specs.Addresses.{place, ofThread, next, prev, linkAt, word}
 use Rattle.layout.specs.Words.{placeCode, queuesOf}
-use Rattle.layout.specs.Tables.{member}
+use Rattle.layout.specs.Tests.{member}
 use Rattle.layout.proofs.Codes.{PlaceSmall}
 use Rattle.layout.proofs.Standing.{each-queue}
-use Rattle.layout.proofs.Decision.{seat-small}
+use Rattle.layout.proofs.Neat.{seat-small}
 use Rattle.layout.proofs.Tests.{Tells, tells-false, tells-map, tells-and, tells-or, tells-not, tells-agree, tells-eqb}
 use Rattle.layout.proofs.Tests.{tells-leb, tells-member}
 use Rattle.checks.specs.Checks.{met, metBelow, queuedTest, placedTest}

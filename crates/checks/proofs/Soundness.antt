@@ -18,7 +18,7 @@ use Rattle.layout.proofs.Ends.{none-some}
 use Rattle.layout.proofs.Standing.{Queue, level, endpoint, queue?, queues-level, queues-endpoint, each-queue}
 use Rattle.layout.proofs.Standing.{queue-small, queue-distinct, queue-apart}
 use Rattle.layout.proofs.Neat.{Neat, nobody}
-use Rattle.layout.proofs.Decision.{seated, seat-small}
+use Rattle.layout.proofs.Neat.{seated, seat-small}
 use Rattle.checks.proofs.Tests.{told}
 use Rattle.checks.proofs.Walks.{chain-distinct}
 use Rattle.checks.proofs.Cursors.{part-in}

@@ -2,7 +2,6 @@
 -- tests hold exactly where the memory shows a sound state is a theorem, and the check's promise speaks of that alone.
 use Prim.Native.Nat.{ℕ, zero, suc, _+_, _-_, _^_}
 use mathlib.Core.Bool.{Bool, true, false, not, _&&_, _||_}
-use mathlib.Core.Option.{Option, none, some}
 use mathlib.Core.List.{List, [], _∷_}
 use lib.Dec.{eqb, leb, ltb}
 use Rattle.machine.specs.Lists.{pick}
@@ -11,7 +10,7 @@ use Rattle.layout.specs.Addresses.{Field, place, priority, ticks, outcome, badg
 use Rattle.layout.specs.Addresses.{Part, status, aborting, aborted, owner, cursor, end, ofEndpoint}
 use Rattle.layout.specs.Addresses.{ofLine, summary, top, running, unused, next, prev, head, at, linkAt, word}
 use Rattle.layout.specs.Addresses.{afterAt, beforeAt}
-use Rattle.layout.specs.Tables.{all, member, same}
+use Rattle.layout.specs.Tests.{all, member, same}
 
 -- The words by name.
 abbrev pub threadIn : List ℕ → Field → ℕ → ℕ

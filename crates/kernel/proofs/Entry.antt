@@ -16,9 +16,9 @@ use Rattle.machine.specs.Results.{plain}
 use Rattle.machine.specs.Machine.{step}
 use Rattle.machine.specs.Sound.{Sound}
 use Rattle.machine.proofs.Steps.{step-sound}
-use Rattle.layout.specs.Tables.{stateOf}
+use Rattle.checks.specs.Tables.{stateOf}
 use Rattle.layout.proofs.Image.{shows-image}
-use Rattle.layout.proofs.Tables.{state-exact, state-shows}
+use Rattle.checks.proofs.Tables.{state-exact, state-shows}
 use Rattle.tables.specs.Entries.{Checked, verdict, checked}
 use Rattle.store.specs.Steps.{Shown}
 use Rattle.results.specs.Results.{Performs}

@@ -16,7 +16,7 @@ use Rattle.machine.proofs.Demand.{demand}
 use Rattle.machine.proofs.Steps.{step-sound, fresh-sound}
 use Rattle.layout.specs.Words.{image}
 use Rattle.layout.proofs.Image.{length-image}
-use Rattle.layout.proofs.Tables.{state-image}
+use Rattle.checks.proofs.Tables.{state-image}
 use Rattle.tables.specs.Entries.{zeros, freshened}
 use Rattle.kernel.specs.Entry.{Called, called}
 use Rattle.kernel.specs.Turns.{turns}

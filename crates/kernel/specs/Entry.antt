@@ -13,7 +13,7 @@ use Rattle.machine.specs.Results.{plain}
 use Rattle.machine.specs.Machine.{step}
 use Rattle.layout.specs.Addresses.{word, at, running}
 use Rattle.layout.specs.Words.{image}
-use Rattle.layout.specs.Tables.{stateOf}
+use Rattle.checks.specs.Tables.{stateOf}
 use Rattle.tables.specs.Entries.{zeros}
 
 -- The answer given, and the tables and the scratch left.

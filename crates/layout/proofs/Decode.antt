@@ -1,7 +1,7 @@
 -- Decoded states are neat, and a sound state is decoded from any memory that shows it.
 -- Assumes nothing.
 use Prim.Native.Nat.{ℕ, _+_, _≤_, _<_}
-use mathlib.Core.Path.{_≡_, refl, sym, _∙_, ap, fun-ext}
+use mathlib.Core.Path.{_≡_, refl, sym, _∙_, ap, subst, fun-ext}
 use mathlib.Core.Bool.{Bool, true, false}
 use mathlib.Core.List.{List, []}
 use native.Mathlib.Omega.{arith}
@@ -11,7 +11,7 @@ use Rattle.machine.specs.Lists.{pick, Mem}
 use Rattle.machine.specs.State.{State, quiet, awaited, absentThread, missingEndpoint}
 use Rattle.machine.specs.Sound.{Sound}
 use Rattle.layout.specs.Addresses.{Part, ofThread, ofEndpoint, ofLine, running, head, at, linkAt, word}
-use Rattle.layout.specs.Words.{queuesOf, endpointWord}
+use Rattle.layout.specs.Words.{queuesOf, endpointWord, image}
 use Rattle.layout.specs.Shows.{Shows}
 use Rattle.layout.specs.Decode.{queueFrom, linked, lineOf, threadFrom, endpointFrom, decode}
 use Rattle.layout.proofs.Codes.{linked-small, linked-back, line-back}
@@ -20,6 +20,7 @@ use Rattle.layout.proofs.Blocks.{NeatThread, thread-neat, thread-back, 
 use Rattle.layout.proofs.Walks.{walk-small, walk-chain, bounded-length}
 use Rattle.layout.proofs.Ends.{NeatEndpoint, endpoint-neat, endpoint-back, missing-neat}
 use Rattle.layout.proofs.Standing.{queues-level, queues-endpoint}
+use Rattle.layout.proofs.Image.{image-shows}
 use Rattle.layout.proofs.Neat.{Neat, sound-neat}
 
 -- An entry of a table that is empty past the index n.
@@ -125,3 +126,13 @@ module _ (m : List ℕ) (s : State) (S : Sound s) (M : Shows m s) where
           pick-is 31 (lineOf (word m (at (ofLine l)))) quiet l (s .lines l)
           (λ h. ap lineOf (M .slots (ofLine l) h) ∙ line-back (s .lines l) (N .line-small l))
           (λ h. sym (N .unused-line l h))
+
+-- Of a memory that is a sound state's image, it shows the state.
+pub image-stands : (m : List ℕ) (s : State) → Sound s → m ≡ image s → Shows m s
+image-stands m s S e = subst (λ (n : List ℕ). Shows n s) (sym e) (image-shows s (S .ranges) (S .queues))
+
+-- A state's memory is no other's.
+pub image-injective : (s z : State) → Sound s → Sound z → image s ≡ image z → s ≡ z
+image-injective s z S Z e =
+    sym (shows-decode (image s) s S (image-stands (image s) s S refl))
+    ∙ shows-decode (image s) z Z (image-stands (image s) z Z e)

@@ -9,6 +9,4 @@ pub mod Ends
 pub mod Neat
 pub mod Decode
 pub mod Tests
-pub mod Decision
-pub mod Tables
 pub mod Stores

@@ -1,7 +1,7 @@
 -- Neat: what Sound asks of each thread, endpoint, line and number alone. Sound states are neat, as are decoded ones.
 -- Assumes nothing.
 use Prim.Native.Nat.{ℕ, _^_, _≤_, _<_}
-use mathlib.Core.Path.{_≡_, refl, sym, _∙_, ap}
+use mathlib.Core.Path.{_≡_, refl, sym, _∙_, ap, subst}
 use mathlib.Core.Logic.{_⊎_, inl, inr}
 use mathlib.Core.Option.{Option, none, some}
 use mathlib.Core.List.{List, [], _∷_}
@@ -118,3 +118,11 @@ module _ (s : State) (S : Sound s) where
         ready-small = λ p t m. number t able (S .queues .ready t p .0 m .0 .0) (omega arith);
         line-small = λ l t e. number t (waiting l) (S .queues .on-line t l .0 e) (omega arith);
       }
+
+module _ (s : State) (N : Neat s) where
+  -- Whoever has a place is a thread, and its place is one.
+  pub seated : (t : ℕ) {q : Place} → s .threads t .place ≡ q → 1 ≤ placeCode q → t ≤ 255
+  seated t e h = N .threads t .numbers (not-absent e h) .thread
+
+  pub seat-small : (t : ℕ) {q : Place} → s .threads t .place ≡ q → PlaceSmall q
+  seat-small t e = subst PlaceSmall e (N .threads t .place-small)

@@ -1,26 +1,21 @@
 -- A test tells a fact: it is true exactly where the fact holds. Tests of joined facts, and of facts about each index.
 -- Assumes nothing.
 use Prim.Native.Nat.{ℕ, zero, suc, _+_, _≤_, _<_}
-use mathlib.Core.Path.{_≡_, refl, sym, _∙_, ap, ap₂, subst}
+use mathlib.Core.Path.{_≡_, refl, sym, _∙_, ap, subst}
 use mathlib.Core.Logic.{_⊎_, inl, inr, _↔_, ⊎-elim}
 use mathlib.Core.Bool.{Bool, true, false, not, _&&_, _||_}
 use mathlib.Core.Option.{Option, none, some}
 use mathlib.Core.List.{List, [], _∷_}
 use native.Mathlib.Omega.{arith}
 use lib.Dec.{eqb, leb}
-use lib.ListN.{length}
 use borrow.Author.Tests.{eqb-true, eq-eqb, leb-true, le-leb}
-use Rattle.machine.specs.Lists.{Mem, Distinct}
-use Rattle.machine.specs.State.{Place, Debt, nothing, owns, noted, Abort, Line, quiet, pending, awaited}
-use Rattle.machine.specs.Endpoints.{underAbort}
+use Rattle.machine.specs.Lists.{Mem}
+use Rattle.machine.specs.State.{Place, Debt, nothing, owns, noted, Line, quiet, pending, awaited}
 use Rattle.machine.proofs.Lists.{Same, same, other, same?, clash}
 use Rattle.layout.specs.Words.{linkOf, placeCode, debtCode, lineCode}
 use Rattle.layout.specs.Decode.{placeOf}
-use Rattle.layout.specs.Tables.{all, implies, member, distinct, sameList}
-use Rattle.layout.specs.Tables.{same as agree}
-use Rattle.layout.proofs.Addresses.{below?}
+use Rattle.layout.specs.Tests.{all, member, same as agree}
 use Rattle.layout.proofs.Codes.{PlaceSmall, place-back}
-use Rattle.layout.proofs.Ends.{none-some}
 
 pub record Tells (b : Bool) (P : Type 0) : Type 0 where
   pub holds : b ≡ true → P
@@ -64,14 +59,6 @@ module _ {a b : Bool} {A B : Type 0} (s : Tells a A) (t : Tells b B) where
       go (inr p) (inl q) = rw (p .0, q .0) (tells-true (inr (q .1)))
       go (inr p) (inr q) = rw (p .0, q .0) (tells-false (λ h. ⊎-elim (p .1) (q .1) h))
 
-  pub tells-implies : Tells (implies a b) (A → B)
-  tells-implies = go (decided s) (decided t)
-    where
-      go : Decided a A → Decided b B → Tells (implies a b) (A → B)
-      go (inl p) (inl q) = rw (p .0, q .0) (tells-true (λ _. q .1))
-      go (inl p) (inr q) = rw (p .0, q .0) (tells-false (λ f. q .1 (f (p .1))))
-      go (inr p) q = rw (p .0) (tells-true (λ h. absurd (p .1 h)))
-
   pub tells-agree : Tells (agree a b) (A ↔ B)
   tells-agree = go (decided s) (decided t)
     where
@@ -103,22 +90,6 @@ tells-below (suc n) f P h =
     go p i k (same e _) = subst P (sym e) (p .0)
     go p i k (other o _) = p .1 i (omega arith)
 
--- Each index below n, where the fact holds by itself from n on.
-pub tells-all :
-    (n : ℕ) (f : ℕ → Bool) (P : ℕ → Type 0) → ((i : ℕ) → i < n → Tells (f i) (P i))
-    → ((i : ℕ) → n ≤ i → P i) → Tells (all n f) ((i : ℕ) → P i)
-tells-all n f P h g =
-    tells-map (λ p i. ⊎-elim (p i) (g i) (below? i n)) (λ p i k. p i) (tells-below n f P h)
-
--- The same for pairs of an index below n and one below k.
-pub tells-each :
-    (n k : ℕ) (f : ℕ → ℕ → Bool) (P : ℕ → ℕ → Type 0)
-    → ((i j : ℕ) → i < n → j < k → Tells (f i j) (P i j)) → ((i j : ℕ) → n ≤ i → P i j)
-    → ((i j : ℕ) → k ≤ j → P i j) → Tells (all n (λ i. all k (f i))) ((i j : ℕ) → P i j)
-tells-each n k f P h g e =
-    tells-all n (λ i. all k (f i)) (λ i. (j : ℕ) → P i j)
-    (λ i a. tells-all k (f i) (P i) (λ j b. h i j a b) (e i)) (λ i a j. g i j a)
-
 -- Numbers and lists
 
 pub tells-eqb : (m n : ℕ) → Tells (eqb m n) (m ≡ n)
@@ -130,17 +101,6 @@ tells-leb m n = record { holds = leb-true m n; back = le-leb m n }
 pub tells-member : (t : ℕ) (l : List ℕ) → Tells (member t l) (Mem t l)
 tells-member t [] = tells-false (λ z. z)
 tells-member t (x ∷ l) = tells-or (tells-eqb t x) (tells-member t l)
-
-pub tells-distinct : (l : List ℕ) → Tells (distinct l) (Distinct l)
-tells-distinct [] = tells-true tt
-tells-distinct (x ∷ l) = tells-and (tells-not (tells-member x l)) (tells-distinct l)
-
-pub tells-same : (l k : List ℕ) → Tells (sameList l k) (l ≡ k)
-tells-same [] [] = tells-true refl
-tells-same [] (y ∷ k) = tells-false (λ e. omega (arith, ap length e))
-tells-same (x ∷ l) [] = tells-false (λ e. omega (arith, ap length e))
-tells-same (x ∷ l) (y ∷ k) =
-    tells-map (λ p. ap₂ _∷_ (p .0) (p .1)) (λ e. (cc, cc)) (tells-and (tells-eqb x y) (tells-same l k))
 
 -- Codes
 
@@ -155,13 +115,6 @@ tells-some o t = tells-map (go o) (ap linkOf) (tells-eqb (linkOf o) (suc t))
     go : (o : Option ℕ) → linkOf o ≡ suc t → o ≡ some t
     go none e = absurd (omega arith)
     go (some u) e = ap {B = Option ℕ} some (let f : u ≡ t = omega arith in f)
-
-pub tells-none : (o : Option ℕ) → Tells (eqb (linkOf o) 0) (o ≡ none)
-tells-none o = tells-map (go o) (ap linkOf) (tells-eqb (linkOf o) 0)
-  where
-    go : (o : Option ℕ) → linkOf o ≡ 0 → o ≡ none
-    go none e = refl
-    go (some u) e = absurd (omega arith)
 
 pub tells-awaited : (x : Line) (t : ℕ) → Tells (eqb (lineCode x) (suc (suc t))) (x ≡ awaited t)
 tells-awaited x t = tells-map (go x) (ap lineCode) (tells-eqb (lineCode x) (suc (suc t)))
@@ -178,13 +131,3 @@ tells-owns d e h = tells-map (go d) (ap debtCode) (tells-eqb (debtCode d) (1 + e
     go nothing i = absurd (omega arith)
     go (owns n) i = ap owns (let f : n ≡ e = omega arith in f)
     go (noted n b) i = absurd (omega arith)
-
--- The abort that stands, if one does, is of the badge.
-abbrev pub Under : ℕ → Option Abort → Type 0
-Under b o = (a : Abort) × (o ≡ some a) × (b ≡ a .badge)
-
-pub tells-under : (b : ℕ) (o : Option Abort) → Tells (underAbort b o) (Under b o)
-tells-under b none = tells-false (λ h. none-some (h .1))
-tells-under b (some a) =
-    tells-map (λ e. (a, refl, sym e)) (λ h. let g : a ≡ h .0 = cc in ap (λ (x : Abort). x .badge) g ∙ sym (h .2))
-    (tells-eqb (a .badge) b)

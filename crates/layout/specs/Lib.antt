@@ -3,4 +3,4 @@ pub mod Addresses
 pub mod Words
 pub mod Shows
 pub mod Decode
-pub mod Tables
+pub mod Tests

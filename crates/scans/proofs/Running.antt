@@ -7,7 +7,7 @@ use native.Mathlib.Omega.{arith}
 use lib.Dec.{eqb, leb}
 use borrow.Author.Tests.{eq-eqb, ne-eqb, le-leb, lt-leb}
 use Rattle.layout.specs.Addresses.{place, priority, ofLine, running, at, head, linkAt, word}
-use Rattle.layout.specs.Tables.{all}
+use Rattle.layout.specs.Tests.{all}
 use Rattle.checks.specs.Checks.{threadIn, lineFrom, lineTest, occupiedAt, runningFrom, runningTest}
 use Rattle.checks.proofs.Every.{one-fails}
 

@@ -7,7 +7,7 @@ ghost use lib.Dec.{eqb, leb};
 ghost use lib.ListN.{length};
 ghost use Rattle.machine.specs.Lists.{pick};
 ghost use Rattle.summary.specs.Levels.{wordOf};
-ghost use Rattle.layout.specs.Tables.{all};
+ghost use Rattle.layout.specs.Tests.{all};
 ghost use Rattle.checks.specs.Checks.{occupiedAt, summaryTest, runningTest};
 
 // What a bit adds: nothing where the word it stands for is 0.

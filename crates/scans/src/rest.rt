@@ -2,7 +2,7 @@
 ghost use mathlib.Core.Path.{_≡_};
 ghost use Prim.Native.Nat.{_≤_};
 ghost use lib.ListN.{length};
-ghost use Rattle.layout.specs.Tables.{all};
+ghost use Rattle.layout.specs.Tests.{all};
 ghost use Rattle.checks.specs.Checks.{lineTest, unusedTest};
 
 // A line's waiter waits on it.

@@ -4,7 +4,7 @@ ghost use mathlib.Core.Path.{_≡_};
 ghost use Prim.Native.Nat.{_≤_};
 ghost use lib.ListN.{length};
 ghost use Rattle.layout.specs.Addresses.{place, owes};
-ghost use Rattle.layout.specs.Tables.{all};
+ghost use Rattle.layout.specs.Tests.{all};
 ghost use Rattle.checks.specs.Checks.{threadIn, absentTest, numbersTest, storedTest, waitsTest, owesTest};
 ghost use Rattle.checks.specs.Checks.{presentTest, blockTest};
 

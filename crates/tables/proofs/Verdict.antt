@@ -9,13 +9,14 @@ use borrow.Author.Tests.{eq-eqb, ne-eqb}
 use Rattle.machine.specs.Lists.{pick}
 use Rattle.layout.proofs.Image.{image-fresh}
 use Rattle.layout.specs.Decode.{decode}
-use Rattle.layout.specs.Tables.{all, stateOf}
+use Rattle.layout.specs.Tests.{all}
+use Rattle.checks.specs.Tables.{stateOf}
 use Rattle.checks.specs.Checks.{blockTest, levelTest, endpointTest, lineTest, summaryTest, runningTest}
 use Rattle.checks.specs.Checks.{unusedTest, placedTest, goodTest, metBelow}
 use Rattle.tables.specs.Entries.{Freshened, Checked, freshened, checked, verdict, zeros}
 use Rattle.walks.specs.Marks.{marksOf}
 use Rattle.checks.proofs.Every.{and-false}
-use Rattle.checks.proofs.Good.{good-state}
+use Rattle.checks.proofs.Tables.{good-state}
 use Rattle.walks.proofs.Marking.{no-marks}
 
 -- A cleared scratch marks those met before the first queue.

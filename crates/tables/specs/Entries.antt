@@ -1,6 +1,6 @@
 -- What the entry points on the lent tables come to: make fresh, and check.
 use Prim.Native.Nat.{ℕ}
-use mathlib.Core.Bool.{Bool, true, false, _&&_}
+use mathlib.Core.Bool.{_&&_}
 use mathlib.Core.Option.{Option, none, some}
 use mathlib.Core.List.{List}
 use lib.Dec.{eqb}
@@ -8,7 +8,7 @@ use lib.ListN.{length, replicate}
 use Rattle.machine.specs.Lists.{pick}
 use Rattle.machine.specs.State.{State, freshState}
 use Rattle.layout.specs.Words.{image}
-use Rattle.layout.specs.Tables.{stateOf}
+use Rattle.checks.specs.Tables.{stateOf}
 
 -- The number answered, and the tables left.
 pub record Freshened : Type 0 where

@@ -9,7 +9,7 @@ use lib.Dec.{eqb, ltb}
 use borrow.Author.Tests.{le-leb, lt-leb, ne-eqb}
 use Rattle.machine.specs.Lists.{pick}
 use Rattle.layout.specs.Addresses.{place, owes, aborting, aborted, owner, cursor, end, head, linkAt, word}
-use Rattle.layout.specs.Tables.{same}
+use Rattle.layout.specs.Tests.{same}
 use Rattle.checks.specs.Checks.{threadIn, endpointIn, kindOf, bannedOf, ownerTest, abortTest, statusTest}
 
 pub beq-same : (a b : Bool) → Bool·beq a b ≡ same a b

@@ -7,7 +7,7 @@ use native.Mathlib.Omega.{arith}
 use lib.Dec.{eqb}
 use Rattle.machine.specs.Lists.{pick, put}
 use Rattle.layout.specs.Addresses.{word, linkAt, next}
-use Rattle.layout.specs.Tables.{member}
+use Rattle.layout.specs.Tests.{member}
 use Rattle.checks.specs.Checks.{metFrom, metBelow, met}
 use Rattle.walks.specs.Marks.{marksOf, also, Marked, Walk}
 

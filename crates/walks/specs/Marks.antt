@@ -6,7 +6,7 @@ use mathlib.Core.Bool.{Bool, true, false, _||_}
 use mathlib.Core.List.{List}
 use Rattle.machine.specs.Lists.{pick, put}
 use Rattle.layout.specs.Words.{tabulate}
-use Rattle.layout.specs.Tables.{member}
+use Rattle.layout.specs.Tests.{member}
 
 -- The scratch in which exactly the threads of the set are marked.
 unfoldable pub marksOf : (ℕ → Bool) → List ℕ

@@ -4,7 +4,7 @@ ghost use mathlib.Core.Path.{_≡_};
 ghost use Prim.Native.Nat.{_+_, _≤_};
 ghost use lib.ListN.{length};
 ghost use Rattle.layout.specs.Addresses.{word, linkAt, head, status, aborting, owner};
-ghost use Rattle.layout.specs.Tables.{all};
+ghost use Rattle.layout.specs.Tests.{all};
 ghost use Rattle.checks.specs.Checks.{endpointIn, kindOf, bannedOf, ownerTest, abortTest};
 ghost use Rattle.checks.specs.Checks.{statusTest, endpointTest, met, metBelow};
 ghost use Rattle.walks.specs.Steps.{phaseOf, standsBehind, waitersAs, kindFits};
