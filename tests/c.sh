@@ -7,4 +7,5 @@ rt staticlib core_c
 cc -std=c99 -Wall -Wextra -Wpedantic -Werror -Iinclude -o target/host examples/host.c target/staticlib/libcore_c.a
 sh tests/archive.sh
 sh tests/journals.sh target/host
-CARGO_TARGET_DIR="$PWD/target/core" cargo test --offline --quiet --manifest-path tests/core/Cargo.toml
+cd tests
+cargo test --quiet -p core_c
