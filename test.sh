@@ -1,7 +1,8 @@
 #!/bin/sh
 # Runs all tests: the second machine's own; then every crate is proved from nothing, every must-fail edit is tried and
-# every program is run; then the journals are listed, by the program and by the host in C, the library is tested from
-# Rust, lent damaged tables from C, and compared with the second machine over 2,000,000 calls. The last line is 'N
+# every program is run; then the journals are listed, by the program and by the host in C, the desk's command and the
+# documents' listings are tried, the library is looked at as compiled, tested from Rust, lent damaged tables from C, and
+# compared with the second machine over 2,000,000 calls. The last line is 'N
 # passed, M failed'; the exit status is 0 only where nothing failed.
 set -eu
 cd "$(dirname "$0")"
@@ -36,9 +37,11 @@ counted() {
     failed=$((failed + ${numbers#* }))
 }
 
-CARGO_TARGET_DIR="$PWD/target/second" cargo test --offline --quiet --manifest-path tests/second/Cargo.toml
+(cd tests && cargo test --quiet -p second)
 counted rt ci
 counted sh tests/journals.sh target/bin/trace
+counted sh tests/desk.sh
+counted sh tests/documents.sh
 counted sh tests/c.sh
 export NAZSOMBET_BUILT=1
 counted sh tests/damaged.sh

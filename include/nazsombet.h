@@ -5,11 +5,21 @@
  * uses memset alone. What each function answers and leaves, for all lengths and contents, is proved of its source,
  * crates/core_c/src/lib.rt. That these declarations fit it is tested only.
  *
+ * In a kernel. Read this first: as compiled, the functions
+ *   - write up to 128 bytes below the stack pointer (the red zone of the x86-64 ABI). An interrupt that is taken on the
+ *     same stack meanwhile overwrites them. Take interrupts on another stack (an IST entry), or mask them around every
+ *     call; software that pushes onto this stack by itself, as signal delivery does, has to leave 128 bytes free.
+ *   - use the SSE registers xmm0 and xmm1, and no wider, x87 or MMX ones. They are the caller's to save in C, but a
+ *     kernel that does not save them for its user threads has to save them around a call, and SSE has to be enabled.
+ *   - take less than 1 KiB of stack, memset's own apart, call nothing but memset, make no system call and no trap.
+ *   - have no unwind tables: nothing can be thrown through them, and a debugger sees no frames.
+ * tests/archive.sh tries each of these on the compiled library.
+ *
  * Memory. The host owns all of it. It lends the tables (4,096 words) and a scratch (256 words); the library keeps no
- * pointer and no state between two calls, allocates nothing and does no input or output. As compiled today it takes
- * less than 1 KiB of stack. All that the core knows stands in the tables: they may be copied, stored and lent again
- * elsewhere. What the scratch holds does not matter. Nobody but the library is to write the tables: a change by hand is
- * found out, by 17, unless it happens to leave them sound.
+ * pointer and no state between two calls, allocates nothing and does no input or output. All that the core
+ * knows stands in the tables: they may be copied, stored and lent again elsewhere. What the scratch holds does not
+ * matter. Nobody but the library is to write the tables: a change by hand is found out, by 17, unless it happens to
+ * leave them sound.
  *
  * Pointers. No pointer is null, not even with length 0. Each points to as many words as its length says, aligned as its
  * type asks. What a function writes overlaps nothing else that it is lent. This is all that the library relies on: any

@@ -6,7 +6,6 @@ set -eu
 cd "$(dirname "$0")/.."
 # The library is built already where the caller says so.
 [ -n "${NAZSOMBET_BUILT:-}" ] || rt staticlib core_c
-export CARGO_TARGET_DIR="$PWD/target/compare"
-cargo test --offline --quiet --manifest-path tests/compare/Cargo.toml
-cargo run --offline --quiet --release --manifest-path tests/compare/Cargo.toml --bin compare -- "$@"
+(cd tests && cargo test --quiet -p compare && cargo build --quiet --release --bin compare)
+target/tests/release/compare "$@"
 echo "compare: 1 passed, 0 failed"

@@ -1,0 +1,46 @@
+#!/bin/sh
+# archive.sh: tries what include/nazsombet.h says of the compiled library: which functions it calls, how much stack it
+# takes, which registers it uses, that it writes below the stack pointer, that it has no unwind tables and no data that
+# is written. It looks at the disassembly of target/staticlib/libcore_c.a. The last line is 'archive: N passed, M
+# failed'; the exit status is 0 only where nothing failed.
+set -u
+cd "$(dirname "$0")/.." || exit 2
+archive=target/staticlib/libcore_c.a
+code=$(mktemp) || exit 2
+trap 'rm -f "$code"' EXIT
+objdump -dr --no-show-raw-insn "$archive" >"$code" || exit 2
+passed=0
+failed=0
+holds() {
+    if [ "$2" = "$3" ]; then
+        passed=$((passed + 1))
+    else
+        echo "failed: $1: found '$2', not '$3'"
+        failed=$((failed + 1))
+    fi
+}
+
+holds "other functions called" "$(nm -u "$archive" | sed -n 's/^ *U //p' | sort -u | tr '\n' ' ')" "memset "
+
+# No function calls one that is on the stack already: who calls whom has no loop.
+calls=$(sed -n -e 's/^[0-9a-f]* <\(.*\)>:$/in \1/p' -e 's/.*R_X86_64_PL*[TC]32[[:space:]]*\.text\.\(.*\)-0x4$/to \1/p' "$code" |
+    awk '/^in/{f=$2} /^to/{print f, $2}')
+holds "calls in a loop" "$(echo "$calls" | tsort 2>&1 >/dev/null)" ""
+holds "calls between its functions seen" "$([ -n "$calls" ] && echo yes)" yes
+
+# So the stack is at most all frames together: return addresses, registers saved, locals, and the red zone.
+frames=$(($(grep -c '^[0-9a-f]* <.*>:$' "$code") * 8 + $(grep -cE '\<push\>' "$code") * 8 + 128))
+for locals in $(sed -n 's/.*sub *\$\(0x[0-9a-f]*\),%rsp$/\1/p' "$code"); do
+    frames=$((frames + locals))
+done
+holds "stack of $frames bytes under 1,024" "$([ "$frames" -lt 1024 ] && echo yes)" yes
+
+holds "the SSE registers used" "$(grep -oE '%xmm[0-9]+' "$code" | sort -u | tr '\n' ' ')" "%xmm0 %xmm1 "
+holds "wider, x87 and MMX registers" "$(grep -oE '%(ymm|zmm|mm|st)[0-9(]*' "$code" | sort -u | tr '\n' ' ')" ""
+holds "writes below the stack pointer" "$(grep -qE 'mov.*,-0x[0-9a-f]+\(%rsp\)' "$code" && echo yes)" yes
+sections=$(size -A "$archive" | awk '{print $1}')
+holds "unwind tables" "$(echo "$sections" | grep -c '^\.eh_frame')" 0
+holds "data that is written" "$(echo "$sections" | grep -cE '^\.(data|bss|tdata|tbss)')" 0
+holds "system calls, interrupts and traps" "$(grep -cE '\<(syscall|int|int3|ud2|hlt)\>' "$code")" 0
+echo "archive: $passed passed, $failed failed"
+[ "$failed" -eq 0 ] && [ "$passed" -gt 0 ]
