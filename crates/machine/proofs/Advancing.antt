@@ -2,50 +2,72 @@
 -- Assumes nothing.
 use Prim.Native.Nat.{ℕ, suc, _≤_, _<_}
 use mathlib.Core.Path.{_≡_, refl, sym, _∙_, ap, subst}
-use mathlib.Core.Logic.{inl, ⊎-elim}
+use mathlib.Core.Logic.{inl, inr, ⊎-elim}
 use mathlib.Core.Bool.{Bool, true, false, not}
-use mathlib.Core.Option.{Option, some}
-use mathlib.Core.List.{List, [], _∷_, _++_, map}
+use mathlib.Core.Option.{Option, none, some}
+use mathlib.Core.List.{List, [], _∷_, _++_, map, map-append}
 use native.Mathlib.Omega.{arith}
 use lib.ListN.{length}
 use Rattle.machine.specs.declared.Answer.{Answer}
 use Rattle.machine.specs.declared.Call.{Call}
 use Rattle.machine.specs.declared.Call.the-variants.{CreateThread, DestroyThread, SetPriority, CreateEndpoint}
 use Rattle.machine.specs.declared.Call.the-variants.{Interrupt, Tick, Send, Receive, Yield, Wait, Delete, Abort}
-use Rattle.machine.specs.Lists.{put, without, only, Mem, Distinct}
+use Rattle.machine.specs.Calls.{numberOf}
+use Rattle.machine.specs.Lists.{put, without, only, Mem, Distinct, Rising}
 use Rattle.machine.specs.State.{State, live}
-use Rattle.machine.specs.Results.{Result, plain}
+use Rattle.machine.specs.Results.{Look, Result, plain}
 use Rattle.machine.specs.Machine.{step}
 use Rattle.machine.specs.Sound.{Sound}
 use Rattle.machine.specs.History.{Waiting, History, Outcome, isIn, isAccepted, queues?, named, waitingIn}
-use Rattle.machine.specs.History.{unchanged, outcomeOf, outcomeIf, recorded, told}
-use Rattle.machine.proofs.Sublists.{Apart, entry-below, entry-grow}
+use Rattle.machine.specs.History.{letGoBy, drops, outcomeOf, outcomeIf, recorded, told}
+use Rattle.machine.specs.Tied.{Tied}
+use Rattle.machine.proofs.Lists.{put-same, put-other}
+use Rattle.machine.proofs.Sites.{differ}
+use Rattle.machine.proofs.Answers.{no-looks}
+use Rattle.machine.proofs.Sublists.{Sub, sub-mem, sub-map, rising-sub, rising-snoc, rising-least, Apart, map-mem}
+use Rattle.machine.proofs.Sublists.{map-agree, entry-below, entry-grow}
 use Rattle.machine.proofs.Standing.{sends-call, Made, Core, isOld-grow, core-grow}
 use Rattle.machine.proofs.Leaving.{Leaves, core-leaves}
-use Rattle.machine.proofs.Blocking.{Blocks, core-blocks}
-use Rattle.machine.proofs.Turns.{Turn, idle, blocks, Simple, turn}
+use Rattle.machine.proofs.Owing.{tied-still, tied-drop}
+use Rattle.machine.proofs.Looks.{queued-call}
+use Rattle.machine.proofs.Blocking.{Joins, Blocks, core-blocks}
+use Rattle.machine.proofs.Turns.{dropsIf, Sheds, keeps, sheds, Turn, idle, blocks, Simple, turn}
 use Rattle.machine.proofs.Handing.{Takes, handed-first, takes}
 use Rattle.machine.proofs.Steps.{step-sound}
 use Rattle.machine.proofs.Invariant.{Given, Inv, queued-apart}
 use Rattle.machine.proofs.Recording.{deliveryOf, Duty8, Duty12, Goes, goes}
 
--- Calls other than 11 and 12 leave the aborts.
-outcome-simple : (c : Call) → Simple c → (b : Bool) (s : State) (r : Result) (h : History)
-    → outcomeIf b c s r h ≡ unchanged h
+-- Calls other than 11 and 12 begin and end no abort; they drop the debts of whom they should.
+outcome-simple : (c : Call) → Simple c → (b : Bool) (o : Option ℕ) (r : Result) (h : History)
+    → outcomeIf b c o r h ≡ drops (dropsIf b c o) r h
 unfolding outcomeIf outcomeOf
-outcome-simple c n false s r h = refl
-outcome-simple (CreateThread t p) n true s r h = refl
-outcome-simple (DestroyThread t) n true s r h = refl
-outcome-simple (SetPriority t p) n true s r h = refl
-outcome-simple (CreateEndpoint e) n true s r h = refl
-outcome-simple (Interrupt l) n true s r h = refl
-outcome-simple Tick n true s r h = refl
-outcome-simple (Send e b m) n true s r h = refl
-outcome-simple (Receive e) n true s r h = refl
-outcome-simple Yield n true s r h = refl
-outcome-simple (Wait l) n true s r h = refl
-outcome-simple (Delete e a) n true s r h = absurd n
-outcome-simple (Abort e a b) n true s r h = absurd n
+outcome-simple c n false o r h = refl
+outcome-simple (CreateThread t p) n true o r h = refl
+outcome-simple (DestroyThread t) n true o r h = refl
+outcome-simple (SetPriority t p) n true o r h = refl
+outcome-simple (CreateEndpoint e) n true o r h = refl
+outcome-simple (Interrupt l) n true o r h = refl
+outcome-simple Tick n true o r h = refl
+outcome-simple (Send e b m) n true o r h = refl
+outcome-simple (Receive e) n true o r h = refl
+outcome-simple Yield n true o r h = refl
+outcome-simple (Wait l) n true o r h = refl
+outcome-simple (Delete e a) n true o r h = absurd n
+outcome-simple (Abort e a b) n true o r h = absurd n
+
+simple-number : (c : Call) → Simple c → numberOf c ≡ 12 → ⊥
+simple-number (CreateThread t p) n h = omega arith
+simple-number (DestroyThread t) n h = omega arith
+simple-number (SetPriority t p) n h = omega arith
+simple-number (CreateEndpoint e) n h = omega arith
+simple-number (Interrupt l) n h = omega arith
+simple-number Tick n h = omega arith
+simple-number (Send e b m) n h = omega arith
+simple-number (Receive e) n h = omega arith
+simple-number Yield n h = omega arith
+simple-number (Wait l) n h = omega arith
+simple-number (Delete e a) n h = n
+simple-number (Abort e a b) n h = n
 
 module _ (past : List Call) (s : State) (h : History) (I : Inv past s h) where
   pub fits : suc (h .now) ≤ suc (length past)
@@ -62,20 +84,25 @@ module _ (past : List Call) (s : State) (h : History) (I : Inv past s h) where
       (core-leaves past (h .now) (suc (h .now)) (omega arith) (h .since) (s .threads) (r .state .threads) (h .answers)
       (h .aborts .standing) (h .aborts .ended) L (I .core))
 
+  -- Nobody comes to wait: the queues ascend still.
+  pub idle-rising :
+      (r : State) → ((e : ℕ) → Sub (r .endpoints e .waiters) (s .endpoints e .waiters)) → (e : ℕ)
+      → Rising (map (h .since) (r .endpoints e .waiters))
+  idle-rising r H e = rising-sub (sub-map (h .since) (H e)) (I .rising e)
+
   -- A receive that is done.
   hands :
-      (e : ℕ) (r : Result) → Takes s e r
-      → Given (past ++ (Receive e ∷ [])) (recorded (h .since) (unchanged h) (Receive e) r h)
+      (e : ℕ) (r : Result) (o : Option ℕ) → Takes s e r
+      → Given (past ++ (Receive e ∷ [])) (recorded (h .since) (drops o r h) (Receive e) r h)
       (deliveryOf e r (waitingIn (h .since) (r .state)) h)
   unfolding recorded
-  hands e r T =
+  hands e r o T =
       record {
         hands =
             record {
               message = h .since u;
               handed = handed;
-              rest = map (h .since) (T .rest);
-              longest = queue;
+              longest = λ w m. rising-least (h .since u) (map (h .since) (T .rest)) ascends w (rw queue at m);
               queued-by =
                   entry-grow past (Receive e) (h .since u) _ (made .call)
                   ∙ ap (λ (b : ℕ). some (Send e b (s .threads u .message))) (sym (T .badge))
@@ -104,6 +131,9 @@ module _ (past : List Call) (s : State) (h : History) (I : Inv past s h) where
 
       queue : h .waiting .queues e ≡ h .since (T .sender) ∷ map (h .since) (T .rest)
       queue = ap (λ (w : Waiting). w .queues e) (I .waiting) ∙ ap (map (h .since)) (T .longest)
+
+      ascends : Rising (h .since (T .sender) ∷ map (h .since) (T .rest))
+      ascends = subst (λ (l : List ℕ). Rising (map (h .since) l)) (T .longest) (I .rising e)
 
       handed :
           only (λ x. not (isIn x (map (h .since) (r .state .endpoints e .waiters)))) (h .waiting .queues e)
@@ -156,66 +186,134 @@ module _ (past : List Call) (s : State) (h : History) (I : Inv past s h) where
   simple-duty12 c r since o (Delete e a) n = tt
   simple-duty12 c r since o (Abort e a b) n = absurd n
 
-  module _ (c : Call) (n : Simple c) (r : Result) (S : Sound (r .state))
+  module _ (c : Call) (n : Simple c) (r : Result) (S : Sound (r .state)) (looks : r .looks ≡ [])
       (T : (e : ℕ) → c ≡ Receive e → r .answer .code ≡ 0 → Takes s e r) where
+    -- Whose debts it drops.
+    abbrev who : Option ℕ
+    who = dropsIf (isAccepted (r .answer)) c (s .runs)
+
     told-as :
         (since : ℕ → ℕ) → named (queues? c (r .answer .code)) (s .runs) (h .now) (h .since) ≡ since
-        → told c s r h ≡ recorded since (unchanged h) c r h
+        → told c s r h ≡ recorded since (drops who r h) c r h
     unfolding told
-    told-as since p = rw (p, outcome-simple c n (isAccepted (r .answer)) s r h)
+    told-as since p = rw (p, outcome-simple c n (isAccepted (r .answer)) (s .runs) r h)
 
-    idle-goes : Leaves s (r .state) → Goes past s h I c r (h .since) (unchanged h)
-    idle-goes L =
+    sheds-tied : Sheds s c r
+        → Tied (r .state .threads) (r .state .endpoints) (letGoBy who (h .aborts .debts)) (h .aborts .ended)
+    sheds-tied (keeps p H) =
+        subst
+        (λ (o : Option ℕ).
+        Tied (r .state .threads) (r .state .endpoints) (letGoBy o (h .aborts .debts)) (h .aborts .ended))
+        (sym p) (tied-still H (λ z i. i) (I .tied))
+    sheds-tied (sheds t p H) =
+        subst
+        (λ (o : Option ℕ).
+        Tied (r .state .threads) (r .state .endpoints) (letGoBy o (h .aborts .debts)) (h .aborts .ended))
+        (sym p) (tied-still H (λ z i. i) (tied-drop s (I .tied) t (I .sound .owners)))
+
+    no-stray : map (λ (v : Look). h .since (v .waiter)) (r .looks) ++ h .aborts .stray ≡ []
+    no-stray =
+        ap (λ (l : List Look). map (λ (v : Look). h .since (v .waiter)) l ++ h .aborts .stray) looks ∙ I .stray
+
+    idle-goes : Leaves s (r .state) → Sheds s c r → Goes past s h I c r (h .since) (drops who r h)
+    idle-goes L D =
         record {
           sound = S;
           core = idle-core c r L;
-          stray = I .stray;
+          tied = sheds-tied D;
+          rising = idle-rising (r .state) (L .queues);
+          stray = no-stray;
           new = λ z i. inl i;
           kept = λ z i. i;
           duty8 =
-              simple-duty8 c r (h .since) (unchanged h) c
+              simple-duty8 c r (h .since) (drops who r h) c
               (λ e p q.
               subst
               (λ (x : Call).
-              Given (past ++ (x ∷ [])) (recorded (h .since) (unchanged h) x r h)
+              Given (past ++ (x ∷ [])) (recorded (h .since) (drops who r h) x r h)
               (deliveryOf e r (waitingIn (h .since) (r .state)) h))
-              (sym p) (hands e r (T e p q)));
-          duty12 = simple-duty12 c r (h .since) (unchanged h) c n;
+              (sym p) (hands e r who (T e p q)));
+          duty12 = simple-duty12 c r (h .since) (drops who r h) c n;
         }
 
-    block-goes : (B : Blocks s c r) → Goes past s h I c r (put (h .since) (B .caller) (h .now)) (unchanged h)
-    block-goes B =
-        record {
-          sound = S;
-          core =
-              core-blocks past (suc (h .now)) fits (h .since) (B .between .threads) (B .caller) (B .entry)
-              (h .answers) c
-              (B .able) (B .calls) (I .answered) (h .now) (I .now) (r .state .threads) (B .threads) (r .answer)
-              (B .answer) (B .between .endpoints) (r .state .endpoints) (B .abort) (B .status) (h .aborts .standing)
-              (h .aborts .ended) (B .aside) (B .debt)
-              (core-leaves past (h .now) (suc (h .now)) (omega arith) (h .since) (s .threads) (B .between .threads)
-              (h .answers) (h .aborts .standing) (h .aborts .ended) (B .leaves) (I .core));
-          stray = I .stray;
-          new = λ z i. inl i;
-          kept = λ z i. i;
-          duty8 =
-              simple-duty8 c r (put (h .since) (B .caller) (h .now)) (unchanged h) c
-              (λ e p q. absurd (no-zero (ap (λ (x : Answer). x .code) (sym (B .answer)) ∙ q)));
-          duty12 = simple-duty12 c r (put (h .since) (B .caller) (h .now)) (unchanged h) c n;
-        }
-      where
-        no-zero : _≡_ {A = ℕ} 1 0 → ⊥
-        no-zero q = omega arith
+    -- The caller comes to wait, with a name above all others.
+    module _ (B : Blocks s c r) where
+      abbrev since′ : ℕ → ℕ
+      since′ = put (h .since) (B .caller) (h .now)
+
+      not-queued : (e : ℕ) → Mem (B .caller) (B .between .endpoints e .waiters) → ⊥
+      not-queued e m =
+          let able = I .sound .queues .running (B .caller) (B .runs) in
+          ⊎-elim (λ p. differ p able refl) (λ p. differ p able refl)
+          (I .sound .queues .queued (B .caller) e .0 (sub-mem (B .leaves .queues e) (B .caller) m))
+
+      same-names :
+          (e : ℕ) → map since′ (B .between .endpoints e .waiters) ≡ map (h .since) (B .between .endpoints e .waiters)
+      same-names e =
+          map-agree since′ (h .since) (B .between .endpoints e .waiters)
+          (λ u m. put-other (h .since) (B .caller) u (h .now)
+          (λ i. not-queued e (subst (λ (v : ℕ). Mem v (B .between .endpoints e .waiters)) i m)))
+
+      -- Whoever waited was named before.
+      named-before : (e w : ℕ) → Mem w (map (h .since) (s .endpoints e .waiters)) → w < h .now
+      named-before e w m =
+          let t = map-mem (h .since) w (s .endpoints e .waiters) m in
+          let q = queued-call s e (t .0) (I .sound .queues .queued (t .0) e .0 (t .1)) in
+          let k = entry-below past (h .since (t .0)) (q .0) (I .core .made (t .0) (q .0) (q .1) .call) in
+          omega (arith, t .2, I .now)
+
+      block-rising : (e : ℕ) → Rising (map since′ (r .state .endpoints e .waiters))
+      block-rising e = go (B .joins e)
+        where
+          was : Rising (map since′ (B .between .endpoints e .waiters))
+          was = rw (same-names e) (idle-rising (B .between) (B .leaves .queues) e)
+
+          below : (w : ℕ) → Mem w (map since′ (B .between .endpoints e .waiters)) → w < h .now
+          below w m =
+              named-before e w
+              (sub-mem (sub-map (h .since) (B .leaves .queues e)) w (rw (same-names e) at m))
+
+          go : Joins (B .caller) (B .between .endpoints e .waiters) (r .state .endpoints e .waiters)
+              → Rising (map since′ (r .state .endpoints e .waiters))
+          go (inl p) = rw p was
+          go (inr p) =
+              rw (p, map-append, put-same (h .since) (B .caller) (h .now))
+              (rising-snoc (map since′ (B .between .endpoints e .waiters)) (h .now) was below)
+
+      block-goes : Sheds s c r → Goes past s h I c r since′ (drops who r h)
+      block-goes D =
+          record {
+            sound = S;
+            core =
+                core-blocks past (suc (h .now)) fits (h .since) (B .between .threads) (B .caller) (B .entry)
+                (h .answers) c (B .able) (B .calls) (I .answered) (h .now) (I .now) (r .state .threads) (B .threads)
+                (r .answer) (B .answer) (B .between .endpoints) (r .state .endpoints) (B .abort) (B .status)
+                (h .aborts .standing) (h .aborts .ended) (B .aside)
+                (core-leaves past (h .now) (suc (h .now)) (omega arith) (h .since) (s .threads) (B .between .threads)
+                (h .answers) (h .aborts .standing) (h .aborts .ended) (B .leaves) (I .core));
+            tied = sheds-tied D;
+            rising = block-rising;
+            stray = no-stray;
+            new = λ z i. inl i;
+            kept = λ z i. i;
+            duty8 =
+                simple-duty8 c r since′ (drops who r h) c
+                (λ e p q. absurd (no-zero (ap (λ (x : Answer). x .code) (sym (B .answer)) ∙ q)));
+            duty12 = simple-duty12 c r since′ (drops who r h) c n;
+          }
+        where
+          no-zero : _≡_ {A = ℕ} 1 0 → ⊥
+          no-zero q = omega arith
 
     pub advance-simple : Turn s c r → Inv (past ++ (c ∷ [])) (r .state) (told c s r h)
     unfolding named
-    advance-simple (idle L q) =
+    advance-simple (idle L q D) =
         subst (Inv (past ++ (c ∷ [])) (r .state))
         (sym (told-as (h .since) (ap (λ (b : Bool). named b (s .runs) (h .now) (h .since)) q)))
-        (goes past s h I c r (h .since) (unchanged h) (idle-goes L))
-    advance-simple (blocks B) =
+        (goes past s h I c r (h .since) (drops who r h) (idle-goes L D))
+    advance-simple (blocks B D) =
         subst (Inv (past ++ (c ∷ [])) (r .state)) (sym (told-as (put (h .since) (B .caller) (h .now)) new-name))
-        (goes past s h I c r (put (h .since) (B .caller) (h .now)) (unchanged h) (block-goes B))
+        (goes past s h I c r (put (h .since) (B .caller) (h .now)) (drops who r h) (block-goes B D))
       where
         new-name :
             named (queues? c (r .answer .code)) (s .runs) (h .now) (h .since) ≡ put (h .since) (B .caller) (h .now)
@@ -227,7 +325,7 @@ module _ (past : List Call) (s : State) (h : History) (I : Inv past s h) where
   -- Calls 1 to 10.
   pub advance : (c : Call) → Simple c → Inv (past ++ (c ∷ [])) (step s c .state) (told c s (step s c) h)
   advance c n =
-      advance-simple c n (step s c) (step-sound s c (I .sound))
+      advance-simple c n (step s c) (step-sound s c (I .sound)) (no-looks s c (simple-number c n))
       (λ e p q. subst (λ (x : Call). Takes s e (step s x)) (sym p)
       (takes s (I .sound) e (ap (λ (x : Call). step s x .answer .code) (sym p) ∙ q)))
       (turn s (I .sound) c n)

@@ -2,7 +2,7 @@
 -- Assumes nothing.
 use Prim.Native.Nat.{ℕ, suc, _≤_, _<_, _^_}
 use mathlib.Core.Path.{_≡_, refl, sym, _∙_, ap, subst}
-use mathlib.Core.Logic.{inl, inr}
+use mathlib.Core.Logic.{inl}
 use mathlib.Core.Bool.{Bool, true, false, _&&_}
 use mathlib.Core.Option.{Option, none, some}
 use mathlib.Core.List.{List, [], _∷_, _++_, map}
@@ -14,32 +14,34 @@ use Rattle.machine.specs.declared.Answer.{Answer}
 use Rattle.machine.specs.declared.Call.{Call}
 use Rattle.machine.specs.declared.Call.the-variants.{Abort}
 use Rattle.machine.specs.Calls.{inRange, isEndpoint, isAllowance, isBadge}
-use Rattle.machine.specs.Lists.{put}
+use Rattle.machine.specs.Lists.{put, Mem, Rising}
 use Rattle.machine.specs.State.{State, Debt, nothing, owns, noted, Status, missing, live, closing, Endpoint}
 use Rattle.machine.specs.State.{Line, setThread, withDebt}
 use Rattle.machine.specs.Scheduling.{choose}
-use Rattle.machine.specs.Endpoints.{senders, ownerOf}
+use Rattle.machine.specs.Endpoints.{senders, dropped, dropDebt}
 use Rattle.machine.specs.Results.{Look, Result, plain, counted, refuse, done}
 use Rattle.machine.specs.Aborts.{dropOther, abortOpen, abortAt, hasNote, abortUnless, abort}
 use Rattle.machine.specs.Machine.{byCaller, perform, performIf, step}
 use Rattle.machine.specs.Sound.{Sound}
-use Rattle.machine.specs.History.{Aborting, Ended, Waiting, Walk, History, Outcome, isAccepted, namedLooks}
-use Rattle.machine.specs.History.{lineName, waitingIn, reportOf, reportIf, isOwner, notedOf, unchanged}
-use Rattle.machine.specs.History.{courseOf, startOf, walk, close, walked, walks, abortsBy, abortsOf, outcomeOf}
-use Rattle.machine.specs.History.{outcomeIf, recorded, told}
-use Rattle.machine.specs.Claim.{In, less, removedBy, Reports}
-use Rattle.machine.proofs.Lists.{clash}
-use Rattle.machine.proofs.Sublists.{entry-last}
+use Rattle.machine.specs.History.{Aborting, Ended, Reported, Waiting, Walk, History, Outcome, isAccepted}
+use Rattle.machine.specs.History.{namedLooks, lineName, waitingIn, letsGo, isNoteOf, reportOf, reportIf, apart}
+use Rattle.machine.specs.History.{unchanged, comesIn, courseOf, startOf, walk, close, walked, walks, abortsBy}
+use Rattle.machine.specs.History.{abortsOf, outcomeOf, outcomeIf, recorded, told}
+use Rattle.machine.specs.Claim.{less, removedBy, Reports}
+use Rattle.machine.specs.Tied.{noteIn, noteFrom, Tied}
+use Rattle.machine.proofs.Lists.{Same, same, other, same?, clash}
+use Rattle.machine.proofs.Sublists.{sub-only, rising-sub, entry-last}
 use Rattle.machine.proofs.Mid.{sound-mid}
 use Rattle.machine.proofs.Keeping.{keeps-self, keeps-debt}
 use Rattle.machine.proofs.Aborting.{both-true}
-use Rattle.machine.proofs.Standing.{Noted, Core, core-grow}
-use Rattle.machine.proofs.Leaving.{no-note, leaves-self, leaves-debt}
-use Rattle.machine.proofs.Blocking.{stays-choose, leaves-choose}
-use Rattle.machine.proofs.Walks.{walkAt}
+use Rattle.machine.proofs.Standing.{Core, core-grow}
+use Rattle.machine.proofs.Owing.{still-self, tied-still, tied-drop}
+use Rattle.machine.proofs.Leaving.{leaves-self, leaves-debt}
+use Rattle.machine.proofs.Blocking.{stays-choose, leaves-choose, still-choose}
+use Rattle.machine.proofs.Walks.{Gone, walkAt}
 use Rattle.machine.proofs.Looks.{Frame, frame-keeps}
 use Rattle.machine.proofs.Runs.{Ran}
-use Rattle.machine.proofs.Joining.{ran}
+use Rattle.machine.proofs.Joining.{came-in, ran}
 use Rattle.machine.proofs.Steps.{step-sound}
 use Rattle.machine.proofs.Invariant.{Called, Inv}
 use Rattle.machine.proofs.Recording.{abortCallOf}
@@ -59,6 +61,7 @@ frame-choose since e s q l F =
       others = λ f i. ap (λ (x : ℕ → Endpoint). x f .waiters) (T .endpoints) ∙ F .others f i;
       own = ap (λ (x : ℕ → Endpoint). map since (x e .waiters)) (T .endpoints) ∙ F .own;
       lines = λ i. ap (λ (x : ℕ → Line). x i) (T .lines) ∙ F .lines i;
+      met = F .met;
     }
 
 core-choose :
@@ -67,43 +70,40 @@ core-choose :
     → Core past answers n since (choose s .threads) (choose s .endpoints) standing ended
 core-choose past answers n since s standing ended C = rw (stays-choose s .threads, stays-choose s .endpoints) C
 
--- The noted abort is found among the ended ones.
-record Found (l : List Ended) (e b t : ℕ) : Type 0 where
-  of : Ended
-  among : In of l
-  is : notedOf l e b t ≡ some (reportOf (of .abort))
-  endpoint : of .abort .endpoint ≡ e
-  badge : of .abort .badge ≡ b
-
-found : (l : List Ended) (t e b : ℕ) → Noted l t e b → Found l e b t
-unfolding notedOf
-found [] t e b N = absurd (N .found)
-found (z ∷ l) t e b N =
-    go (eqb (z .abort .endpoint) e && (eqb (z .abort .badge) b && isOwner (z .owner) t)) refl (N .found) (found l t e b)
+-- The caller's note, in the history and in the machine.
+pub note-is :
+    (e b : ℕ) (o : Option Reported) (d : Debt) → noteFrom o ≡ noteIn d → isNoteOf e b o ≡ hasNote e b d
+note-is e b o d h = from o ∙ ap (hasNote e b) h ∙ alone d
   where
-    hit : (y : Ended) → y .abort .endpoint ≡ e → y .abort .badge ≡ b → y .owner ≡ some t
-        → (eqb (y .abort .endpoint) e && (eqb (y .abort .badge) b && isOwner (y .owner) t)) ≡ true
-    hit y p q o = rw (eq-eqb (y .abort .endpoint) e p, eq-eqb (y .abort .badge) b q, o) (eq-eqb t t refl)
+    from : (o : Option Reported) → isNoteOf e b o ≡ hasNote e b (noteFrom o)
+    from none = refl
+    from (some r) = refl
 
-    go : (x : Bool) → (eqb (z .abort .endpoint) e && (eqb (z .abort .badge) b && isOwner (z .owner) t)) ≡ x
-        → In (N .of) (z ∷ l) → (Noted l t e b → Found l e b t) → Found (z ∷ l) e b t
-    go true p i ih =
-        let r = both-true _ _ p in
-        record {
-          of = z;
-          among = inl refl;
-          is = rw p;
-          endpoint = eqb-true (z .abort .endpoint) e (r .0);
-          badge = eqb-true (z .abort .badge) b (both-true _ _ (r .1) .0);
-        }
-    go false p (inl i) ih =
-        absurd (clash (ap (λ (y : Ended). eqb (y .abort .endpoint) e &&
-        (eqb (y .abort .badge) b && isOwner (y .owner) t)) (sym i)
-        ∙ hit (N .of) (N .endpoint) (N .badge) (N .owner)) p)
-    go false p (inr i) ih =
-        let F =
-        ih (record { of = N .of; found = i; endpoint = N .endpoint; badge = N .badge; owner = N .owner }) in
-        record { of = F .of; among = inr (F .among); is = rw p (F .is); endpoint = F .endpoint; badge = F .badge }
+    alone : (d : Debt) → hasNote e b (noteIn d) ≡ hasNote e b d
+    alone nothing = refl
+    alone (owns f) = refl
+    alone (noted f c) = refl
+
+-- The noted abort.
+record Noted (o : Option Reported) (e b : ℕ) : Type 0 where
+  of : Reported
+  is : o ≡ some of
+  endpoint : of .endpoint ≡ e
+  badge : of .badge ≡ b
+
+noted-of : (o : Option Reported) (e b : ℕ) → noteFrom o ≡ noted e b → Noted o e b
+noted-of none e b h = let z : _≡_ {A = ℕ} 0 1 = cc in absurd (omega arith)
+noted-of (some r) e b h = record { of = r; is = refl; endpoint = cc; badge = cc }
+
+-- The queues ascend still where the looks have removed from them.
+frame-rising :
+    (since : ℕ → ℕ) (e : ℕ) (s r : State) (l : List Look) → Frame since e s r l
+    → ((f : ℕ) → Rising (map since (s .endpoints f .waiters))) → (f : ℕ) → Rising (map since (r .endpoints f .waiters))
+frame-rising since e s r l F R f = go (same? f e)
+  where
+    go : Same f e → Rising (map since (r .endpoints f .waiters))
+    go (same i _) = rw (i, F .own) (rising-sub (sub-only _ (map since (s .endpoints e .waiters))) (R e))
+    go (other i _) = rw (F .others f i) (R f)
 
 -- The numbers of a call 12 in range.
 range12 : (e a b : ℕ) → inRange (Abort e a b) ≡ true → (1 ≤ a) × (b < 2 ^ 28)
@@ -116,51 +116,64 @@ range12 e a b p =
 module _ (t e a b : ℕ) (s : State) (r : Result) (h : History) (runs : s .runs ≡ some t)
     (accepted : isAccepted (r .answer) ≡ true) where
   outcome-noted :
-      hasNote e b (s .threads t .debt) ≡ true
-      → outcomeIf (isAccepted (r .answer)) (Abort e a b) s r h
-      ≡ record { aborts = h .aborts; reports = notedOf (h .aborts .ended) e b t }
+      isNoteOf e b (h .aborts .debts .notes t) ≡ true
+      → outcomeIf (isAccepted (r .answer)) (Abort e a b) (s .runs) r h
+      ≡ apart (letsGo t (h .aborts .debts)) (h .aborts .debts .notes t) r h
   unfolding outcomeIf outcomeOf abortsOf abortsBy
   outcome-noted p =
-      ap (λ (x : Bool). outcomeIf x (Abort e a b) s r h) accepted
-      ∙ ap (λ (k : Option ℕ). abortsOf k e a b s r h) runs ∙ ap (λ (x : Bool). abortsBy x t e a b s r h) p
+      ap (λ (x : Bool). outcomeIf x (Abort e a b) (s .runs) r h) accepted
+      ∙ ap (λ (k : Option ℕ). abortsOf k e a b r h) runs ∙ ap (λ (x : Bool). abortsBy x t e a b r h) p
 
   outcome-walks :
-      hasNote e b (s .threads t .debt) ≡ false
-      → outcomeIf (isAccepted (r .answer)) (Abort e a b) s r h ≡ walks e a b s r h
+      isNoteOf e b (h .aborts .debts .notes t) ≡ false
+      → outcomeIf (isAccepted (r .answer)) (Abort e a b) (s .runs) r h ≡ walks t e a b r h
   unfolding outcomeIf outcomeOf abortsOf abortsBy
   outcome-walks p =
-      ap (λ (x : Bool). outcomeIf x (Abort e a b) s r h) accepted
-      ∙ ap (λ (k : Option ℕ). abortsOf k e a b s r h) runs ∙ ap (λ (x : Bool). abortsBy x t e a b s r h) p
+      ap (λ (x : Bool). outcomeIf x (Abort e a b) (s .runs) r h) accepted
+      ∙ ap (λ (k : Option ℕ). abortsOf k e a b r h) runs ∙ ap (λ (x : Bool). abortsBy x t e a b r h) p
+
+-- What the history has of ended aborts and debts.
+abbrev goneOf : History → Gone
+goneOf h = record { ended = h .aborts .ended; debts = h .aborts .debts }
 
 -- The walk starts where the call found the history.
+abbrev startAt : ℕ → ℕ → ℕ → State → History → Walk
+startAt t e b s h =
+    walkAt (h .since) e s (h .aborts .standing e) (came-in t e b (h .aborts .standing e) (goneOf h))
+
 walks-from :
-    (e a b : ℕ) (s : State) (r : Result) (h : History) (w : Walk) → h .aborts .stray ≡ []
-    → close (courseOf e b s h)
-    (walk (namedLooks (h .since) (r .looks)) a (courseOf e b s h)
-    (walkAt (h .since) e s (h .aborts .standing e) (h .aborts .ended))) ≡ w
-    → walks e a b s r h
+    (t e a b : ℕ) (s : State) (r : Result) (h : History) (w : Walk)
+    → h .waiting .messages e ≡ map (h .since) (senders (s .threads) (s .endpoints e .waiters)) → h .aborts .stray ≡ []
+    → close (courseOf t e b h)
+    (walk (namedLooks (h .since) (r .looks)) a (courseOf t e b h) (startAt t e b s h)) ≡ w
+    → walks t e a b r h
     ≡ walked e
-    (reportIf
-    (walk (namedLooks (h .since) (r .looks)) a (courseOf e b s h)
-    (walkAt (h .since) e s (h .aborts .standing e) (h .aborts .ended)) .standing) b) w h
+    (reportIf (walk (namedLooks (h .since) (r .looks)) a (courseOf t e b h) (startAt t e b s h) .standing) b) w h
 unfolding walks
-walks-from e a b s r h w p q =
+walks-from t e a b s r h w m p q =
     ap (λ (x : Walk).
-    walked e (reportIf (walk (namedLooks (h .since) (r .looks)) a (courseOf e b s h) x .standing) b)
-    (close (courseOf e b s h) (walk (namedLooks (h .since) (r .looks)) a (courseOf e b s h) x)) h) start
+    walked e (reportIf (walk (namedLooks (h .since) (r .looks)) a (courseOf t e b h) x .standing) b)
+    (close (courseOf t e b h) (walk (namedLooks (h .since) (r .looks)) a (courseOf t e b h) x)) h) start
     ∙ ap (λ (x : Walk).
     walked e
-    (reportIf
-    (walk (namedLooks (h .since) (r .looks)) a (courseOf e b s h)
-    (walkAt (h .since) e s (h .aborts .standing e) (h .aborts .ended)) .standing) b) x h) q
+    (reportIf (walk (namedLooks (h .since) (r .looks)) a (courseOf t e b h) (startAt t e b s h) .standing) b) x h) q
   where
-    start : startOf e s h ≡ walkAt (h .since) e s (h .aborts .standing e) (h .aborts .ended)
+    start : startOf t e b h ≡ startAt t e b s h
     start =
-        ap (λ (l : List ℕ).
+        ap (λ (k : List ℕ).
+        record {
+          standing = h .aborts .standing e;
+          queued = k;
+          ended = h .aborts .ended;
+          debts = comesIn t e b (h .aborts .standing e) (h .aborts .debts);
+          stray = h .aborts .stray;
+        }) m
+        ∙ ap (λ (l : List ℕ).
         record {
           standing = h .aborts .standing e;
           queued = map (h .since) (senders (s .threads) (s .endpoints e .waiters));
           ended = h .aborts .ended;
+          debts = comesIn t e b (h .aborts .standing e) (h .aborts .debts);
           stray = l;
         }) p
 
@@ -182,6 +195,7 @@ module _ (past : List Call) (s : State) (h : History) (I : Inv past s h) (e a b 
         own = F .own ∙ ap (less (removedBy (namedLooks (h .since) (r .looks)))) (sym (queue e));
         lines =
             λ l. ap (lineName (h .since)) (F .lines l) ∙ sym (ap (λ (w : Waiting). w .lines l) (I .waiting));
+        met = λ v i. subst (λ (l : List ℕ). Mem (v .waiter) l) (sym (queue e)) (F .met v i);
         counts = count ∙ sym (length-named (h .since) (r .looks));
         answer =
             ap (getElem? (h .answers ++ (r .answer ∷ []))) (I .now ∙ sym (I .answered))
@@ -200,18 +214,32 @@ module _ (past : List Call) (s : State) (h : History) (I : Inv past s h) (e a b 
       → Inv (past ++ (Abort e a b ∷ [])) s (told (Abort e a b) s (refuse (suc n) s) h)
   unfolding outcomeIf
   refused12 n p =
-      next past s h I (Abort e a b) (refuse (suc n) s) (unchanged h) refl (rw p)
+      next past s h I (Abort e a b) (refuse (suc n) s) (unchanged (refuse (suc n) s) h) refl (rw p)
       (record {
         sound = I .sound;
         core = idle-core past s h I (Abort e a b) (refuse (suc n) s) (leaves-self s);
+        tied = I .tied;
+        rising = I .rising;
         stray = I .stray;
         new = λ z i. inl i;
         kept = λ z i. i;
         duty8 = tt;
         duty12 =
-            called (refuse (suc n) s) (unchanged h) (frame-keeps (h .since) e s s (keeps-self s)) refl
-            (λ i. absurd (omega arith));
+            called (refuse (suc n) s) (unchanged (refuse (suc n) s) h) (frame-keeps (h .since) e s s (keeps-self s))
+            refl (λ i. absurd (omega arith));
       })
+
+  -- The note goes.
+  forgotten :
+      (t : ℕ) → s .threads t .debt ≡ noted e b
+      → Tied (setThread t (withDebt nothing (s .threads t)) s .threads) (s .endpoints) (letsGo t (h .aborts .debts))
+      (h .aborts .ended)
+  unfolding dropDebt dropped
+  forgotten t debt =
+      subst
+      (λ (k : Debt).
+      Tied (dropped k t s .threads) (dropped k t s .endpoints) (letsGo t (h .aborts .debts)) (h .aborts .ended)) debt
+      (tied-drop s (I .tied) t (I .sound .owners))
 
   -- Answered from a note.
   noted12 :
@@ -224,51 +252,53 @@ module _ (past : List Call) (s : State) (h : History) (I : Inv past s h) (e a b 
       next past s h I (Abort e a b) (done q) o refl outcome
       (record {
         sound = S;
-        core =
-            idle-core past s h I (Abort e a b) (done q)
-            (leaves-choose s q
-            (leaves-debt s t nothing (λ f c i. no-note refl i)));
+        core = idle-core past s h I (Abort e a b) (done q) (leaves-choose s q (leaves-debt s t nothing));
+        tied = tied-still (still-choose q q (still-self q)) (λ z i. i) (forgotten t debt);
+        rising = frame-rising (h .since) e s (done q .state) [] frame (I .rising);
         stray = I .stray;
         new = λ z i. inl i;
         kept = λ z i. i;
         duty8 = tt;
-        duty12 =
-            called (done q) o
-            (frame-choose (h .since) e s q [] (frame-keeps (h .since) e s q (keeps-debt s t nothing))) refl reports;
+        duty12 = called (done q) o frame refl reports;
       })
     where
       q : State
       q = setThread t (withDebt nothing (s .threads t)) s
 
       o : Outcome
-      o = record { aborts = h .aborts; reports = notedOf (h .aborts .ended) e b t }
+      o = apart (letsGo t (h .aborts .debts)) (h .aborts .debts .notes t) (done q) h
 
-      F : Found (h .aborts .ended) e b t
-      F = found (h .aborts .ended) t e b (I .core .notes t e b debt)
+      frame : Frame (h .since) e s (done q .state) []
+      frame = frame-choose (h .since) e s q [] (frame-keeps (h .since) e s q (keeps-debt s t nothing))
+
+      N : Noted (h .aborts .debts .notes t) e b
+      N = noted-of (h .aborts .debts .notes t) e b (I .tied .notes t ∙ ap noteIn debt)
 
       reports :
           _≡_ {A = ℕ} 0 0
           → Reports (recorded (h .since) o (Abort e a b) (done q) h)
           (abortCallOf e a b (done q) (waitingIn (h .since) (done q .state)) (o .reports) h)
       reports z =
+          let F = I .tied .heard t (N .of) (N .is) in
           record {
-            reported = reportOf (F .of .abort);
-            is = F .is;
-            of-endpoint = F .endpoint;
-            of-badge = F .badge;
+            reported = N .of;
+            is = N .is;
+            of-endpoint = N .endpoint;
+            of-badge = N .badge;
             ended =
                 record {
-                  ended = F .of;
-                  found = F .among;
-                  same = refl;
-                  by = omega (arith, I .core .over (F .of) (F .among) .by);
+                  ended = F .0;
+                  found = F .1;
+                  same = F .2;
+                  by = omega (arith, I .core .over (F .0) (F .1) .by);
                 };
           }
 
-      outcome : outcomeIf (isAccepted (plain 0)) (Abort e a b) s (done q) h ≡ o
+      outcome : outcomeIf (isAccepted (plain 0)) (Abort e a b) (s .runs) (done q) h ≡ o
       outcome =
           outcome-noted t e a b s (done q) h runs refl
-          (ap (hasNote e b) debt ∙ rw (eq-eqb e e refl, eq-eqb b b refl))
+          (note-is e b (h .aborts .debts .notes t) (s .threads t .debt) (I .tied .notes t)
+          ∙ ap (hasNote e b) debt ∙ rw (eq-eqb e e refl, eq-eqb b b refl))
 
   -- Worked on.
   works12 :
@@ -283,7 +313,11 @@ module _ (past : List Call) (s : State) (h : History) (I : Inv past s h) (e a b 
         sound = S;
         core =
             core-grow past (Abort e a b) (suc (h .now)) (fits past s h I) (h .since) (r .state .threads) (h .answers)
-            (r .answer) (r .state .endpoints) (put (h .aborts .standing) e (R .stands)) (R .ended) core;
+            (r .answer) (r .state .endpoints) (put (h .aborts .standing) e (R .stands)) (R .gone .ended) core;
+        tied = subst (λ (x : State). Tied (x .threads) (x .endpoints) (R .gone .debts) (R .gone .ended))
+            (sym (R .chosen)) (tied-still (still-choose (R .state) (R .state) (still-self (R .state))) (λ z i. i)
+            (R .tied));
+        rising = frame-rising (h .since) e s (r .state) (r .looks) frame (I .rising);
         stray = refl;
         new = R .more .known;
         kept = R .more .kept;
@@ -294,20 +328,25 @@ module _ (past : List Call) (s : State) (h : History) (I : Inv past s h) (e a b 
       r : Result
       r = abortOpen t e a b (dropOther t e b s)
 
-      start : Walk
-      start = walkAt (h .since) e s (h .aborts .standing e) (h .aborts .ended)
-
-      R : Ran past (h .answers) (h .since) (h .aborts .standing) t e b (h .now) (ownerOf (s .endpoints e .abort)) s a
-          (walkAt (h .since) e s (h .aborts .standing e) (h .aborts .ended)) (abortOpen t e a b (dropOther t e b s))
+      R : Ran past (h .answers) (h .since) (h .aborts .standing) t e b (h .now) s a (startAt t e b s h)
+          (abortOpen t e a b (dropOther t e b s))
       R =
-          ran past (h .answers) (h .since) (h .aborts .standing) (h .aborts .ended) t e b (h .now) (I .now)
-          (range12 e a b range .1) s a (range12 e a b range .0) (sound-mid (I .sound)) (I .core) runs lives
+          ran past (h .answers) (h .since) (h .aborts .standing) (goneOf h) t e b (h .now) (I .now)
+          (range12 e a b range .1) s a (range12 e a b range .0) (sound-mid (I .sound)) (I .core) (I .tied) runs lives
 
       o : Outcome
       o =
           record {
-            aborts = record { standing = put (h .aborts .standing) e (R .stands); ended = R .ended; stray = [] };
-            reports = reportIf (walk (namedLooks (h .since) (r .looks)) a (courseOf e b s h) start .standing) b;
+            aborts =
+                record {
+                  standing = put (h .aborts .standing) e (R .stands);
+                  ended = R .gone .ended;
+                  debts = R .gone .debts;
+                  stray = [];
+                };
+            reports =
+                reportIf
+                (walk (namedLooks (h .since) (r .looks)) a (courseOf t e b h) (startAt t e b s h) .standing) b;
           }
 
       frame : Frame (h .since) e s (r .state) (r .looks)
@@ -315,21 +354,23 @@ module _ (past : List Call) (s : State) (h : History) (I : Inv past s h) (e a b 
           subst (λ (x : State). Frame (h .since) e s x (r .looks)) (sym (R .chosen))
           (frame-choose (h .since) e s (R .state) (r .looks) (R .frame))
 
-      outcome : outcomeIf (isAccepted (r .answer)) (Abort e a b) s r h ≡ o
+      outcome : outcomeIf (isAccepted (r .answer)) (Abort e a b) (s .runs) r h ≡ o
       outcome =
-          outcome-walks t e a b s r h runs (R .accepted) unnoted ∙ walks-from e a b s r h _ (I .stray) (R .closes)
+          outcome-walks t e a b s r h runs (R .accepted)
+          (note-is e b (h .aborts .debts .notes t) (s .threads t .debt) (I .tied .notes t) ∙ unnoted)
+          ∙ walks-from t e a b s r h _ (ap (λ (w : Waiting). w .messages e) (I .waiting)) (I .stray) (R .closes)
 
       core :
           Core past (h .answers) (suc (h .now)) (h .since) (r .state .threads) (r .state .endpoints)
-          (put (h .aborts .standing) e (R .stands)) (R .ended)
+          (put (h .aborts .standing) e (R .stands)) (R .gone .ended)
       core =
           subst
           (λ (x : State).
           Core past (h .answers) (suc (h .now)) (h .since) (x .threads) (x .endpoints)
-          (put (h .aborts .standing) e (R .stands)) (R .ended))
+          (put (h .aborts .standing) e (R .stands)) (R .gone .ended))
           (sym (R .chosen))
           (core-choose past (h .answers) (suc (h .now)) (h .since) (R .state)
-          (put (h .aborts .standing) e (R .stands)) (R .ended) (R .core))
+          (put (h .aborts .standing) e (R .stands)) (R .gone .ended) (R .core))
 
       reports :
           r .answer .code ≡ 0

@@ -11,7 +11,7 @@ use lib.ListN.{length}
 use Rattle.machine.specs.declared.Answer.{Answer}
 use Rattle.machine.specs.declared.Call.{Call}
 use Rattle.machine.specs.Lists.{put, Mem}
-use Rattle.machine.specs.State.{State, Thread, sending, noted, Abort, live, Endpoint}
+use Rattle.machine.specs.State.{State, Thread, sending, Abort, live, Endpoint}
 use Rattle.machine.specs.Scheduling.{enqueue, standDown, dispatchHead, dispatchAt, dispatch, above, displace}
 use Rattle.machine.specs.Scheduling.{chooseFor, choose, highest}
 use Rattle.machine.specs.Results.{Result, plain}
@@ -19,8 +19,9 @@ use Rattle.machine.specs.History.{Aborting, Ended, queues?}
 use Rattle.machine.specs.Claim.{isOld}
 use Rattle.machine.proofs.Lists.{Same, same, other, same?, put-all, put-same, put-other}
 use Rattle.machine.proofs.Sublists.{Sub, map-agree, entry-below, entry-last}
-use Rattle.machine.proofs.Standing.{callOf, Made, Stood, Both, Over, Noted, Core, not-old, made-grow}
+use Rattle.machine.proofs.Standing.{callOf, Made, Stood, Both, Over, Core, not-old, made-grow}
 use Rattle.machine.proofs.Standing.{both-grow, over-grow}
+use Rattle.machine.proofs.Owing.{Still}
 use Rattle.machine.proofs.Leaving.{Leaves}
 
 -- Threads, endpoints and lines are as they were.
@@ -58,6 +59,13 @@ stays-choose s = stays-for (s .runs) s
 pub leaves-choose : (s r : State) → Leaves s r → Leaves s (choose r)
 leaves-choose s r H = rw (stays-choose r .threads, stays-choose r .endpoints) H
 
+pub still-choose : (s r : State) → Still s r → Still s (choose r)
+still-choose s r H = rw (stays-choose r .threads, stays-choose r .endpoints) H
+
+-- Of two queues, the second is the first, or t has joined its tail.
+abbrev pub Joins : ℕ → List ℕ → List ℕ → Type 0
+Joins t l m = (m ≡ l) ⊎ (m ≡ l ++ (t ∷ []))
+
 -- The caller blocks in the call c: up to the state between, nobody comes to wait; then the caller does.
 pub record Blocks (s : State) (c : Call) (r : Result) : Type 0 where
   pub caller : ℕ
@@ -70,10 +78,10 @@ pub record Blocks (s : State) (c : Call) (r : Result) : Type 0 where
   pub aside : (e : ℕ) (a : Abort) → between .endpoints e .abort ≡ some a → Mem caller (a .pending) → ⊥
   pub entry : Thread
   pub calls : callOf entry ≡ some c
-  pub debt : entry .debt ≡ between .threads caller .debt
   pub threads : r .state .threads ≡ put (between .threads) caller entry
   pub abort : (e : ℕ) → r .state .endpoints e .abort ≡ between .endpoints e .abort
   pub status : (e : ℕ) → r .state .endpoints e .status ≡ between .endpoints e .status
+  pub joins : (e : ℕ) → Joins caller (between .endpoints e .waiters) (r .state .endpoints e .waiters)
 
 -- Core reads of an endpoint its status and its abort.
 core-same :
@@ -90,7 +98,6 @@ core-same past answers n since f x y standing ended abort status C =
           λ z i.
           let O = C .over z i in
           record { exact = O .exact; by = O .by; clean = λ t e p l. O .clean t e p (sym (status e) ∙ l) };
-      notes = C .notes;
     }
 
 -- The new waiter t has a name that no abort has heard of.
@@ -165,10 +172,10 @@ module _
     core-block :
         (endpoints : ℕ → Endpoint) (standing : ℕ → Option Aborting) (ended : List Ended)
         → ((e : ℕ) (a : Abort) → endpoints e .abort ≡ some a → Mem t (a .pending) → ⊥)
-        → x .debt ≡ f t .debt → Core past answers n since f endpoints standing ended
+        → Core past answers n since f endpoints standing ended
         → Core (past ++ (c ∷ [])) (answers ++ (plain 1 ∷ [])) n (put since t (length past)) (put f t x) endpoints
         standing ended
-    core-block endpoints standing ended aside debt C =
+    core-block endpoints standing ended aside C =
         record {
           made =
               put-all
@@ -184,9 +191,6 @@ module _
           over =
               λ z i. over-grow past c n fits (put since t (length past)) (put f t x) endpoints z
               (over-block endpoints z (C .over z i));
-          notes =
-              put-all (λ u y. (e b : ℕ) → y .debt ≡ noted e b → Noted ended u e b) f t x (rw debt (C .notes t))
-              (λ u h. C .notes u);
         }
       where
         mine :
@@ -227,9 +231,9 @@ module _
         → (endpoints y : ℕ → Endpoint) → ((e : ℕ) → y e .abort ≡ endpoints e .abort)
         → ((e : ℕ) → y e .status ≡ endpoints e .status) → (standing : ℕ → Option Aborting) (ended : List Ended)
         → ((e : ℕ) (a : Abort) → endpoints e .abort ≡ some a → Mem t (a .pending) → ⊥)
-        → x .debt ≡ f t .debt → Core past answers n since f endpoints standing ended
+        → Core past answers n since f endpoints standing ended
         → Core (past ++ (c ∷ [])) (answers ++ (a ∷ [])) n (put since t place) g y standing ended
-    core-blocks place p g q a r endpoints y abort status standing ended aside debt C =
+    core-blocks place p g q a r endpoints y abort status standing ended aside C =
         rw (p, q, r)
         (core-same (past ++ (c ∷ [])) (answers ++ (plain 1 ∷ [])) n (put since t (length past)) (put f t x) endpoints y
-        standing ended abort status (core-block endpoints standing ended aside debt C))
+        standing ended abort status (core-block endpoints standing ended aside C))

@@ -1,20 +1,29 @@
 -- Demand 3, for every list of calls.
 -- Assumes nothing.
-use mathlib.Core.Path.{refl, subst}
+use Prim.Native.Nat.{ℕ}
+use mathlib.Core.Path.{_≡_, refl, sym, _∙_, ap, subst}
+use mathlib.Core.Bool.{Bool}
+use mathlib.Core.Option.{Option, none, some}
 use mathlib.Core.List.{List, [], _∷_, _++_, append-assoc, append-nil}
+use native.Mathlib.Omega.{arith}
 use Rattle.machine.specs.declared.Call.{Call}
 use Rattle.machine.specs.declared.Call.the-variants.{CreateThread, DestroyThread, SetPriority, CreateEndpoint}
 use Rattle.machine.specs.declared.Call.the-variants.{Interrupt, Tick, Send, Receive, Yield, Wait, Delete, Abort}
 use Rattle.machine.specs.State.{State, freshState}
-use Rattle.machine.specs.Machine.{step}
-use Rattle.machine.specs.History.{Run, History, told, runFrom, freshHistory, freshRun, historyOf}
+use Rattle.machine.specs.Aborts.{abortUnless, abort}
+use Rattle.machine.specs.Machine.{byCaller, perform, performIf, step}
+use Rattle.machine.specs.History.{Reported, Run, History, told, runFrom, freshHistory, freshRun, historyOf}
 use Rattle.machine.specs.Claim.{Claim}
-use Rattle.machine.proofs.Leaving.{no-call, no-note}
+use Rattle.machine.specs.Tied.{Tied, NotesFirst}
+use Rattle.machine.proofs.Leaving.{no-call}
 use Rattle.machine.proofs.Steps.{fresh-sound}
 use Rattle.machine.proofs.Invariant.{Inv, claim}
 use Rattle.machine.proofs.Advancing.{advance}
 use Rattle.machine.proofs.Breaking.{advance11}
-use Rattle.machine.proofs.Answering.{advance12}
+use Rattle.machine.proofs.Answering.{note-is, advance12}
+
+no-report : {P : Type 0} {r : Reported} → none ≡ some r → P
+no-report {P} {r} h = let z : _≡_ {A = ℕ} 0 1 = cc in absurd (omega arith)
 
 -- Nothing has happened yet.
 fresh : Inv [] freshState freshHistory
@@ -30,8 +39,9 @@ fresh =
             apart = λ t u c d h. no-call refl h;
             stands = λ e. tt;
             over = λ z i. absurd i;
-            notes = λ t e b h. no-note refl h;
           };
+      tied = record { workers = λ e. refl; notes = λ t. refl; heard = λ t r h. no-report h };
+      rising = λ e. tt;
       stray = refl;
       given = λ d i. absurd i;
       called = λ y i. absurd i;
@@ -74,7 +84,26 @@ along (c ∷ l) past x I =
     (onward past (x .state) (x .history) c I))
 
 -- For every list of the twelve calls, with any numbers, refused ones included, made in turn from fresh tables, the
--- claim
--- holds after the list.
+-- claim holds after the list.
 pub demand : (calls : List Call) → Claim calls (historyOf calls)
 demand calls = claim calls (runFrom step calls freshRun .state) (historyOf calls) (along calls [] freshRun fresh)
+
+-- Whoever owns an abort or has a note of one in the machine does so in the history, which reads neither, and every note
+-- is of an abort that has ended.
+pub debts-are :
+    (calls : List Call)
+    → Tied (runFrom step calls freshRun .state .threads) (runFrom step calls freshRun .state .endpoints)
+    (historyOf calls .aborts .debts) (historyOf calls .aborts .ended)
+debts-are calls = along calls [] freshRun fresh .tied
+
+-- Whoever has a note in the history is answered from it, whatever has become of the endpoint.
+pub notes-first : NotesFirst step
+unfolding step performIf perform abort abortUnless
+notes-first calls t e a b range runs note =
+    ap (λ (x : Bool). performIf x (Abort e a b) s .answer) range
+    ∙ ap (λ (o : Option ℕ). byCaller o (λ u. abort u e a b) s .answer) runs
+    ∙ ap (λ (x : Bool). abortUnless x t e a b s .answer)
+    (sym (note-is e b (historyOf calls .aborts .debts .notes t) (s .threads t .debt) (debts-are calls .notes t)) ∙ note)
+  where
+    s : State
+    s = runFrom step calls freshRun .state

@@ -23,8 +23,7 @@ use Rattle.machine.proofs.Lists.{Same, same, other, same?, clash, mem-o
 use Rattle.machine.proofs.Lists.{put-same}
 use Rattle.machine.proofs.Sublists.{sub-refl, map-mem, distinct-map, entry-below}
 use Rattle.machine.specs.Mid.{Mid}
-use Rattle.machine.proofs.Debts.{noted-owns}
-use Rattle.machine.proofs.Standing.{callOf, sends-call, Made, Stood, Both, Over, Noted, Core, stood-exact}
+use Rattle.machine.proofs.Standing.{callOf, sends-call, Made, Stood, Both, Over, Core, stood-exact}
 use Rattle.machine.proofs.Leaving.{Fewer, core-at}
 
 -- The waiter's call was of another endpoint or badge.
@@ -82,15 +81,14 @@ module _
     (ended : List Ended) (C : Core past answers n since (s .threads) (s .endpoints) standing ended) (e : ℕ) where
   -- The abort z ends, its status with it; where the endpoint stays live, nothing was left to look at.
   module _
-      (M : Mid s) (status : Status) (a : Abort) (z : Aborting) (by : ℕ) (o : Option ℕ)
-      (was : s .endpoints e .abort ≡ some a) (told : standing e ≡ some z) (soon : by < n)
-      (owner : (u : ℕ) → a .owner ≡ some u → o ≡ some u) (spent : status ≡ live → a .pending ≡ [])
+      (M : Mid s) (status : Status) (a : Abort) (z : Aborting) (by : ℕ) (was : s .endpoints e .abort ≡ some a)
+      (told : standing e ≡ some z) (soon : by < n) (spent : status ≡ live → a .pending ≡ [])
       (lives : status ≡ live → s .endpoints e .status ≡ live) where
     abbrev closed : Endpoint
     closed = record { status = status; waiters = s .endpoints e .waiters; abort = none }
 
     abbrev record-of : Ended
-    record-of = record { abort = z; by = by; owner = o }
+    record-of = record { abort = z; by = by }
 
     end-stood : Stood past n since (s .threads) e a z
     end-stood = stands-both past n since (s .threads) e was told (C .stands e)
@@ -118,15 +116,14 @@ module _
         → Fewer (s .threads) g (s .endpoints) (put (s .endpoints) e closed)
     end-fewer g calls = record { calls = λ t c h. sym (calls t) ∙ h; live = λ t f p. end-live f }
 
-    -- Threads whose calls are those of before, and of which only the owner may have a note of this abort.
+    -- Threads whose calls are those of before.
     core-closed :
         (g : ℕ → Thread) → ((t : ℕ) → callOf (g t) ≡ callOf (s .threads t))
         → ((t : ℕ) → (f : ℕ) → g t .place ≡ sending f → s .threads t .place ≡ sending f)
-        → ((t f b : ℕ) → g t .debt ≡ noted f b → Noted (record-of ∷ ended) t f b)
         → Core past answers n since g (put (s .endpoints) e closed) (put standing e none) (record-of ∷ ended)
-    core-closed g calls places notes =
+    core-closed g calls places =
         core-at past n n (omega arith) since (s .threads) g answers standing ended (record-of ∷ ended) e closed none
-        (end-fewer g calls) tt new notes C
+        (end-fewer g calls) tt new C
       where
         new : (y : Ended) → In y (record-of ∷ ended) → In y ended ⊎ Over past n since g (put (s .endpoints) e closed) y
         new y (inl i) =
@@ -139,42 +136,23 @@ module _
             }))
         new y (inr i) = inl i
 
-    grows : (t f b : ℕ) → Noted ended t f b → Noted (record-of ∷ ended) t f b
-    grows t f b N =
-        record { of = N .of; found = inr (N .found); endpoint = N .endpoint; badge = N .badge; owner = N .owner }
-
     core-note :
-        (u : Option ℕ) → a .owner ≡ u
+        (u : Option ℕ)
         → Core past answers n since (noteTo u e (a .badge) s .threads)
         (put (noteTo u e (a .badge) s .endpoints) e closed) (put standing e none) (record-of ∷ ended)
     unfolding noteTo
-    core-note none h =
-        core-closed (s .threads) (λ t. refl) (λ t f p. p) (λ t f b k. grows t f b (C .notes t f b k))
-    core-note (some u) h =
+    core-note none = core-closed (s .threads) (λ t. refl) (λ t f p. p)
+    core-note (some u) =
         core-closed (put (s .threads) u (withDebt (noted e (a .badge)) (s .threads u)))
         (put-all (λ t y. callOf y ≡ callOf (s .threads t)) (s .threads) u _ refl (λ t i. refl))
         (put-all (λ t y. (f : ℕ) → y .place ≡ sending f → s .threads t .place ≡ sending f) (s .threads) u _ (λ f p. p)
         (λ t i f p. p))
-        (put-all (λ t y. (f b : ℕ) → y .debt ≡ noted f b → Noted (record-of ∷ ended) t f b) (s .threads) u _ mine
-        (λ t i f b k. grows t f b (C .notes t f b k)))
-      where
-        mine : (f b : ℕ) → noted e (a .badge) ≡ noted f b → Noted (record-of ∷ ended) u f b
-        mine f b k =
-            let p : e ≡ f = cc in
-            let q : a .badge ≡ b = cc in
-            record {
-              of = record-of;
-              found = inl refl;
-              endpoint = end-stood .endpoint ∙ p;
-              badge = end-stood .badge ∙ q;
-              owner = owner u h;
-            }
 
     pub core-end :
         Core past answers n since (endAbort status e s .threads) (endAbort status e s .endpoints) (put standing e none)
         (record-of ∷ ended)
     unfolding endAbort note
-    core-end = rw was (core-note (a .owner) refl)
+    core-end = rw was (core-note (a .owner))
 
   -- An abort of badge b begins on the senders queued there, the caller t its owner.
   module _ (M : Mid s) (t b place : ℕ) (now : length past ≤ place) (soon : place < n) where
@@ -230,7 +208,7 @@ module _
         core-at past n n (omega arith) since (s .threads) g answers standing ended ended e begin-entry
         (some (begunOn since s e b place))
         (record { calls = λ u c h. sym (calls u) ∙ h; live = λ u f p. lives f }) (begun-stood g places)
-        (λ z i. inl i) notes C
+        (λ z i. inl i) C
       where
         g : ℕ → Thread
         g = put (s .threads) t (withDebt (owns e) (s .threads t))
@@ -244,8 +222,3 @@ module _
         lives : (f : ℕ) → begin t e b s .endpoints f .status ≡ live → s .endpoints f .status ≡ live
         lives =
             put-all (λ f y. y .status ≡ live → s .endpoints f .status ≡ live) (s .endpoints) e _ (λ k. k) (λ f i k. k)
-
-        notes : (u f c : ℕ) → g u .debt ≡ noted f c → Noted ended u f c
-        notes =
-            put-all (λ u y. (f c : ℕ) → y .debt ≡ noted f c → Noted ended u f c) (s .threads) t _
-            (λ f c h. absurd (noted-owns h refl)) (λ u i. C .notes u)

@@ -10,11 +10,11 @@ use lib.Dec.{eqb}
 use lib.ListN.{length}
 use Rattle.machine.specs.declared.Answer.{Answer}
 use Rattle.machine.specs.declared.Call.{Call}
-use Rattle.machine.specs.Lists.{pick, put}
+use Rattle.machine.specs.Lists.{put}
 use Rattle.machine.specs.State.{State, nothing, Abort, live, Endpoint}
-use Rattle.machine.specs.Endpoints.{senders, pendingOf, ownerOf, endAbort}
+use Rattle.machine.specs.Endpoints.{senders, pendingOf, endAbort}
 use Rattle.machine.specs.Aborts.{Looked, pendingAt, lookUpTo, beginAfter, finished, lookedOther, workOther}
-use Rattle.machine.specs.History.{Aborting, Ended, Reported, NamedLook, Walk, Course, namedLooks, ownerIn}
+use Rattle.machine.specs.History.{Aborting, Reported, NamedLook, Walk, Course, namedLooks, hearsBy, reportOf}
 use Rattle.machine.specs.History.{begins, ends, passes, settles, settle, walk, closes, close}
 use Rattle.machine.proofs.Lists.{put-same}
 use Rattle.machine.proofs.Debts.{nothing-owns, live-present, mid-endAbort, endAbort-entry, endAbort-runs}
@@ -23,29 +23,34 @@ use Rattle.machine.proofs.Looking.{Steady, steady-lookUpTo}
 use Rattle.machine.proofs.Aborting.{running-present}
 use Rattle.machine.proofs.Standing.{Stood, Core}
 use Rattle.machine.proofs.Ending.{core-end}
-use Rattle.machine.proofs.Walks.{put-again, walkAt, Going, going-abort, left-some, left-none, settle-pending}
+use Rattle.machine.proofs.Owing.{tied-free, tied-end}
+use Rattle.machine.proofs.Walks.{put-again, Gone, walkAt, Going, going-abort, left-some, left-none, settle-pending}
 use Rattle.machine.proofs.Looks.{Frame, frame-then, frame-keep, Walked, walked}
 use Rattle.machine.proofs.Runs.{More, more-cons, walk-keeps, keeps-endAbort, walk-settle, walk-nil, Ran}
 use Rattle.machine.proofs.Runs.{own-begins}
 
 module _
     (past : List Call) (answers : List Answer) (since : ℕ → ℕ) (standing : ℕ → Option Aborting) (t e b place : ℕ)
-    (owner : Option ℕ) (now : length past ≤ place) (here : place ≤ length past) (small : b < 2 ^ 28)
+    (now : length past ≤ place) (here : place ≤ length past) (small : b < 2 ^ 28)
     (s : State) (a : ℕ) (start : Walk) where
   abbrev c : Course
-  c = record { place = place; endpoint = e; badge = b; owner = owner }
+  c = record { place = place; caller = t; endpoint = e; badge = b }
 
   -- The looks at another badge's abort have come to r, and nothing is left of it.
   module _
-      (r : Looked) (x : Aborting) (d : List Ended)
+      (r : Looked) (x : Aborting) (d : Gone)
       (G : Going past answers (suc place) since standing e (r .state) (some x) d)
       (differs : eqb (x .badge) b ≡ false)
-      (owned : (u : ℕ) → ownerOf (r .state .endpoints e .abort) ≡ some u → ownerIn x c ≡ some u)
+      (free : r .state .threads t .debt ≡ nothing)
       (k : Abort) (was : r .state .endpoints e .abort ≡ some k)
       (S : Stood past (suc place) since (r .state .threads) e k x) (lives : r .state .endpoints e .status ≡ live)
-      (F : Frame since e s (r .state) (r .looks)) (E : More place (start .ended) d) where
-    abbrev over : List Ended
-    over = record { abort = x; by = place; owner = ownerIn x c } ∷ d
+      (F : Frame since e s (r .state) (r .looks)) (E : More place (start .ended) (d .ended)) where
+    abbrev over : Gone
+    over =
+        record {
+          ended = record { abort = x; by = place } ∷ d .ended;
+          debts = hearsBy t e (reportOf x) (d .debts);
+        }
 
     going-over : k .pending ≡ []
         → Going past answers (suc place) since standing e (endAbort live e (r .state)) none over
@@ -56,12 +61,13 @@ module _
               subst
               (λ (f : ℕ → Option Aborting).
               Core past answers (suc place) since (endAbort live e (r .state) .threads)
-              (endAbort live e (r .state) .endpoints) f over)
+              (endAbort live e (r .state) .endpoints) f (over .ended))
               (put-again standing e (some x) none)
-              (core-end past answers (suc place) since (r .state) (put standing e (some x)) d (G .core) e
-              (G .mid) live k
-              x place (ownerIn x c) was (put-same standing e (some x)) (omega arith)
-              (λ u o. owned u (ap ownerOf was ∙ o)) (λ i. h) (λ i. lives));
+              (core-end past answers (suc place) since (r .state) (put standing e (some x)) (d .ended) (G .core)
+              e (G .mid) live k x place was (put-same standing e (some x)) (omega arith) (λ i. h) (λ i. lives));
+          tied =
+              tied-end (r .state) (tied-free (r .state) (G .tied) t (G .mid .owners) free) e live k was x
+              (S .endpoint) (S .badge) _ refl;
         }
 
     settle-over :
@@ -82,18 +88,18 @@ module _
     frame-over =
         frame-keep since e s (r .state) (endAbort live e (r .state)) (r .looks) F (keeps-endAbort live e (r .state))
 
-    more-over : More place (start .ended) over
-    more-over = more-cons place (start .ended) d _ (omega arith) E
+    more-over : More place (start .ended) (over .ended)
+    more-over = more-cons place (start .ended) (d .ended) _ (omega arith) E
 
     finishes :
-        (free : r .state .threads t .debt ≡ nothing) (runs : r .state .runs ≡ some t) (m : ℕ)
+        (runs : r .state .runs ≡ some t) (m : ℕ)
         → ((l : List NamedLook)
         → walk (namedLooks since (r .looks) ++ l) a c start ≡ walk l m c (walkAt since e (r .state) (some x) d))
         → k .pending ≡ []
-        → Ran past answers since standing t e b place owner s a start
+        → Ran past answers since standing t e b place s a start
         (beginAfter m t e b (r .looks) (endAbort live e (r .state)))
     unfolding beginAfter begins close closes
-    finishes free runs zero W h =
+    finishes runs zero W h =
         record {
           state = endAbort live e (r .state);
           chosen = refl;
@@ -101,8 +107,9 @@ module _
           answer = refl;
           accepted = refl;
           stands = none;
-          ended = over;
+          gone = over;
           core = going-over h .core;
+          tied = going-over h .tied;
           more = more-over;
           queued =
               map since (senders (endAbort live e (r .state) .threads)
@@ -113,8 +120,8 @@ module _
               ∙ walk-nil 0 c _ ∙ settle-over 0 h);
           reports = λ i. absurd (omega arith);
         }
-    finishes free runs (suc m) W h =
-        own-begins past answers since standing t e b place owner now s a start m (r .looks)
+    finishes runs (suc m) W h =
+        own-begins past answers since standing t e b place now s a start m (r .looks)
         (endAbort live e (r .state)) over
         (going-over h) (ap (λ (y : Endpoint). y .abort) (endAbort-entry (r .state) e live))
         (endAbort-debt (r .state) e live t (λ o. nothing-owns free (G .mid .owners .each-other e t .0 o)) ∙ free)
@@ -133,7 +140,7 @@ module _
         → ((l : List NamedLook)
         → walk (namedLooks since (r .looks) ++ l) a c start ≡ walk l m c (walkAt since e (r .state) (some x) d))
         → k .pending ≡ u ∷ l
-        → Ran past answers since standing t e b place owner s a start (finished (u ∷ l) t e a b r)
+        → Ran past answers since standing t e b place s a start (finished (u ∷ l) t e a b r)
     unfolding finished close closes
     breaks u l m W h =
         record {
@@ -143,8 +150,9 @@ module _
           answer = refl;
           accepted = refl;
           stands = some x;
-          ended = d;
+          gone = d;
           core = G .core;
+          tied = G .tied;
           more = E;
           queued = map since (senders (r .state .threads) (r .state .endpoints e .waiters));
           closes =
@@ -157,14 +165,13 @@ module _
         }
 
   pub other-works :
-      (q : State) (x : Aborting) (d : List Ended) → Going past answers (suc place) since standing e q (some x) d
+      (q : State) (x : Aborting) (d : Gone) → Going past answers (suc place) since standing e q (some x) d
       → eqb (x .badge) b ≡ false
-      → ((u : ℕ) → ownerOf (q .endpoints e .abort) ≡ some u → ownerIn x c ≡ some u)
       → q .threads t .debt ≡ nothing → q .runs ≡ some t → q .endpoints e .status ≡ live → Frame since e s q []
-      → start ≡ walkAt since e q (some x) d → More place (start .ended) d
-      → Ran past answers since standing t e b place owner s a start (workOther t e a b q)
+      → start ≡ walkAt since e q (some x) d → More place (start .ended) (d .ended)
+      → Ran past answers since standing t e b place s a start (workOther t e a b q)
   unfolding workOther lookedOther finished
-  other-works q x d G differs owned free runs lives F W E = go (pendingAt e (r .state)) refl
+  other-works q x d G differs free runs lives F W E = go (pendingAt e (r .state)) refl
     where
       r : Looked
       r = lookUpTo a (pendingAt e q) e q
@@ -184,12 +191,6 @@ module _
       other : eqb (H .abort .badge) b ≡ false
       other = ap (λ (y : Reported). eqb (y .badge) b) (H .report) ∙ differs
 
-      again : ownerIn (H .abort) c ≡ ownerIn x c
-      again = ap (λ (y : Reported). pick (eqb (y .began) place) none owner) (H .report)
-
-      owns-still : (u : ℕ) → ownerOf (r .state .endpoints e .abort) ≡ some u → ownerIn (H .abort) c ≡ some u
-      owns-still u o = again ∙ owned u (sym (T .entry e .owner) ∙ o)
-
       frame : Frame since e s (r .state) (r .looks)
       frame = frame-then since e s q (r .state) [] (r .looks) F (H .frame)
 
@@ -200,11 +201,11 @@ module _
       goes l = ap (walk (namedLooks since (r .looks) ++ l) a c) W ∙ H .walks l
 
       go : (l : List ℕ) → pendingAt e (r .state) ≡ l
-          → Ran past answers since standing t e b place owner s a start (finished l t e a b r)
+          → Ran past answers since standing t e b place s a start (finished l t e a b r)
       go [] h =
-          finishes r (H .abort) d (H .going) other owns-still (A .0) (A .1) (A .2) (T .entry e .status ∙ lives) frame E
-          (T .debt t ∙ free) (T .runs ∙ runs) (a - length (r .looks)) goes (ap pendingOf (sym (A .1)) ∙ h)
+          finishes r (H .abort) d (H .going) other (T .debt t ∙ free) (A .0) (A .1) (A .2)
+          (T .entry e .status ∙ lives) frame E (T .runs ∙ runs) (a - length (r .looks)) goes (ap pendingOf (sym (A .1)) ∙ h)
       go (u ∷ l) h =
-          breaks r (H .abort) d (H .going) other owns-still (A .0) (A .1) (A .2)
+          breaks r (H .abort) d (H .going) other (T .debt t ∙ free) (A .0) (A .1) (A .2)
           (T .entry e .status ∙ lives) frame E u l
           (a - length (r .looks)) goes (ap pendingOf (sym (A .1)) ∙ h)

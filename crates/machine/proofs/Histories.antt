@@ -46,8 +46,8 @@ abort : ℕ → ℕ → ℕ → List ℕ → List ℕ → List ℕ → Aborting
 abort e b began onto looked removed =
     record { endpoint = e; badge = b; began = began; onto = onto; looked = looked; removed = removed }
 
-ends : ℕ → Option ℕ → Aborting → Ended
-ends by owner x = record { abort = x; by = by; owner = owner }
+ends : ℕ → Aborting → Ended
+ends by x = record { abort = x; by = by }
 
 -- the call, its endpoint, badge and message, the queue before it and whose message it handed over
 hands : ℕ → ℕ → ℕ → ℕ → List ℕ → List ℕ → Delivery
@@ -71,7 +71,7 @@ example-history :
           done ∷ done ∷ done ∷ done ∷ blocked ∷ blocked ∷ answer 2 1 0 0 ∷ answer 26 0 0 0 ∷ answer 0 0 8 200 ∷ done
           ∷ done ∷ done ∷ [];
       ended =
-          ends 9 (some 1) (abort 0 7 6 (4 ∷ 5 ∷ []) (4 ∷ []) (4 ∷ [])) ∷ [];
+          ends 9 (abort 0 7 6 (4 ∷ 5 ∷ []) (4 ∷ []) (4 ∷ [])) ∷ [];
       deliveries = hands 8 0 8 200 (5 ∷ []) (5 ∷ []) ∷ [];
       reports = reports 0 7 6 ∷ reports 0 7 6 ∷ reports 0 7 6 ∷ [];
     }
@@ -91,8 +91,8 @@ other-badge-history :
       answers =
           done ∷ done ∷ done ∷ blocked ∷ done ∷ blocked ∷ done ∷ blocked ∷ answer 2 1 0 0 ∷ answer 0 3 0 0 ∷ [];
       ended =
-          ends 9 none (abort 0 8 9 (5 ∷ []) (5 ∷ []) (5 ∷ []))
-          ∷ ends 9 (some 1) (abort 0 7 8 (3 ∷ 5 ∷ 7 ∷ []) (3 ∷ 5 ∷ 7 ∷ []) (3 ∷ 7 ∷ [])) ∷ [];
+          ends 9 (abort 0 8 9 (5 ∷ []) (5 ∷ []) (5 ∷ []))
+          ∷ ends 9 (abort 0 7 8 (3 ∷ 5 ∷ 7 ∷ []) (3 ∷ 5 ∷ 7 ∷ []) (3 ∷ 7 ∷ [])) ∷ [];
       deliveries = [];
       reports = reports 0 8 9 ∷ reports 0 7 8 ∷ [];
     }
@@ -111,7 +111,7 @@ joined-history :
     ≡ record {
       answers =
           done ∷ done ∷ blocked ∷ done ∷ blocked ∷ done ∷ answer 2 1 0 0 ∷ done ∷ answer 0 1 0 0 ∷ done ∷ done ∷ [];
-      ended = ends 8 (some 1) (abort 0 7 6 (2 ∷ 4 ∷ []) (2 ∷ 4 ∷ []) (2 ∷ 4 ∷ [])) ∷ [];
+      ended = ends 8 (abort 0 7 6 (2 ∷ 4 ∷ []) (2 ∷ 4 ∷ []) (2 ∷ 4 ∷ [])) ∷ [];
       deliveries = [];
       reports = reports 0 7 6 ∷ reports 0 7 6 ∷ reports 0 7 6 ∷ [];
     }
@@ -131,7 +131,7 @@ made-anew-history :
       answers =
           done ∷ done ∷ blocked ∷ done ∷ blocked ∷ done ∷ answer 2 1 0 0 ∷ done ∷ answer 0 1 0 0 ∷ done ∷ blocked
           ∷ done ∷ answer 0 0 7 300 ∷ [];
-      ended = ends 8 (some 1) (abort 0 7 6 (2 ∷ 4 ∷ []) (2 ∷ []) (2 ∷ [])) ∷ [];
+      ended = ends 8 (abort 0 7 6 (2 ∷ 4 ∷ []) (2 ∷ []) (2 ∷ [])) ∷ [];
       deliveries = hands 12 0 7 300 (10 ∷ []) (10 ∷ []) ∷ [];
       reports = reports 0 7 6 ∷ reports 0 7 6 ∷ [];
     }
@@ -153,7 +153,7 @@ incident-history :
       answers =
           done ∷ done ∷ blocked ∷ done ∷ blocked ∷ done ∷ blocked ∷ done ∷ answer 2 1 0 0 ∷ done ∷ done
           ∷ answer 26 0 0 0 ∷ blocked ∷ answer 0 1 0 0 ∷ done ∷ blocked ∷ answer 0 0 7 300 ∷ [];
-      ended = ends 13 (some 1) (abort 0 7 8 (2 ∷ 4 ∷ 6 ∷ []) (2 ∷ 6 ∷ []) (2 ∷ 6 ∷ [])) ∷ [];
+      ended = ends 13 (abort 0 7 8 (2 ∷ 4 ∷ 6 ∷ []) (2 ∷ 6 ∷ []) (2 ∷ 6 ∷ [])) ∷ [];
       deliveries = hands 16 0 7 300 (15 ∷ []) (15 ∷ []) ∷ [];
       reports = reports 0 7 8 ∷ reports 0 7 8 ∷ [];
     }

@@ -11,14 +11,17 @@ use lib.ListN.{length, getElem?}
 use Rattle.machine.specs.declared.Answer.{Answer}
 use Rattle.machine.specs.declared.Call.{Call}
 use Rattle.machine.specs.declared.Call.the-variants.{Receive, Wait, Abort}
-use Rattle.machine.specs.Lists.{Mem, Distinct}
+use Rattle.machine.specs.Lists.{only, Mem, Distinct, Rising}
 use Rattle.machine.specs.State.{State, Place, Abort as Standing, Line, quiet, pending, awaited}
+use Rattle.machine.specs.Endpoints.{isSending}
 use Rattle.machine.specs.Results.{plain}
 use Rattle.machine.specs.Sound.{Sound, Queued}
-use Rattle.machine.specs.History.{Aborting, Ended, Delivery, AbortCall, Waiting, History, lineName, waitingIn}
-use Rattle.machine.specs.Claim.{In, IsAbort, isOld, removedBy, less, Reports, Hands, Named, QueuesAt, WaitsOn}
+use Rattle.machine.specs.History.{Aborting, Ended, Delivery, NamedLook, AbortCall, Waiting, History, lineName}
+use Rattle.machine.specs.History.{waitingIn}
+use Rattle.machine.specs.Claim.{In, IsAbort, isSend, isOld, removedBy, less, Reports, Hands, Named, QueuesAt, WaitsOn}
 use Rattle.machine.specs.Claim.{Claim}
-use Rattle.machine.proofs.Sublists.{Apart, map-mem, distinct-map, entry-grow}
+use Rattle.machine.specs.Tied.{Tied}
+use Rattle.machine.proofs.Sublists.{Apart, map-mem, map-only, distinct-map, entry-grow}
 use Rattle.machine.proofs.Ready.{none-some}
 use Rattle.machine.proofs.Standing.{callAt, callOf, sends-call, Exact, Both, Core, stood-exact, isOld-grow}
 use Rattle.machine.proofs.Looks.{queued-call}
@@ -37,6 +40,7 @@ pub record Called (h : History) (y : AbortCall) : Type 0 where
   pub others : (e : ℕ) → (e ≡ y .endpoint → ⊥) → y .behind .queues e ≡ y .before .queues e
   pub own : y .behind .queues (y .endpoint) ≡ less (removedBy (y .looks)) (y .before .queues (y .endpoint))
   pub lines : (l : ℕ) → y .behind .lines l ≡ y .before .lines l
+  pub met : (v : NamedLook) → In v (y .looks) → Mem (v .waiter) (y .before .queues (y .endpoint))
   pub counts : y .count ≡ length (y .looks)
   pub answer :
       getElem? (h .answers) (y .place) ≡ some (record { code = y .code; count = y .count; badge = 0; message = 0 })
@@ -58,6 +62,8 @@ pub record Inv (past : List Call) (s : State) (h : History) : Type 0 where
   pub waiting : h .waiting ≡ waitingIn (h .since) s
   pub core :
       Core past (h .answers) (h .now) (h .since) (s .threads) (s .endpoints) (h .aborts .standing) (h .aborts .ended)
+  pub tied : Tied (s .threads) (s .endpoints) (h .aborts .debts) (h .aborts .ended)
+  pub rising : (e : ℕ) → Rising (map (h .since) (s .endpoints e .waiters))
   pub stray : h .aborts .stray ≡ []
   pub given : (d : Delivery) → In d (h .deliveries) → Given past h d
   pub called : (y : AbortCall) → In y (h .abortCalls) → Called h y
@@ -77,7 +83,6 @@ module _ (past : List Call) (c : Call) (a : Answer) (h k : History) (longer : k 
       record {
         message = H .message;
         handed = H .handed;
-        rest = H .rest;
         longest = H .longest;
         queued-by = entry-grow past c (H .message) _ (H .queued-by);
         blocked = answer-grow (H .message) (plain 1) (H .blocked);
@@ -121,6 +126,7 @@ module _ (past : List Call) (c : Call) (a : Answer) (h k : History) (longer : k 
         others = C .others;
         own = C .own;
         lines = C .lines;
+        met = C .met;
         counts = C .counts;
         answer = answer-grow (y .place) _ (C .answer);
       }
@@ -136,7 +142,7 @@ module _ (past : List Call) (s : State) (h : History) (I : Inv past s h) where
       go (some a) B = stood-exact past (h .now) (h .since) (s .threads) e a x B
   exact x (inr (z, i, p)) = subst (λ (y : Aborting). Exact past (h .now) y) p (I .core .over z i .exact)
 
-  queue : (e : ℕ) → h .waiting .queues e ≡ map (h .since) (s .endpoints e .waiters)
+  pub queue : (e : ℕ) → h .waiting .queues e ≡ map (h .since) (s .endpoints e .waiters)
   queue e = ap (λ (w : Waiting). w .queues e) (I .waiting)
 
   -- Whoever waits is named by its call.
@@ -158,6 +164,24 @@ module _ (past : List Call) (s : State) (h : History) (I : Inv past s h) where
       go t i (inr p) =
           named t w (Receive e) (QueuesAt e)
           (ap (λ (q : Place). callAt q (s .threads t .badge) (s .threads t .message)) p) i (inr refl)
+
+  messages-sent :
+      (e : ℕ) → h .waiting .messages e ≡ only (λ w. isSend (getElem? past w)) (h .waiting .queues e)
+  messages-sent e =
+      ap (λ (w : Waiting). w .messages e) (I .waiting)
+      ∙ map-only (h .since) (λ t. isSending (s .threads t .place)) (λ w. isSend (getElem? past w))
+      (s .endpoints e .waiters) (λ t m. go t (I .sound .queues .queued t e .0 m))
+      ∙ ap (only (λ w. isSend (getElem? past w))) (sym (queue e))
+    where
+      go : (t : ℕ) → Queued s t e → isSending (s .threads t .place) ≡ isSend (getElem? past (h .since t))
+      go t (inl p) =
+          rw (p, I .core .made t _ (sends-call (s .threads t) e p) .call)
+      go t (inr p) =
+          rw (
+            p,
+            I .core .made t (Receive e)
+                (ap (λ (q : Place). callAt q (s .threads t .badge) (s .threads t .message)) p) .call,
+          )
 
   pub queued-apart : (e : ℕ) → Apart (h .since) (s .endpoints e .waiters)
   queued-apart e t u i j =
@@ -193,6 +217,7 @@ module _ (past : List Call) (s : State) (h : History) (I : Inv past s h) where
         removed-only = λ y i. I .called y i .own;
         lines-stay = λ y i. I .called y i .lines;
         every-look-of-an-abort = I .stray;
+        looks-at-waiters = λ y i. I .called y i .met;
         not-twice = λ x i. exact x i .once;
         only-those = λ x i. exact x i .among;
         not-more = λ x i. exact x i .most;
@@ -200,6 +225,8 @@ module _ (past : List Call) (s : State) (h : History) (I : Inv past s h) where
         hands-over = λ d i. I .given d i .hands;
         queued-named = queued-named;
         queued-distinct = queued-distinct;
+        messages-sent = messages-sent;
+        in-order = λ e. rw (queue e) (I .rising e);
         line-named = line-named;
         all-answered = I .answered;
         every-abort-call = I .recorded12;

@@ -17,7 +17,7 @@ use Rattle.machine.specs.History.{Aborting, Ended}
 use Rattle.machine.specs.Claim.{In}
 use Rattle.machine.proofs.Lists.{Same, same, other, same?, put-all, put-same, put-other, mem-keep}
 use Rattle.machine.proofs.Sublists.{Sub, sub-refl, sub-trans, sub-map, sub-after, sub-without}
-use Rattle.machine.proofs.Standing.{callOf, sends-call, call-sends, Stood, Both, Over, Noted, Core}
+use Rattle.machine.proofs.Standing.{callOf, sends-call, call-sends, Stood, Both, Over, Core}
 
 -- Who waits waited before, and whoever sends at a live endpoint sent at a live endpoint.
 pub record Fewer (f g : ℕ → Thread) (x y : ℕ → Endpoint) : Type 0 where
@@ -38,19 +38,16 @@ Passes g e (some a) (some k) = Passed g e a k
 
 pub record Shrinks (f g : ℕ → Thread) (x y : ℕ → Endpoint) : Type 0 where
   pub fewer : Fewer f g x y
-  pub notes : (t e b : ℕ) → g t .debt ≡ noted e b → f t .debt ≡ noted e b
+  pub queues : (e : ℕ) → Sub (y e .waiters) (x e .waiters)
   pub aborts : (e : ℕ) → Passes g e (x e .abort) (y e .abort)
 
 abbrev pub Leaves : State → State → Type 0
 Leaves s r = Shrinks (s .threads) (r .threads) (s .endpoints) (r .endpoints)
 
--- Who made no call, or owes nothing.
+-- Who made no call.
 
 pub no-call : {P : Type 0} {o : Option Call} {c : Call} → o ≡ none → o ≡ some c → P
 no-call {P} {o} {c} p q = let z : _≡_ {A = ℕ} 0 1 = cc in absurd (omega arith)
-
-pub no-note : {P : Type 0} {d : Debt} {e b : ℕ} → d ≡ nothing → d ≡ noted e b → P
-no-note {P} {d} {e} {b} p q = let z : _≡_ {A = ℕ} 0 1 = cc in absurd (omega arith)
 
 pub fewer-sends :
     {f g : ℕ → Thread} {x y : ℕ → Endpoint} → Fewer f g x y → (t e : ℕ) → g t .place ≡ sending e
@@ -103,7 +100,7 @@ pub leaves-self : (s : State) → Leaves s s
 leaves-self s =
     record {
       fewer = record { calls = λ t c h. h; live = λ t e h k. k };
-      notes = λ t e b h. h;
+      queues = λ e. sub-refl (s .endpoints e .waiters);
       aborts = λ e. passes-self (s .threads) e (s .endpoints e .abort);
     }
 
@@ -115,7 +112,7 @@ leaves-then s r q P Q =
             calls = λ t c h. P .fewer .calls t c (Q .fewer .calls t c h);
             live = λ t e h k. P .fewer .live t e (fewer-sends (Q .fewer) t e h .0) (Q .fewer .live t e h k);
           };
-      notes = λ t e b h. P .notes t e b (Q .notes t e b h);
+      queues = λ e. sub-trans (Q .queues e) (P .queues e);
       aborts =
           λ e.
           passes-trans (r .threads) (q .threads) e (λ t h. fewer-sends (Q .fewer) t e h .0) (s .endpoints e .abort)
@@ -125,8 +122,8 @@ leaves-then s r q P Q =
 -- The entry of thread t becomes x.
 pub leaves-thread :
     (s : State) (t : ℕ) (x : Thread) → ((c : Call) → callOf x ≡ some c → callOf (s .threads t) ≡ some c)
-    → ((e b : ℕ) → x .debt ≡ noted e b → s .threads t .debt ≡ noted e b) → Leaves s (setThread t x s)
-leaves-thread s t x calls notes =
+    → Leaves s (setThread t x s)
+leaves-thread s t x calls =
     record {
       fewer =
           record {
@@ -135,29 +132,24 @@ leaves-thread s t x calls notes =
                 calls (λ u n c h. h);
             live = λ u e h k. k;
           };
-      notes =
-          put-all (λ u y. (e b : ℕ) → y .debt ≡ noted e b → s .threads u .debt ≡ noted e b) (s .threads) t x notes
-          (λ u n e b h. h);
+      queues = λ e. sub-refl (s .endpoints e .waiters);
       aborts = λ e. passes-self _ e (s .endpoints e .abort);
     }
 
--- The entry of t becomes one that neither waits nor owes anything.
-pub leaves-clear : (s : State) (t : ℕ) (x : Thread) → callOf x ≡ none → x .debt ≡ nothing → Leaves s (setThread t x s)
-leaves-clear s t x idle free = leaves-thread s t x (λ c h. no-call idle h) (λ e b h. no-note free h)
+-- The entry of t becomes one that does not wait.
+pub leaves-clear : (s : State) (t : ℕ) (x : Thread) → callOf x ≡ none → Leaves s (setThread t x s)
+leaves-clear s t x idle = leaves-thread s t x (λ c h. no-call idle h)
 
--- The debt of t becomes one that is no note.
-pub leaves-debt :
-    (s : State) (t : ℕ) (d : Debt) → ((e b : ℕ) → d ≡ noted e b → ⊥)
-    → Leaves s (setThread t (withDebt d (s .threads t)) s)
-leaves-debt s t d free =
-    leaves-thread s t (withDebt d (s .threads t)) (λ c h. h) (λ e b h. absurd (free e b h))
+pub leaves-debt : (s : State) (t : ℕ) (d : Debt) → Leaves s (setThread t (withDebt d (s .threads t)) s)
+leaves-debt s t d = leaves-thread s t (withDebt d (s .threads t)) (λ c h. h)
 
 -- The entry of endpoint e becomes x.
 pub leaves-endpoint :
     (s : State) (e : ℕ) (x : Endpoint) → Passes (s .threads) e (s .endpoints e .abort) (x .abort)
+    → Sub (x .waiters) (s .endpoints e .waiters)
     → ((t : ℕ) → s .threads t .place ≡ sending e → x .status ≡ live → s .endpoints e .status ≡ live)
     → Leaves s (setEndpoint e x s)
-leaves-endpoint s e x passes lives =
+leaves-endpoint s e x passes part lives =
     record {
       fewer =
           record {
@@ -168,7 +160,9 @@ leaves-endpoint s e x passes lives =
                 (λ f y. s .threads t .place ≡ sending f → y .status ≡ live → s .endpoints f .status ≡ live)
                 (s .endpoints) e x (lives t) (λ f n h k. k);
           };
-      notes = λ t f b h. h;
+      queues =
+          put-all (λ f y. Sub (y .waiters) (s .endpoints f .waiters)) (s .endpoints) e x part
+          (λ f n. sub-refl (s .endpoints f .waiters));
       aborts =
           put-all (λ f y. Passes (s .threads) f (s .endpoints f .abort) (y .abort)) (s .endpoints) e x passes
           (λ f n. passes-self (s .threads) f (s .endpoints f .abort));
@@ -176,15 +170,12 @@ leaves-endpoint s e x passes lives =
 
 -- t leaves the queue of e, and its entry becomes one that does not wait.
 pub leaves-queue :
-    (s : State) (e t : ℕ) (x : Thread) → callOf x ≡ none
-    → ((f b : ℕ) → x .debt ≡ noted f b → s .threads t .debt ≡ noted f b)
-    → Leaves s (setThread t x (leaveEndpoint t e s))
+    (s : State) (e t : ℕ) (x : Thread) → callOf x ≡ none → Leaves s (setThread t x (leaveEndpoint t e s))
 unfolding leaveEndpoint
-leaves-queue s e t x idle notes =
-    leaves-then s (setThread t x s) (setThread t x (leaveEndpoint t e s))
-    (leaves-thread s t x (λ c h. no-call idle h) notes)
+leaves-queue s e t x idle =
+    leaves-then s (setThread t x s) (setThread t x (leaveEndpoint t e s)) (leaves-clear s t x idle)
     (leaves-endpoint (setThread t x s) e _ (passes-leave (put (s .threads) t x) e t (s .endpoints e .abort) gone)
-    (λ u h k. k))
+    (sub-without t (s .endpoints e .waiters)) (λ u h k. k))
   where
     gone : put (s .threads) t x t .place ≡ sending e → ⊥
     gone h =
@@ -192,7 +183,7 @@ leaves-queue s e t x idle notes =
 
 pub leaves-wakeFrom : (s : State) (e t o b m : ℕ) → Leaves s (wakeFrom e t o b m s)
 unfolding wakeFrom wake enqueue leaveEndpoint
-leaves-wakeFrom s e t o b m = leaves-queue s e t (withPlace able o b m (s .threads t)) refl (λ f c h. h)
+leaves-wakeFrom s e t o b m = leaves-queue s e t (withPlace able o b m (s .threads t)) refl
 
 -- t's ownership or note goes.
 leaves-dropped : (d : Debt) (t : ℕ) (s : State) → Leaves s (dropped d t s)
@@ -200,12 +191,10 @@ unfolding dropped
 leaves-dropped nothing t s = leaves-self s
 leaves-dropped (owns e) t s =
     leaves-then s (setThread t (withDebt nothing (s .threads t)) s) (dropped (owns e) t s)
-    (leaves-debt s t nothing (λ f b h. no-note refl h))
+    (leaves-debt s t nothing)
     (leaves-endpoint (setThread t (withDebt nothing (s .threads t)) s) e _
-    (passes-owner _ e (s .endpoints e .abort) none)
-    (λ u h k. k))
-leaves-dropped (noted e b) t s =
-    leaves-debt s t nothing (λ f c h. no-note refl h)
+    (passes-owner _ e (s .endpoints e .abort) none) (sub-refl (s .endpoints e .waiters)) (λ u h k. k))
+leaves-dropped (noted e b) t s = leaves-debt s t nothing
 
 pub leaves-dropDebt : (t : ℕ) (s : State) → Leaves s (dropDebt t s)
 unfolding dropDebt
@@ -261,7 +250,6 @@ module _ (past : List Call) (n m : ℕ) (later : n ≤ m) (since : ℕ → ℕ) 
             both-fewer e (x e .abort) (y e .abort) (standing e) (λ t h. fewer-sends (H .fewer) t e h .0) (H .aborts e)
             (C .stands e);
         over = λ z i. over-fewer z (H .fewer) (C .over z i);
-        notes = λ t e b h. C .notes t e b (H .notes t e b h);
       }
 
   -- One endpoint gets a new entry and the abort o, and the ended aborts may grow.
@@ -270,16 +258,14 @@ module _ (past : List Call) (n m : ℕ) (later : n ≤ m) (since : ℕ → ℕ) 
       (y : Endpoint) (o : Option Aborting)
       → Fewer f g x (put x e y) → Both past m since g e (y .abort) o
       → ((z : Ended) → In z more → In z ended ⊎ Over past m since g (put x e y) z)
-      → ((t k b : ℕ) → g t .debt ≡ noted k b → Noted more t k b)
       → Core past answers n since f x standing ended
       → Core past answers m since g (put x e y) (put standing e o) more
-  core-at {x} answers standing ended more e y o F B new notes C =
+  core-at {x} answers standing ended more e y o F B new C =
       record {
         made = λ t c h. C .made t c (F .calls t c h);
         apart = λ t u c d h k. C .apart t u c d (F .calls t c h) (F .calls u d k);
         stands = stands;
         over = λ z i. ⊎-elim (λ j. over-fewer z F (C .over z j)) (λ O. O) (new z i);
-        notes = notes;
       }
     where
       stands : (k : ℕ) → Both past m since g k (put x e y k .abort) (put standing e o k)

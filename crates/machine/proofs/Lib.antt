@@ -25,6 +25,7 @@ pub mod Answers
 -- Demand 3: the invariant of a list of calls and its history, call by call, and the theorem.
 pub mod Sublists
 pub mod Standing
+pub mod Owing
 pub mod Leaving
 pub mod Blocking
 pub mod Turns

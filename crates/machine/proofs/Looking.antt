@@ -161,7 +161,7 @@ module _ (e w : ℕ) (s : State) where
         entry = alike-passing w (s .endpoints) e (s .endpoints e .waiters);
       }
 
-  steady-look : Steady s (look e w s)
+  pub steady-look : Steady s (look e w s)
   unfolding look
   steady-look = steady-lookAt (hits e w s)
 

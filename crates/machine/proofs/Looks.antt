@@ -2,7 +2,7 @@
 -- Assumes nothing.
 use Prim.Native.Nat.{ℕ, zero, suc, _-_}
 use mathlib.Core.Path.{_≡_, refl, sym, _∙_, ap, subst}
-use mathlib.Core.Logic.{inl, inr}
+use mathlib.Core.Logic.{_⊎_, inl, inr, ⊎-elim}
 use mathlib.Core.Bool.{Bool, true, false}
 use mathlib.Core.Option.{Option, some}
 use mathlib.Core.List.{List, [], _∷_, _++_, map}
@@ -18,14 +18,15 @@ use Rattle.machine.specs.Endpoints.{pendingOf, leaveEndpoint, wakeFrom}
 use Rattle.machine.specs.Results.{Look}
 use Rattle.machine.specs.Aborts.{Looked, hits, lookAt, look, after, lookUpTo, pendingAt}
 use Rattle.machine.specs.Sound.{Queued}
-use Rattle.machine.specs.History.{Aborting, Ended, NamedLook, Walk, Course, namedLooks, reportOf, settle}
+use Rattle.machine.specs.History.{Aborting, NamedLook, Walk, Course, namedLooks, reportOf, settle}
 use Rattle.machine.specs.History.{lookedAt, takeLook, walk}
-use Rattle.machine.specs.Claim.{removedBy, less}
+use Rattle.machine.specs.Claim.{In, removedBy, less}
 use Rattle.machine.proofs.Lists.{put-same, put-other}
-use Rattle.machine.proofs.Sublists.{less-none, less-more, less-append, map-without}
+use Rattle.machine.proofs.Sublists.{sub-mem, sub-only, less-none, less-more, less-append, mem-map}
+use Rattle.machine.proofs.Sublists.{map-without}
 use Rattle.machine.proofs.Keeping.{Keeps, keeps-self}
 use Rattle.machine.proofs.Standing.{callAt, callOf, sends-call, Stood}
-use Rattle.machine.proofs.Walks.{walkAt, Going, going-abort, settle-pending, going-look, walk-look}
+use Rattle.machine.proofs.Walks.{Gone, walkAt, Going, going-abort, settle-pending, going-look, walk-look}
 
 walk-cons :
     (v : NamedLook) (l : List NamedLook) (k : ℕ) (c : Course) (w : Walk)
@@ -46,6 +47,7 @@ pub record Frame (since : ℕ → ℕ) (e : ℕ) (s r : State) (looks : List Loo
       map since (r .endpoints e .waiters)
       ≡ less (removedBy (namedLooks since looks)) (map since (s .endpoints e .waiters))
   pub lines : (l : ℕ) → r .lines l ≡ s .lines l
+  pub met : (v : NamedLook) → In v (namedLooks since looks) → Mem (v .waiter) (map since (s .endpoints e .waiters))
 
 pub frame-keeps : (since : ℕ → ℕ) (e : ℕ) (s r : State) → Keeps s r → Frame since e s r []
 frame-keeps since e s r K =
@@ -53,6 +55,7 @@ frame-keeps since e s r K =
       others = λ f i. K .waiters f;
       own = ap (map since) (K .waiters e) ∙ sym (less-none (map since (s .endpoints e .waiters)));
       lines = K .line;
+      met = λ v i. absurd i;
     }
 
 -- A step after the looks that leaves the queues.
@@ -63,6 +66,7 @@ frame-keep since e s r q l F K =
       others = λ f i. K .waiters f ∙ F .others f i;
       own = ap (map since) (K .waiters e) ∙ F .own;
       lines = λ i. K .line i ∙ F .lines i;
+      met = F .met;
     }
 
 removed-append :
@@ -79,6 +83,14 @@ removed-append since (v ∷ k) l = go (v .removed) (removed-append since k l)
     go true h = ap (λ (r : List ℕ). since (v .waiter) ∷ r) h
     go false h = h
 
+-- A look among those of two parts of a call.
+looks-split :
+    (since : ℕ → ℕ) (v : NamedLook) (k l : List Look) → In v (namedLooks since (k ++ l))
+    → In v (namedLooks since k) ⊎ In v (namedLooks since l)
+looks-split since v [] l i = inr i
+looks-split since v (x ∷ k) l (inl i) = inl (inl i)
+looks-split since v (x ∷ k) l (inr i) = ⊎-elim (λ j. inl (inr j)) inr (looks-split since v k l i)
+
 pub frame-then :
     (since : ℕ → ℕ) (e : ℕ) (s r q : State) (k l : List Look) → Frame since e s r k → Frame since e r q l
     → Frame since e s q (k ++ l)
@@ -91,12 +103,18 @@ frame-then since e s r q k l F H =
           (less-append (removedBy (namedLooks since k)) (removedBy (namedLooks since l))
           (map since (s .endpoints e .waiters))));
       lines = λ i. H .lines i ∙ F .lines i;
+      met = λ v i. ⊎-elim (F .met v) (λ j. before v (H .met v j)) (looks-split since v k l i);
     }
+  where
+    -- Who waits still waited before.
+    before : (v : NamedLook) → Mem (v .waiter) (map since (r .endpoints e .waiters))
+        → Mem (v .waiter) (map since (s .endpoints e .waiters))
+    before v m = sub-mem (sub-only _ (map since (s .endpoints e .waiters))) (v .waiter) (rw (F .own) at m)
 
 module _
     (past : List Call) (answers : List Answer) (n : ℕ) (since : ℕ → ℕ) (standing : ℕ → Option Aborting) (e : ℕ) where
   frame-look :
-      (s : State) (o : Option Aborting) (d : List Ended) → Going past answers n since standing e s o d → (u : ℕ)
+      (s : State) (o : Option Aborting) (d : Gone) → Going past answers n since standing e s o d → (u : ℕ)
       → Mem u (s .endpoints e .waiters) → (b : Bool)
       → Frame since e s (lookAt b e u s) (record { waiter = u; removed = b } ∷ [])
   unfolding lookAt wakeFrom wake enqueue leaveEndpoint
@@ -109,6 +127,7 @@ module _
             ∙ sym (less-none (without (since u) (map since (s .endpoints e .waiters))))
             ∙ less-more (since u) [] (map since (s .endpoints e .waiters));
         lines = λ l. refl;
+        met = λ v i. ⊎-elim (λ j. rw j (mem-map since u (s .endpoints e .waiters) m)) (λ j. absurd j) i;
       }
     where
       call : (t : ℕ) → Mem t (s .endpoints e .waiters) → (c : Call) × (callOf (s .threads t) ≡ some c)
@@ -123,17 +142,18 @@ module _
             ap (λ (y : Endpoint). map since (y .waiters)) (put-same (s .endpoints) e _)
             ∙ sym (less-none (map since (s .endpoints e .waiters)));
         lines = λ l. refl;
+        met = λ v i. ⊎-elim (λ j. rw j (mem-map since u (s .endpoints e .waiters) m)) (λ j. absurd j) i;
       }
 
   frame-looked :
-      (s : State) (o : Option Aborting) (d : List Ended) → Going past answers n since standing e s o d → (u : ℕ)
+      (s : State) (o : Option Aborting) (d : Gone) → Going past answers n since standing e s o d → (u : ℕ)
       → Mem u (s .endpoints e .waiters)
       → Frame since e s (look e u s) (record { waiter = u; removed = hits e u s } ∷ [])
   unfolding look
   frame-looked s o d G u m = frame-look s o d G u m (hits e u s)
 
   -- What looks from s with x standing have come to, whatever looks come after them.
-  pub record Walked (s : State) (x : Aborting) (d : List Ended) (m : ℕ) (c : Course) (r : Looked) : Type 0 where
+  pub record Walked (s : State) (x : Aborting) (d : Gone) (m : ℕ) (c : Course) (r : Looked) : Type 0 where
     pub abort : Aborting
     pub going : Going past answers n since standing e (r .state) (some abort) d
     pub report : reportOf abort ≡ reportOf x
@@ -144,7 +164,7 @@ module _
     pub frame : Frame since e s (r .state) (r .looks)
 
   walked-none :
-      (m : ℕ) (s : State) (x : Aborting) (d : List Ended) (c : Course)
+      (m : ℕ) (s : State) (x : Aborting) (d : Gone) (c : Course)
       → Going past answers n since standing e s (some x) d
       → Walked s x d m c (record { state = s; looks = [] })
   walked-none m s x d c G =
@@ -159,7 +179,7 @@ module _
 
   -- One more look, before those that come to r.
   walked-after :
-      (m : ℕ) (s : State) (x : Aborting) (d : List Ended) (c : Course) (u : ℕ) (l : List ℕ)
+      (m : ℕ) (s : State) (x : Aborting) (d : Gone) (c : Course) (u : ℕ) (l : List ℕ)
       (r : Looked) → pendingAt e s ≡ u ∷ l → Going past answers n since standing e s (some x) d
       → Walked (look e u s) (lookedAt (record { waiter = since u; removed = hits e u s }) x) d m c r
       → Walked s x d (suc m) c (after (record { waiter = u; removed = hits e u s }) r)
@@ -214,7 +234,7 @@ module _
               (subst (λ (k : List ℕ). Mem u k) (sym first) (inl refl))))
 
   pub walked :
-      (m : ℕ) (l : List ℕ) (s : State) (x : Aborting) (d : List Ended) (c : Course)
+      (m : ℕ) (l : List ℕ) (s : State) (x : Aborting) (d : Gone) (c : Course)
       → pendingAt e s ≡ l → Going past answers n since standing e s (some x) d
       → Walked s x d m c (lookUpTo m l e s)
   unfolding lookUpTo

@@ -5,7 +5,7 @@ use mathlib.Core.Path.{_≡_, refl, sym, _∙_, ap, subst}
 use mathlib.Core.Logic.{_⊎_, inl, inr, ⊎-elim}
 use mathlib.Core.Bool.{Bool, true, false, not}
 use mathlib.Core.Option.{Option, some}
-use mathlib.Core.List.{List, [], _∷_, _++_}
+use mathlib.Core.List.{List, [], _∷_, _++_, map}
 use native.Mathlib.Omega.{arith}
 use lib.Dec.{eqb}
 use lib.ListN.{length, getElem?}
@@ -14,13 +14,14 @@ use Rattle.machine.specs.declared.Answer.{Answer}
 use Rattle.machine.specs.declared.Call.{Call}
 use Rattle.machine.specs.declared.Call.the-variants.{CreateThread, DestroyThread, SetPriority, CreateEndpoint}
 use Rattle.machine.specs.declared.Call.the-variants.{Interrupt, Tick, Send, Receive, Yield, Wait, Delete, Abort}
-use Rattle.machine.specs.Lists.{only}
+use Rattle.machine.specs.Lists.{only, Rising}
 use Rattle.machine.specs.State.{State}
 use Rattle.machine.specs.Results.{Result}
 use Rattle.machine.specs.Sound.{Sound}
 use Rattle.machine.specs.History.{Ended, Delivery, AbortCall, Waiting, Reported, Outcome, History, isIn}
 use Rattle.machine.specs.History.{waitingIn, namedLooks, delivered, deliveredIf, abortCallsOf, recorded}
 use Rattle.machine.specs.Claim.{In}
+use Rattle.machine.specs.Tied.{Tied}
 use Rattle.machine.proofs.Sublists.{entry-below, entry-keep, entry-last, entry-cases, length-grow}
 use Rattle.machine.proofs.Standing.{Core}
 use Rattle.machine.proofs.Invariant.{Given, Called, Recorded12, Recorded8, Inv, given-grow, called-grow}
@@ -94,6 +95,8 @@ module _ (past : List Call) (s : State) (h : History) (I : Inv past s h) (c : Ca
     pub core :
         Core (past ++ (c ∷ [])) (h .answers ++ (r .answer ∷ [])) (suc (h .now)) since (r .state .threads)
         (r .state .endpoints) (o .aborts .standing) (o .aborts .ended)
+    pub tied : Tied (r .state .threads) (r .state .endpoints) (o .aborts .debts) (o .aborts .ended)
+    pub rising : (e : ℕ) → Rising (map since (r .state .endpoints e .waiters))
     pub stray : o .aborts .stray ≡ []
     pub new : (z : Ended) → In z (o .aborts .ended) → In z (h .aborts .ended) ⊎ (h .now ≤ z .by)
     pub kept : (z : Ended) → In z (h .aborts .ended) → In z (o .aborts .ended)
@@ -236,6 +239,8 @@ module _ (past : List Call) (s : State) (h : History) (I : Inv past s h) (c : Ca
         answered = length-grow (h .answers) (r .answer) ∙ ap suc (I .answered) ∙ sym (length-grow past c);
         waiting = refl;
         core = G .core;
+        tied = G .tied;
+        rising = G .rising;
         stray = G .stray;
         given =
             deliveries (Given (past ++ (c ∷ [])) k)

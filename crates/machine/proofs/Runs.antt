@@ -2,17 +2,16 @@
 -- Assumes nothing.
 use Prim.Native.Nat.{ℕ, suc, _≤_, _<_, _-_, _^_}
 use mathlib.Core.Path.{_≡_, refl, sym, _∙_, ap, subst}
-use mathlib.Core.Logic.{_⊎_, inl, inr, ⊎-elim}
+use mathlib.Core.Logic.{_⊎_, inl, inr}
 use mathlib.Core.Bool.{true}
 use mathlib.Core.Option.{Option, none, some}
 use mathlib.Core.List.{List, [], _∷_, _++_, map, append-nil}
 use native.Mathlib.Omega.{arith}
-use lib.Dec.{eqb}
 use lib.ListN.{length}
 use borrow.Author.Tests.{eq-eqb}
 use Rattle.machine.specs.declared.Answer.{Answer}
 use Rattle.machine.specs.declared.Call.{Call}
-use Rattle.machine.specs.Lists.{pick, put}
+use Rattle.machine.specs.Lists.{put}
 use Rattle.machine.specs.State.{State, nothing, owns, noted, Abort, Status, live, Endpoint, setEndpoint}
 use Rattle.machine.specs.Scheduling.{choose}
 use Rattle.machine.specs.Endpoints.{isSending, senders, pendingOf, ownerOf, withOwner, dropDebt, noteTo, note}
@@ -21,20 +20,21 @@ use Rattle.machine.specs.Results.{Look, Result, counted}
 use Rattle.machine.specs.Aborts.{Looked, pendingAt, lookUpTo, begin, ended, lookedOwn, workOwn}
 use Rattle.machine.specs.Sound.{Present}
 use Rattle.machine.specs.History.{Aborting, Ended, isAccepted, Reported, NamedLook, Walk, Course, namedLooks}
-use Rattle.machine.specs.History.{ownerIn, begins, ends, passes, settles, settle, walk, closes, close, reportOf}
-use Rattle.machine.specs.History.{reportIf}
+use Rattle.machine.specs.History.{takesUp, hearsBy, begins, ends, passes, settles, settle, walk, closes, close}
+use Rattle.machine.specs.History.{reportOf, reportIf}
 use Rattle.machine.specs.Claim.{In}
+use Rattle.machine.specs.Tied.{Tied}
 use Rattle.machine.proofs.Lists.{put-same}
 use Rattle.machine.proofs.Sublists.{only-agree}
-use Rattle.machine.specs.Mid.{Mid}
 use Rattle.machine.proofs.Keeping.{Keeps, keeps-place, keeps-entry, keeps-both}
-use Rattle.machine.proofs.Debts.{nothing-owns, mid-dropDebt, dropDebt-drops}
+use Rattle.machine.proofs.Debts.{mid-dropDebt, dropDebt-drops}
 use Rattle.machine.proofs.Looking.{mid-begin, Steady, steady-lookUpTo}
 use Rattle.machine.proofs.Aborting.{begin-status}
 use Rattle.machine.proofs.Standing.{Stood, Core}
 use Rattle.machine.proofs.Leaving.{leaves-dropDebt, core-leaves}
 use Rattle.machine.proofs.Ending.{begunOn, core-end, core-begin}
-use Rattle.machine.proofs.Walks.{put-again, walkAt, Going, going-abort, left-some, left-none}
+use Rattle.machine.proofs.Owing.{tied-drop, tied-begin, tied-end}
+use Rattle.machine.proofs.Walks.{put-again, Gone, walkAt, Going, going-abort, left-some, left-none}
 use Rattle.machine.proofs.Looks.{Frame, frame-then, frame-keep, Walked, walked}
 
 -- The second list has the ended aborts of the first, and others that ended at the place or later.
@@ -55,10 +55,10 @@ more-cons place old new z h M = record { known = known; kept = λ y i. inr (M .k
 
 -- Steps that leave the queues leave the walk.
 pub walk-keeps :
-    (since : ℕ → ℕ) (e : ℕ) (s r : State) (o : Option Aborting) (d : List Ended) → Keeps s r
+    (since : ℕ → ℕ) (e : ℕ) (s r : State) (o : Option Aborting) (d : Gone) → Keeps s r
     → walkAt since e r o d ≡ walkAt since e s o d
 walk-keeps since e s r o d K =
-    ap (λ (q : List ℕ). record { standing = o; queued = map since q; ended = d; stray = [] })
+    ap (λ (q : List ℕ). record { standing = o; queued = map since q; ended = d .ended; debts = d .debts; stray = [] })
     (ap (senders (r .threads)) (K .waiters e)
     ∙ only-agree _ _ (s .endpoints e .waiters) (λ t m. ap isSending (keeps-place K t)))
 
@@ -80,16 +80,6 @@ keeps-endAbort status e s = go (s .endpoints e .abort)
 pub keeps-begin : (t e b : ℕ) (s : State) → Keeps s (begin t e b s)
 unfolding begin
 keeps-begin t e b s = keeps-both s e _ refl t (owns e)
-
--- The owner of an abort after t's debt is dropped is not t, and owned it before.
-pub owner-dropped :
-    (s : State) (t e u : ℕ) → Mid s → ownerOf (dropDebt t s .endpoints e .abort) ≡ some u
-    → (ownerOf (s .endpoints e .abort) ≡ some u) × (u ≡ t → ⊥)
-owner-dropped s t e u M h =
-    let D = dropDebt-drops s t in
-    let o = mid-dropDebt s t M .owners .each-other e u .0 h in
-    let n : u ≡ t → ⊥ = λ i. nothing-owns (D .debt) (subst (λ (v : ℕ). dropDebt t s .threads v .debt ≡ owns e) i o) in
-    (M .owners .each-other e u .1 (sym (D .other-debt u n) ∙ o), n)
 
 -- Two walks of which the same is to settle go the same way.
 pub walk-settle :
@@ -123,15 +113,11 @@ settle-none :
           });
       queued = w .queued;
       ended = w .ended;
+      debts = takesUp (c .caller) (c .endpoint) (w .debts);
       stray = w .stray;
     }
 unfolding settle settles begins
 settle-none k c w h = rw h
-
-begin-owner : (t e b : ℕ) (s : State) (u : ℕ) → ownerOf (begin t e b s .endpoints e .abort) ≡ some u → u ≡ t
-unfolding begin
-begin-owner t e b s u o =
-    let k : some t ≡ some u = sym (ap (λ (y : Endpoint). ownerOf (y .abort)) (put-same (s .endpoints) e _)) ∙ o in cc
 
 named-append :
     (since : ℕ → ℕ) (k l : List Look) → namedLooks since (k ++ l) ≡ namedLooks since k ++ namedLooks since l
@@ -141,10 +127,10 @@ named-append since (v ∷ k) l =
     (named-append since k l)
 
 module _
-    (past : List Call) (answers : List Answer) (since : ℕ → ℕ) (standing : ℕ → Option Aborting) (t e b place : ℕ)
-    (owner : Option ℕ) where
+    (past : List Call) (answers : List Answer) (since : ℕ → ℕ) (standing : ℕ → Option Aborting)
+    (t e b place : ℕ) where
   abbrev pub course : Course
-  course = record { place = place; endpoint = e; badge = b; owner = owner }
+  course = record { place = place; caller = t; endpoint = e; badge = b }
 
   -- What a call 12 with allowance a from s has come to.
   pub record Ran (s : State) (a : ℕ) (start : Walk) (r : Result) : Type 0 where
@@ -154,34 +140,30 @@ module _
     pub answer : r .answer ≡ counted (r .answer .code) (length (r .looks))
     pub accepted : isAccepted (r .answer) ≡ true
     pub stands : Option Aborting
-    pub ended : List Ended
-    pub core : Core past answers (suc place) since (state .threads) (state .endpoints) (put standing e stands) ended
-    pub more : More place (start .ended) ended
+    pub gone : Gone
+    pub core :
+        Core past answers (suc place) since (state .threads) (state .endpoints) (put standing e stands) (gone .ended)
+    pub tied : Tied (state .threads) (state .endpoints) (gone .debts) (gone .ended)
+    pub more : More place (start .ended) (gone .ended)
     pub queued : List ℕ
     pub closes :
         close course (walk (namedLooks since (r .looks)) a course start)
-        ≡ record { standing = stands; queued = queued; ended = ended; stray = [] }
+        ≡ record { standing = stands; queued = queued; ended = gone .ended; debts = gone .debts; stray = [] }
     pub reports :
         r .answer .code ≡ 0
-        → (z : Ended) × In z ended
+        → (z : Ended) × In z (gone .ended)
         × (reportIf (walk (namedLooks since (r .looks)) a course start .standing) b ≡ some (reportOf (z .abort)))
         × (z .abort .endpoint ≡ e) × (z .abort .badge ≡ b) × (z .by ≤ place)
-
-  -- The abort's owner is the caller, or is the one recorded.
-  abbrev pub Owned : State → Aborting → Type 0
-  Owned s x =
-      (u : ℕ) → ownerOf (s .endpoints e .abort) ≡ some u → (u ≡ t) ⊎ (ownerIn x course ≡ some u)
 
   module _ (now : length past ≤ place) (s : State) (a : ℕ) (start : Walk) where
     -- The abort x of the call's badge, after the looks: it ends if nothing is left.
     own-ends :
-        (q : State) (x : Aborting) (d : List Ended) (looks : List Look)
-        → Going past answers (suc place) since standing e q (some x) d → x .badge ≡ b → Owned q x
-        → q .endpoints e .status ≡ live → Frame since e s q looks
+        (q : State) (x : Aborting) (d : Gone) (looks : List Look)
+        → Going past answers (suc place) since standing e q (some x) d → x .badge ≡ b → q .endpoints e .status ≡ live → Frame since e s q looks
         → walk (namedLooks since looks) a course start ≡ walkAt since e q (some x) d
-        → More place (start .ended) d → Ran s a start (ended (pendingAt e q) t e looks q)
+        → More place (start .ended) (d .ended) → Ran s a start (ended (pendingAt e q) t e looks q)
     unfolding ended close closes ends
-    own-ends q x d looks G badge owned lives F W E = go (pendingAt e q) refl
+    own-ends q x d looks G badge lives F W E = go (pendingAt e q) refl
       where
         A : (k : Abort) × (q .endpoints e .abort ≡ some k) × Stood past (suc place) since (q .threads) e k x
         A = going-abort past answers (suc place) since standing e q (some x) d x refl G
@@ -198,23 +180,18 @@ module _
         over : A .0 .pending ≡ []
             → Core past answers (suc place) since (endAbort live e (dropDebt t q) .threads)
             (endAbort live e (dropDebt t q) .endpoints) (put standing e none)
-            (record { abort = x; by = place; owner = ownerIn x course } ∷ d)
+            (record { abort = x; by = place } ∷ d .ended)
         over h =
             subst
             (λ (f : ℕ → Option Aborting).
             Core past answers (suc place) since (endAbort live e (dropDebt t q) .threads)
             (endAbort live e (dropDebt t q) .endpoints) f
-            (record { abort = x; by = place; owner = ownerIn x course } ∷ d))
+            (record { abort = x; by = place } ∷ d .ended))
             (put-again standing e (some x) none)
-            (core-end past answers (suc place) since (dropDebt t q) (put standing e (some x)) d
+            (core-end past answers (suc place) since (dropDebt t q) (put standing e (some x)) (d .ended)
             (core-leaves past (suc place) (suc place) (omega arith) since (q .threads) (dropDebt t q .threads) answers
-            (put standing e (some x)) d (leaves-dropDebt t q) (G .core))
-            e (mid-dropDebt q t (G .mid)) live k x place (ownerIn x course) was (put-same standing e (some x))
-            (omega arith)
-            (λ u o.
-            let r = owner-dropped q t e u (G .mid) (ap ownerOf was ∙ o) in
-            ⊎-elim (λ i. absurd (r .1 i)) (λ i. i) (owned u (r .0)))
-            (λ i. h) (λ i. dropDebt-drops q t .status e ∙ lives))
+            (put standing e (some x)) (d .ended) (leaves-dropDebt t q) (G .core))
+            e (mid-dropDebt q t (G .mid)) live k x place was (put-same standing e (some x)) (omega arith) (λ i. h) (λ i. dropDebt-drops q t .status e ∙ lives))
 
         go : (l : List ℕ) → pendingAt e q ≡ l → Ran s a start (ended l t e looks q)
         go [] h =
@@ -228,9 +205,16 @@ module _
               answer = refl;
               accepted = refl;
               stands = none;
-              ended = record { abort = x; by = place; owner = ownerIn x course } ∷ d;
+              gone =
+                  record {
+                    ended = record { abort = x; by = place } ∷ d .ended;
+                    debts = hearsBy t e (reportOf x) (d .debts);
+                  };
               core = over (pending [] h);
-              more = more-cons place (start .ended) d _ (omega arith) E;
+              tied =
+                  tied-end (dropDebt t q) (tied-drop q (G .tied) t (G .mid .owners)) e live k was x
+                  (A .2 .endpoint) (A .2 .badge) _ refl;
+              more = more-cons place (start .ended) (d .ended) _ (omega arith) E;
               queued = map since (senders (q .threads) (q .endpoints e .waiters));
               closes =
                   rw (
@@ -239,7 +223,7 @@ module _
                   );
               reports =
                   λ i. (
-                    record { abort = x; by = place; owner = ownerIn x course },
+                    record { abort = x; by = place },
                     inl refl,
                     rw (W, eq-eqb (x .badge) b badge),
                     A .2 .endpoint,
@@ -255,8 +239,9 @@ module _
               answer = refl;
               accepted = refl;
               stands = some x;
-              ended = d;
+              gone = d;
               core = G .core;
+              tied = G .tied;
               more = E;
               queued = map since (senders (q .threads) (q .endpoints e .waiters));
               closes =
@@ -270,16 +255,14 @@ module _
 
     -- The abort x of the call's badge, with allowance k, after the looks made earlier in the call.
     pub own-works :
-        (k : ℕ) (earlier : List Look) (q : State) (x : Aborting) (d : List Ended)
-        → Going past answers (suc place) since standing e q (some x) d → x .badge ≡ b → Owned q x
-        → q .endpoints e .status ≡ live → Frame since e s q earlier
+        (k : ℕ) (earlier : List Look) (q : State) (x : Aborting) (d : Gone)
+        → Going past answers (suc place) since standing e q (some x) d → x .badge ≡ b → q .endpoints e .status ≡ live → Frame since e s q earlier
         → ((l : List NamedLook)
         → walk (namedLooks since earlier ++ l) a course start ≡ walk l k course (walkAt since e q (some x) d))
-        → More place (start .ended) d → Ran s a start (workOwn t e k earlier q)
+        → More place (start .ended) (d .ended) → Ran s a start (workOwn t e k earlier q)
     unfolding workOwn lookedOwn
-    own-works k earlier q x d G badge owned lives F W E =
-        own-ends (r .state) (H .abort) d (earlier ++ r .looks) (H .going) same
-        (λ u o. ⊎-elim inl (λ i. inr (again ∙ i)) (owned u (sym (T .entry e .owner) ∙ o))) (T .entry e .status ∙ lives)
+    own-works k earlier q x d G badge lives F W E =
+        own-ends (r .state) (H .abort) d (earlier ++ r .looks) (H .going) same (T .entry e .status ∙ lives)
         (frame-then since e s q (r .state) earlier (r .looks) F (H .frame))
         (ap (λ (l : List NamedLook). walk l a course start) (named-append since earlier (r .looks))
         ∙ W (namedLooks since (r .looks))
@@ -299,9 +282,6 @@ module _
         same : H .abort .badge ≡ b
         same = ap (λ (y : Reported). y .badge) (H .report) ∙ badge
 
-        again : ownerIn (H .abort) course ≡ ownerIn x course
-        again = ap (λ (y : Reported). pick (eqb (y .began) place) none owner) (H .report)
-
         done :
             walk [] (k - length (r .looks)) course (walkAt since e (r .state) (some (H .abort)) d)
             ≡ walkAt since e (r .state) (some (H .abort)) d
@@ -310,42 +290,43 @@ module _
 
     -- The call's own abort begins, where allowance remains.
     pub own-begins :
-        (k : ℕ) (earlier : List Look) (q : State) (d : List Ended)
+        (k : ℕ) (earlier : List Look) (q : State) (d : Gone)
         → Going past answers (suc place) since standing e q none d → q .endpoints e .abort ≡ none
         → q .threads t .debt ≡ nothing → Present q t → b < 2 ^ 28 → place ≤ length past
         → q .endpoints e .status ≡ live → Frame since e s q earlier
         → ((l : List NamedLook)
         → walk (namedLooks since earlier ++ l) a course start ≡ walk l (suc k) course (walkAt since e q none d))
-        → More place (start .ended) d → Ran s a start (workOwn t e (suc k) earlier (begin t e b q))
+        → More place (start .ended) (d .ended) → Ran s a start (workOwn t e (suc k) earlier (begin t e b q))
     own-begins k earlier q d G bare free present small here lives F W E =
-        own-works (suc k) earlier (begin t e b q) (begunOn since q e b place) d
+        own-works (suc k) earlier (begin t e b q) (begunOn since q e b place) begun
         (record {
           mid = mid-begin t e b q (G .mid) present free lives bare small;
           core =
               subst
               (λ (f : ℕ → Option Aborting).
-              Core past answers (suc place) since (begin t e b q .threads) (begin t e b q .endpoints) f d)
+              Core past answers (suc place) since (begin t e b q .threads) (begin t e b q .endpoints) f (d .ended))
               (put-again standing e none (some (begunOn since q e b place)))
-              (core-begin past answers (suc place) since q (put standing e none) d (G .core) e (G .mid) t b place now
-              (omega arith));
+              (core-begin past answers (suc place) since q (put standing e none) (d .ended) (G .core) e (G .mid) t b
+              place now (omega arith));
+          tied = tied-begin q (G .tied) t e b free;
         })
-        refl mine (begin-status t e b q ∙ lives)
+        refl (begin-status t e b q ∙ lives)
         (frame-keep since e s q (begin t e b q) earlier F (keeps-begin t e b q))
         (λ l.
         W l
         ∙ walk-settle l (suc k) course (walkAt since e q none d)
-        (walkAt since e (begin t e b q) (some (begunOn since q e b place)) d)
+        (walkAt since e (begin t e b q) (some (begunOn since q e b place)) begun)
         (settles-begin
         ∙ sym
-        (settle-own (suc k) course (walkAt since e (begin t e b q) (some (begunOn since q e b place)) d)
+        (settle-own (suc k) course (walkAt since e (begin t e b q) (some (begunOn since q e b place)) begun)
         (begunOn since q e b place) refl refl))) E
       where
-        mine : Owned (begin t e b q) (begunOn since q e b place)
-        mine u o = inl (begin-owner t e b q u o)
+        begun : Gone
+        begun = record { ended = d .ended; debts = takesUp t e (d .debts) }
 
         settles-begin :
             settle (suc k) course (walkAt since e q none d)
-            ≡ walkAt since e (begin t e b q) (some (begunOn since q e b place)) d
+            ≡ walkAt since e (begin t e b q) (some (begunOn since q e b place)) begun
         settles-begin =
             settle-none k course (walkAt since e q none d) refl
-            ∙ sym (walk-keeps since e q (begin t e b q) (some (begunOn since q e b place)) d (keeps-begin t e b q))
+            ∙ sym (walk-keeps since e q (begin t e b q) (some (begunOn since q e b place)) begun (keeps-begin t e b q))

@@ -14,7 +14,7 @@ use Rattle.machine.specs.declared.Answer.{Answer}
 use Rattle.machine.specs.declared.Call.{Call}
 use Rattle.machine.specs.declared.Call.the-variants.{Send, Receive, Wait}
 use Rattle.machine.specs.Lists.{only, Mem, Distinct}
-use Rattle.machine.specs.State.{Thread, Place, absent, able, sending, receiving, waiting, noted, Abort, live}
+use Rattle.machine.specs.State.{Thread, Place, absent, able, sending, receiving, waiting, Abort, live}
 use Rattle.machine.specs.State.{Endpoint}
 use Rattle.machine.specs.Results.{plain}
 use Rattle.machine.specs.History.{Aborting, Ended}
@@ -94,14 +94,6 @@ pub record Over
   pub clean :
       (t f : ℕ) → threads t .place ≡ sending f → endpoints f .status ≡ live → isOld past (z .abort) (since t) ≡ false
 
--- The noted abort is among the ended ones.
-pub record Noted (ended : List Ended) (t e b : ℕ) : Type 0 where
-  pub of : Ended
-  pub found : In of ended
-  pub endpoint : of .abort .endpoint ≡ e
-  pub badge : of .abort .badge ≡ b
-  pub owner : of .owner ≡ some t
-
 pub record Core
     (past : List Call) (answers : List Answer) (n : ℕ) (since : ℕ → ℕ) (threads : ℕ → Thread) (endpoints : ℕ → Endpoint)
     (standing : ℕ → Option Aborting) (ended : List Ended) : Type 0 where
@@ -111,7 +103,6 @@ pub record Core
       (t u : ℕ) (c d : Call) → callOf (threads t) ≡ some c → callOf (threads u) ≡ some d → since t ≡ since u → t ≡ u
   pub stands : (e : ℕ) → Both past n since threads e (endpoints e .abort) (standing e)
   pub over : (z : Ended) → In z ended → Over past n since threads endpoints z
-  pub notes : (t e b : ℕ) → threads t .debt ≡ noted e b → Noted ended t e b
 
 -- What an abort says of its looks while it stands.
 pub stood-exact :
@@ -217,5 +208,4 @@ module _ (past : List Call) (c : Call) (n : ℕ) (fits : n ≤ suc (length past)
           apart = C .apart;
           stands = λ e. both-grow e (endpoints e .abort) (standing e) (C .stands e);
           over = λ z i. over-grow endpoints z (C .over z i);
-          notes = C .notes;
         }

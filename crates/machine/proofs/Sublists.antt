@@ -9,11 +9,11 @@ use mathlib.Core.List.{List, [], _∷_, _++_, map}
 use native.Mathlib.Omega.{arith}
 use lib.Dec.{eqb}
 use lib.ListN.{length, getElem?}
-use Rattle.machine.specs.Lists.{pick, without, only, Mem, Distinct}
+use Rattle.machine.specs.Lists.{pick, without, only, Mem, Distinct, Rising}
 use Rattle.machine.specs.History.{isIn}
 use Rattle.machine.specs.Claim.{less}
 use Rattle.machine.proofs.Lists.{Same, same, other, same?, clash, without-hit, without-miss, only-hit}
-use Rattle.machine.proofs.Lists.{only-miss}
+use Rattle.machine.proofs.Lists.{only-miss, mem-snoc}
 
 -- The first list is what is left of the second when some are struck out.
 pub data Sub : List ℕ → List ℕ → Type 0 where
@@ -72,6 +72,38 @@ sub-without t (x ∷ l) = go (eqb x t) (sub-without t l)
     go : (b : Bool) → Sub (without t l) l → Sub (pick b (without t l) (x ∷ without t l)) (x ∷ l)
     go true p = skip p
     go false p = take p
+
+pub sub-only : (f : ℕ → Bool) (l : List ℕ) → Sub (only f l) l
+unfolding only
+sub-only f [] = empty
+sub-only f (x ∷ l) = go (f x) (sub-only f l)
+  where
+    go : (b : Bool) → Sub (only f l) l → Sub (pick b (x ∷ only f l) (only f l)) (x ∷ l)
+    go true p = take p
+    go false p = skip p
+
+-- Ascending numbers
+
+pub rising-sub : {k l : List ℕ} → Sub k l → Rising l → Rising k
+rising-sub empty r = tt
+rising-sub (skip p) r = rising-sub p (r .1)
+rising-sub (take p) r = ((λ w m. r .0 w (sub-mem p w m)), rising-sub p (r .1))
+
+-- One more at the end, above them all.
+pub rising-snoc :
+    (l : List ℕ) (n : ℕ) → Rising l → ((w : ℕ) → Mem w l → w < n) → Rising (l ++ (n ∷ []))
+rising-snoc [] n r h = ((λ w m. absurd m), tt)
+rising-snoc (x ∷ l) n r h =
+    (λ w m. go w (mem-snoc w n l m), rising-snoc l n (r .1) (λ w m. h w (inr m)))
+  where
+    go : (w : ℕ) → Mem w l ⊎ (w ≡ n) → x < w
+    go w (inl m) = r .0 w m
+    go w (inr e) = rw e (h x (inl refl))
+
+-- The first is the least.
+pub rising-least : (x : ℕ) (l : List ℕ) → Rising (x ∷ l) → (w : ℕ) → Mem w (x ∷ l) → x ≤ w
+rising-least x l r w (inl e) = omega (arith, e)
+rising-least x l r w (inr m) = omega (arith, r .0 w m)
 
 -- only, again
 
@@ -175,6 +207,18 @@ map-mem f w (x ∷ l) (inr m) = let r = map-mem f w l m in (r .0, inr (r .1), r 
 pub map-agree : (f g : ℕ → ℕ) (l : List ℕ) → ((t : ℕ) → Mem t l → f t ≡ g t) → map f l ≡ map g l
 map-agree f g [] h = refl
 map-agree f g (x ∷ l) h = rw (h x (inl refl), map-agree f g l (λ t m. h t (inr m)))
+
+-- The names of those that pass a test.
+pub map-only :
+    (f : ℕ → ℕ) (p q : ℕ → Bool) (l : List ℕ) → ((t : ℕ) → Mem t l → p t ≡ q (f t)) → map f (only p l) ≡ only q (map f l)
+unfolding only
+map-only f p q [] h = refl
+map-only f p q (x ∷ l) h = rw (h x (inl refl)) (go (q (f x)) (map-only f p q l (λ t m. h t (inr m))))
+  where
+    go : (b : Bool) → map f (only p l) ≡ only q (map f l)
+        → map f (pick b (x ∷ only p l) (only p l)) ≡ pick b (f x ∷ only q (map f l)) (only q (map f l))
+    go true e = ap (λ (r : List ℕ). f x ∷ r) e
+    go false e = e
 
 pub distinct-map : (f : ℕ → ℕ) (l : List ℕ) → Apart f l → Distinct l → Distinct (map f l)
 distinct-map f [] a d = tt

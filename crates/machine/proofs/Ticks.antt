@@ -31,7 +31,7 @@ use Rattle.machine.specs.Sound.{Present}
 use Rattle.machine.proofs.Lists.{clash, put-same, put-other, put-all}
 use Rattle.machine.proofs.Running.{choose-keeps}
 
-is-absent : (p : Place) → isAbsent p ≡ true → p ≡ absent
+pub is-absent : (p : Place) → isAbsent p ≡ true → p ≡ absent
 is-absent absent e = refl
 is-absent able e = absurd (clash refl (sym e))
 is-absent (sending f) e = absurd (clash refl (sym e))

@@ -12,13 +12,14 @@ use borrow.Author.Tests.{ne-eqb, eq-eqb, lt-ltb}
 use Rattle.machine.specs.declared.Answer.{Answer}
 use Rattle.machine.specs.declared.Call.{Call}
 use Rattle.machine.specs.Lists.{pick, put, without, only, Mem}
-use Rattle.machine.specs.State.{State, Thread, able, sending, noted, Abort, live, Endpoint, withPlace}
+use Rattle.machine.specs.State.{State, Thread, able, sending, Abort, live, Endpoint, withPlace}
 use Rattle.machine.specs.Scheduling.{enqueue, wake}
 use Rattle.machine.specs.Endpoints.{isSending, senders, pendingOf, passing, leaveEndpoint, wakeFrom}
 use Rattle.machine.specs.Aborts.{hits, lookAt, look}
-use Rattle.machine.specs.History.{Aborting, Ended, Walk, Course, isIn, isNone, leftOf, passes, settles, settle}
-use Rattle.machine.specs.History.{lookedAt, takes, takeLook}
+use Rattle.machine.specs.History.{Aborting, Ended, Debts, Walk, Course, isIn, isNone, leftOf, passes, settles}
+use Rattle.machine.specs.History.{settle, lookedAt, takes, takeLook}
 use Rattle.machine.specs.Claim.{isOld}
+use Rattle.machine.specs.Tied.{Tied}
 use Rattle.machine.proofs.Lists.{Same, same, other, same?, put-all, put-same, put-other, mem-left, mem-right}
 use Rattle.machine.proofs.Lists.{mem-keep, mem-last, only-keep, distinct-apart, without-hit, only-nil}
 use Rattle.machine.proofs.Lists.{only-hit, only-miss, only-none}
@@ -26,8 +27,9 @@ use Rattle.machine.proofs.Sublists.{Sub, take, sub-trans, sub-mem, sub-
 use Rattle.machine.proofs.Sublists.{sub-without, only-append, only-without, isIn-true, mem-isIn, not-isIn}
 use Rattle.machine.proofs.Sublists.{mem-map, map-mem, map-without}
 use Rattle.machine.specs.Mid.{Mid}
-use Rattle.machine.proofs.Looking.{mid-look}
+use Rattle.machine.proofs.Looking.{mid-look, steady-look}
 use Rattle.machine.proofs.Standing.{sends-call, Stood, Both, Core}
+use Rattle.machine.proofs.Owing.{tied-still}
 use Rattle.machine.proofs.Leaving.{Fewer, fewer-sends, leaves-wakeFrom, core-at}
 use Rattle.machine.proofs.Ending.{sender-sends, sends-sender}
 
@@ -103,13 +105,19 @@ stood-look past n since f g e u l a x places first b old S =
 
 -- Between two looks
 
--- The walk that has come to state s, with the abort o standing and d ended.
-abbrev pub walkAt : (ℕ → ℕ) → ℕ → State → Option Aborting → List Ended → Walk
+-- The aborts that have ended, and who has to do with which.
+pub record Gone : Type 0 where
+  pub ended : List Ended
+  pub debts : Debts
+
+-- The walk that has come to state s, with the abort o standing and d gone.
+abbrev pub walkAt : (ℕ → ℕ) → ℕ → State → Option Aborting → Gone → Walk
 walkAt since e s o d =
     record {
       standing = o;
       queued = map since (senders (s .threads) (s .endpoints e .waiters));
-      ended = d;
+      ended = d .ended;
+      debts = d .debts;
       stray = [];
     }
 
@@ -117,9 +125,10 @@ walkAt since e s o d =
 pub record Going
     (past : List Call) (answers : List Answer) (n : ℕ) (since : ℕ → ℕ) (standing : ℕ
     → Option Aborting) (e : ℕ) (s : State)
-    (o : Option Aborting) (d : List Ended) : Type 0 where
+    (o : Option Aborting) (d : Gone) : Type 0 where
   pub mid : Mid s
-  pub core : Core past answers n since (s .threads) (s .endpoints) (put standing e o) d
+  pub core : Core past answers n since (s .threads) (s .endpoints) (put standing e o) (d .ended)
+  pub tied : Tied (s .threads) (s .endpoints) (d .debts) (d .ended)
 
 module _
     (past : List Call) (answers : List Answer) (n : ℕ) (since : ℕ → ℕ) (standing : ℕ → Option Aborting) (e : ℕ)
@@ -129,7 +138,7 @@ module _
 
   -- The machine's abort, where the history's stands.
   pub going-abort :
-      (o : Option Aborting) (d : List Ended) (x : Aborting) → o ≡ some x → Going past answers n since standing e s o d
+      (o : Option Aborting) (d : Gone) (x : Aborting) → o ≡ some x → Going past answers n since standing e s o d
       → (a : Abort) × (s .endpoints e .abort ≡ some a) × Stood past n since (s .threads) e a x
   going-abort o d x h G =
       go (s .endpoints e .abort) refl (rw (put-same standing e o, h) at (G .core .stands e))
@@ -140,7 +149,7 @@ module _
       go (some a) p B = (a, p, B)
 
   module _
-      (x : Aborting) (d : List Ended) (G : Going past answers n since standing e s (some x) d) (a : Abort)
+      (x : Aborting) (d : Gone) (G : Going past answers n since standing e s (some x) d) (a : Abort)
       (was : s .endpoints e .abort ≡ some a) (S : Stood past n since (s .threads) e a x) where
     pending-sends : (u : ℕ) → Mem u (a .pending) → s .threads u .place ≡ sending e
     pending-sends u m = G .mid .marks .part e a was .sends u m
@@ -225,26 +234,25 @@ module _
       core-looked :
           (g : ℕ → Thread) (waiters : List ℕ)
           → Fewer (s .threads) g (s .endpoints) (put (s .endpoints) e (looked-entry waiters))
-          → ((t k c : ℕ) → g t .debt ≡ noted k c → s .threads t .debt ≡ noted k c)
           → Core past answers n since g (put (s .endpoints) e (looked-entry waiters))
-          (put standing e (some (lookedAt (record { waiter = since u; removed = hits e u s }) x))) d
+          (put standing e (some (lookedAt (record { waiter = since u; removed = hits e u s }) x))) (d .ended)
       unfolding looked-entry
-      core-looked g waiters F notes =
+      core-looked g waiters F =
           subst (λ (k : ℕ → Option Aborting). Core past answers n since g
-          (put (s .endpoints) e (looked-entry waiters)) k d)
+          (put (s .endpoints) e (looked-entry waiters)) k (d .ended))
           (put-again standing e (some x) _)
-          (core-at past n n (omega arith) since (s .threads) g answers (put standing e (some x)) d d e
+          (core-at past n n (omega arith) since (s .threads) g answers (put standing e (some x)) (d .ended) (d .ended) e
           (looked-entry waiters) _ F
           (rw was
           (stood-look past n since (s .threads) g e u l a x (λ t h. fewer-sends F t e h .0) first (hits e u s) look-old
-          S)) (λ z i. inl i) (λ t k c h. G .core .notes t k c (notes t k c h)) (G .core))
+          S)) (λ z i. inl i) (G .core))
 
       core-look :
           (b : Bool)
           → Core past answers n since (lookAt b e u s .threads) (lookAt b e u s .endpoints)
-          (put standing e (some (lookedAt (record { waiter = since u; removed = hits e u s }) x))) d
+          (put standing e (some (lookedAt (record { waiter = since u; removed = hits e u s }) x))) (d .ended)
       unfolding lookAt wakeFrom wake enqueue leaveEndpoint looked-entry
-      core-look true = let H = leaves-wakeFrom s e u 3 0 0 in core-looked _ _ (H .fewer) (H .notes)
+      core-look true = core-looked _ _ (leaves-wakeFrom s e u 3 0 0 .fewer)
       core-look false =
           core-looked (s .threads) (s .endpoints e .waiters)
           (record {
@@ -253,7 +261,7 @@ module _
                 λ t.
                 put-all (λ f y. s .threads t .place ≡ sending f → y .status ≡ live → s .endpoints f .status ≡ live)
                 (s .endpoints) e _ (λ h k. k) (λ f i h k. k);
-          }) (λ t k c h. h)
+          })
 
       look-queued :
           (b : Bool)
@@ -286,7 +294,12 @@ module _
           (some (lookedAt (record { waiter = since u; removed = hits e u s }) x)) d
       unfolding look
       going-look =
-          record { mid = mid-look e u l s (G .mid) (ap pendingOf was ∙ first); core = core-look (hits e u s) }
+          let T = steady-look e u s in
+          record {
+            mid = mid-look e u l s (G .mid) (ap pendingOf was ∙ first);
+            core = core-look (hits e u s);
+            tied = tied-still (record { debt = T .debt; owner = λ f. T .entry f .owner }) (λ z i. i) (G .tied);
+          }
 
       pub walk-look :
           takeLook (record { waiter = since u; removed = hits e u s }) (walkAt since e s (some x) d)
@@ -297,6 +310,7 @@ module _
           record {
             standing = some (lookedAt (record { waiter = since u; removed = hits e u s }) x);
             queued = q;
-            ended = d;
+            ended = d .ended;
+            debts = d .debts;
             stray = [];
           }) (look-queued (hits e u s))

@@ -1,6 +1,7 @@
--- Machines that go wrong, each in one thing, for the claim to be tried on.
+-- Machines that go wrong, each in one thing, for the claim and other statements to be tried on.
 -- Assumes nothing.
 use Prim.Native.Nat.{ℕ}
+use mathlib.Core.Bool.{true}
 use mathlib.Core.Option.{Option, none, some}
 use mathlib.Core.List.{List, [], _∷_}
 use lib.Dec.{eqb}
@@ -8,12 +9,16 @@ use Rattle.machine.specs.declared.Answer.{Answer}
 use Rattle.machine.specs.declared.Call.{Call}
 use Rattle.machine.specs.declared.Call.the-variants.{CreateThread, DestroyThread, SetPriority, CreateEndpoint}
 use Rattle.machine.specs.declared.Call.the-variants.{Interrupt, Tick, Send, Receive, Yield, Wait, Delete, Abort}
-use Rattle.machine.specs.Lists.{pick}
-use Rattle.machine.specs.State.{State, Abort as Standing, Endpoint, live, withPlace}
-use Rattle.machine.specs.Endpoints.{underAbort, pendingOf, setAbort}
-use Rattle.machine.specs.Results.{Look, Result, counted}
+use Rattle.machine.specs.Calls.{numberOf}
+use Rattle.machine.specs.Lists.{pick, first}
+use Rattle.machine.specs.State.{State, Place, absent, able, sending, receiving, waiting, noted, Status, missing}
+use Rattle.machine.specs.State.{live, closing, Abort as Standing, Endpoint, setThread, withTicks, withDebt}
+use Rattle.machine.specs.State.{withPlace}
+use Rattle.machine.specs.Endpoints.{senders, underAbort, pendingOf, setAbort, leaveEndpoint, dropDebt}
+use Rattle.machine.specs.Results.{Look, Result, counted, refuse}
+use Rattle.machine.specs.Aborts.{abort}
 use Rattle.machine.specs.History.{isAccepted}
-use Rattle.machine.specs.Machine.{receiveAt, byCaller, step}
+use Rattle.machine.specs.Machine.{receiveFrom, receiveAt, byCaller, step}
 
 -- Another result for a call 12, a call 8 or a call 2; the result given for the others.
 abbrev instead12 : (ℕ → ℕ → ℕ → Result) → Call → Result → Result
@@ -174,3 +179,92 @@ unmoved e r =
 
 unfoldable pub repeater : State → Call → Result
 repeater s c = instead12 (λ e a b. unmoved e (step s (Abort e a b))) c (step s c)
+
+-- Its call 12, refused because nobody runs, takes the first waiter from the queue, whatever its badge, and logs a look
+-- that removed it.
+abbrev stolen : ℕ → List ℕ → State → Result
+stolen e [] s = refuse 20 s
+stolen e (w ∷ l) s =
+    record {
+      state = leaveEndpoint w e s;
+      answer = counted 20 1;
+      looks = record { waiter = w; removed = true } ∷ [];
+    }
+
+abbrev stealing : Option ℕ → ℕ → ℕ → ℕ → State → Result
+stealing none e a b s = stolen e (s .endpoints e .waiters) s
+stealing (some t) e a b s = step s (Abort e a b)
+
+unfoldable pub thief : State → Call → Result
+thief s c = instead12 (λ e a b. stealing (s .runs) e a b s) c (step s c)
+
+-- Broken off, it gives the caller a note, and so answers 0 at the next call, with work left.
+abbrev noteFor : Option ℕ → ℕ → ℕ → State → State
+noteFor none e b s = s
+noteFor (some t) e b s = setThread t (withDebt (noted e b) (s .threads t)) s
+
+unfoldable pub noter : State → Call → Result
+noter s c =
+    instead12
+    (λ e a b.
+    pick (eqb (step s (Abort e a b) .answer .code) 2)
+    (withState (noteFor (s .runs) e b (step s (Abort e a b) .state)) (step s (Abort e a b))) (step s (Abort e a b)))
+    c (step s c)
+
+-- A receive takes the sender who came last.
+abbrev reversed : List ℕ → List ℕ → List ℕ
+reversed [] k = k
+reversed (x ∷ l) k = reversed l (x ∷ k)
+
+abbrev receiveLast : ℕ → ℕ → State → Result
+receiveLast e t s =
+    receiveFrom (first (reversed (senders (s .threads) (s .endpoints e .waiters)) [])) t e (dropDebt t s)
+
+unfoldable pub lifo : State → Call → Result
+lifo s c = instead8 (λ e. byCaller (s .runs) (receiveLast e) s) c (step s c)
+
+-- Its senders stand in the queue as receivers: no abort finds them.
+abbrev hidden : Place → Place
+hidden absent = absent
+hidden able = able
+hidden (sending e) = receiving e
+hidden (receiving e) = receiving e
+hidden (waiting l) = waiting l
+
+abbrev hiding : State → State
+hiding s =
+    record {
+      threads =
+          λ t.
+          withPlace (hidden (s .threads t .place)) (s .threads t .outcome) (s .threads t .badge) (s .threads t .message)
+          (s .threads t);
+      runs = s .runs;
+      levels = s .levels;
+      endpoints = s .endpoints;
+      lines = s .lines;
+    }
+
+unfoldable pub hider : State → Call → Result
+hider s c = withState (hiding (step s c .state)) (step s c)
+
+-- Its abort goes on to look at a destroyed thread.
+unfoldable pub ghost : State → Call → Result
+ghost s c = instead2 (λ t. withState (withMarks s (step s (DestroyThread t) .state)) (step s (DestroyThread t))) c (step s c)
+
+-- It tries 23 and 25 before the note.
+abbrev late : Status → ℕ → ℕ → ℕ → ℕ → State → Result
+late missing e a b t s = refuse 23 s
+late closing e a b t s = refuse 25 s
+late live e a b t s = abort t e a b s
+
+unfoldable pub latecomer : State → Call → Result
+latecomer s c = instead12 (λ e a b. byCaller (s .runs) (late (s .endpoints e .status) e a b) s) c (step s c)
+
+-- A yield gives its caller 5 ticks.
+abbrev refilled : Option ℕ → State → State
+refilled none s = s
+refilled (some t) s = setThread t (withTicks 5 (s .threads t)) s
+
+unfoldable pub refiller : State → Call → Result
+refiller s c =
+    pick (eqb (numberOf c) 9) (withState (refilled (s .runs) (step s c .state)) (step s c)) (step s c)

@@ -12,7 +12,8 @@ use Rattle.machine.specs.declared.Answer.{Answer}
 use Rattle.machine.specs.declared.Call.{Call}
 use Rattle.machine.specs.declared.Call.the-variants.{CreateThread, DestroyThread, SetPriority, CreateEndpoint}
 use Rattle.machine.specs.declared.Call.the-variants.{Interrupt, Tick, Send, Receive, Yield, Wait, Delete, Abort}
-use Rattle.machine.specs.Lists.{pick, only, Mem, Distinct}
+use Rattle.machine.specs.Calls.{numberOf}
+use Rattle.machine.specs.Lists.{pick, only, Mem, Distinct, Rising}
 use Rattle.machine.specs.Results.{plain}
 use Rattle.machine.specs.History.{History, Aborting, Ended, Delivery, AbortCall, NamedLook, Reported, reportOf}
 use Rattle.machine.specs.History.{isIn}
@@ -37,6 +38,11 @@ isSendOf e b (some Yield) = false
 isSendOf e b (some (Wait l)) = false
 isSendOf e b (some (Delete f a)) = false
 isSendOf e b (some (Abort f a c)) = false
+
+-- The call is a call 7.
+abbrev pub isSend : Option Call → Bool
+isSend none = false
+isSend (some c) = eqb (numberOf c) 7
 
 -- The waiter w was queued at the abort's endpoint under its badge before the abort began.
 abbrev pub isOld : List Call → Aborting → ℕ → Bool
@@ -76,8 +82,7 @@ pub record Reports (h : History) (y : AbortCall) : Type 0 where
 pub record Hands (calls : List Call) (h : History) (d : Delivery) : Type 0 where
   pub message : ℕ
   pub handed : d .handed ≡ message ∷ []
-  pub rest : List ℕ
-  pub longest : d .queue ≡ message ∷ rest
+  pub longest : (w : ℕ) → Mem w (d .queue) → message ≤ w
   pub queued-by : getElem? calls message ≡ some (Send (d .endpoint) (d .badge) (d .message))
   pub blocked : getElem? (h .answers) message ≡ some (plain 1)
   pub earlier : message < d .place
@@ -116,6 +121,10 @@ pub record Claim (calls : List Call) (h : History) : Type 0 where
       → y .behind .queues (y .endpoint) ≡ less (removedBy (y .looks)) (y .before .queues (y .endpoint))
   pub lines-stay : (y : AbortCall) → In y (h .abortCalls) → (l : ℕ) → y .behind .lines l ≡ y .before .lines l
   pub every-look-of-an-abort : h .aborts .stray ≡ []
+  -- A look is at somebody who waits at the call's endpoint.
+  pub looks-at-waiters :
+      (y : AbortCall) → In y (h .abortCalls) → (v : NamedLook) → In v (y .looks)
+      → Mem (v .waiter) (y .before .queues (y .endpoint))
   -- No abort has looked at a waiter twice,
   pub not-twice : (x : Aborting) → IsAbort h x → Distinct (x .looked)
   -- or at more waiters than stood in the queue when it began,
@@ -129,6 +138,10 @@ pub record Claim (calls : List Call) (h : History) : Type 0 where
   -- A waiter is known by the place of its own call, and no two by the same.
   pub queued-named : (e w : ℕ) → Mem w (h .waiting .queues e) → Named calls h w (QueuesAt e)
   pub queued-distinct : (e : ℕ) → Distinct (h .waiting .queues e)
+  -- A message is queued by a call 7: of those queued they send who came by one.
+  pub messages-sent : (e : ℕ) → h .waiting .messages e ≡ only (λ w. isSend (getElem? calls w)) (h .waiting .queues e)
+  -- Waiters are "in order of coming" (the section on endpoint queues).
+  pub in-order : (e : ℕ) → Rising (h .waiting .queues e)
   pub line-named : (l w : ℕ) → h .waiting .lines l ≡ some w → Named calls h w (WaitsOn l)
   -- Every call has its answer, and every call 12 and every call 8 answered 0 its record.
   pub all-answered : length (h .answers) ≡ length calls

@@ -1,6 +1,6 @@
 -- Lists of calls: what has come of a list of calls made in turn from fresh tables, told in the terms of the section
--- of that name. Of the machine it reads the answers, the queues and who sends in them, the log of looks, ownership
--- and notes; it reads neither an abort's pending waiters nor its badge.
+-- of that name. It reads each call, its answer, who ran when it was made, the queues and who sends in them, and the
+-- log of looks. Of the machine's aborts, their owners and pending waiters, and of what a thread owes, it reads nothing.
 use Prim.Native.Nat.{ℕ, zero, suc, _-_}
 use mathlib.Core.Bool.{Bool, true, false, _&&_, _||_, not}
 use mathlib.Core.Option.{Option, none, some}
@@ -11,10 +11,9 @@ use Rattle.machine.specs.declared.Call.{Call}
 use Rattle.machine.specs.declared.Call.the-variants.{CreateThread, DestroyThread, SetPriority, CreateEndpoint}
 use Rattle.machine.specs.declared.Call.the-variants.{Interrupt, Tick, Send, Receive, Yield, Wait, Delete, Abort}
 use Rattle.machine.specs.Lists.{pick, put, without, only}
-use Rattle.machine.specs.State.{State, Line, quiet, pending, awaited, Debt, freshState}
-use Rattle.machine.specs.Endpoints.{senders, ownerOf}
+use Rattle.machine.specs.State.{State, Line, quiet, pending, awaited, freshState}
+use Rattle.machine.specs.Endpoints.{senders}
 use Rattle.machine.specs.Results.{Look, Result}
-use Rattle.machine.specs.Aborts.{hasNote}
 use Rattle.machine.specs.Machine.{step}
 
 -- A waiter's name is the place in the list of its call 7, 8 or 10 answered 1, counted from 0. A message is named as
@@ -30,14 +29,12 @@ pub record Aborting : Type 0 where
   pub looked : List ℕ
   pub removed : List ℕ
 
--- An abort that has ended, the call that it ended in, and the thread that owned it when that call was made, which
--- is none where it began in that call.
+-- An abort that has ended, and the call that it ended in.
 pub record Ended : Type 0 where
   pub abort : Aborting
   pub by : ℕ
-  pub owner : Option ℕ
 
--- Which abort a call 12 reports.
+-- Which abort a call 12 reports, or a note tells of.
 pub record Reported : Type 0 where
   pub endpoint : ℕ
   pub badge : ℕ
@@ -58,9 +55,10 @@ pub record NamedLook : Type 0 where
   pub waiter : ℕ
   pub removed : Bool
 
--- The names of those queued at each endpoint, and of who waits on each line.
+-- The names of those queued at each endpoint, those of them who send, and of who waits on each line.
 pub record Waiting : Type 0 where
   pub queues : ℕ → List ℕ
+  pub messages : ℕ → List ℕ
   pub lines : ℕ → Option ℕ
 
 -- A call 12, refused or not: its place and numbers, code and count of its answer, its looks, the abort that it
@@ -78,11 +76,18 @@ pub record AbortCall : Type 0 where
   pub before : Waiting
   pub behind : Waiting
 
--- The aborts of a list: the one that stands at each endpoint, those that have ended, the latest first, and the
--- looks that were made where none stood.
+-- Who has to do with which abort: those who work on the one that stands at each endpoint, which is its owner if it
+-- has one; and the note that each thread has, of an abort that ended by another's call.
+pub record Debts : Type 0 where
+  pub workers : ℕ → List ℕ
+  pub notes : ℕ → Option Reported
+
+-- The aborts of a list: the one that stands at each endpoint, those that have ended, the latest first, who has to do
+-- with them, and the looks that belong to none.
 pub record Aborts : Type 0 where
   pub standing : ℕ → Option Aborting
   pub ended : List Ended
+  pub debts : Debts
   pub stray : List ℕ
 
 pub record History : Type 0 where
@@ -135,11 +140,55 @@ lineName since (awaited t) = some (since t)
 
 abbrev pub waitingIn : (ℕ → ℕ) → State → Waiting
 waitingIn since s =
-    record { queues = λ e. map since (s .endpoints e .waiters); lines = λ l. lineName since (s .lines l) }
+    record {
+      queues = λ e. map since (s .endpoints e .waiters);
+      messages = λ e. map since (senders (s .threads) (s .endpoints e .waiters));
+      lines = λ l. lineName since (s .lines l);
+    }
 
 abbrev pub namedLooks : (ℕ → ℕ) → List Look → List NamedLook
 namedLooks since [] = []
 namedLooks since (x ∷ l) = record { waiter = since (x .waiter); removed = x .removed } ∷ namedLooks since l
+
+-- Owners and notes
+
+-- Abort begins by storing its owner, the caller t.
+unfoldable pub takesUp : ℕ → ℕ → Debts → Debts
+takesUp t e d = record { workers = put (d .workers) e (t ∷ []); notes = d .notes }
+
+-- A joiner t becomes owner only if there is none.
+abbrev pub joining : ℕ → List ℕ → List ℕ
+joining t [] = t ∷ []
+joining t (u ∷ l) = u ∷ l
+
+unfoldable pub joinsIn : ℕ → ℕ → Debts → Debts
+joinsIn t e d = record { workers = put (d .workers) e (joining t (d .workers e)); notes = d .notes }
+
+-- An accepted other call 7 to 12 of t, or its destruction, drops note and ownership.
+unfoldable pub letsGo : ℕ → Debts → Debts
+letsGo t d = record { workers = λ e. without t (d .workers e); notes = put (d .notes) t none }
+
+-- An abort at e ends: whoever works on it gets a note.
+unfoldable pub hears : ℕ → Reported → Debts → Debts
+hears e r d =
+    record {
+      workers = put (d .workers) e [];
+      notes = λ u. pick (isIn u (d .workers e)) (some r) (d .notes u);
+    }
+
+-- It ends by a call of t: the note is for the others.
+abbrev pub hearsBy : ℕ → ℕ → Reported → Debts → Debts
+hearsBy t e r d = hears e r (letsGo t d)
+
+-- The note is of this endpoint and badge.
+abbrev pub isNoteOf : ℕ → ℕ → Option Reported → Bool
+isNoteOf e b none = false
+isNoteOf e b (some r) = eqb (r .endpoint) e && eqb (r .badge) b
+
+-- The abort is of this badge.
+abbrev pub isUnder : ℕ → Option Aborting → Bool
+isUnder b none = false
+isUnder b (some x) = eqb (x .badge) b
 
 -- Aborts
 
@@ -151,24 +200,29 @@ abbrev pub isNone : List ℕ → Bool
 isNone [] = true
 isNone (w ∷ l) = false
 
+abbrev pub reportOf : Aborting → Reported
+reportOf x = record { endpoint = x .endpoint; badge = x .badge; began = x .began }
+
 -- A call 12 that was accepted and not answered from a note, in the middle of its looks: the abort that stands at its
--- endpoint, the names of the senders queued there, the aborts that have ended and the looks made where none stood.
+-- endpoint, the names of the senders queued there, the aborts that have ended, who has to do with them and the looks
+-- that belong to none.
 pub record Walk : Type 0 where
   pub standing : Option Aborting
   pub queued : List ℕ
   pub ended : List Ended
+  pub debts : Debts
   pub stray : List ℕ
 
--- The call: its place, endpoint and badge, and the owner of the abort that stood there when it was made.
+-- The call: its place, its caller, its endpoint and badge.
 pub record Course : Type 0 where
   pub place : ℕ
+  pub caller : ℕ
   pub endpoint : ℕ
   pub badge : ℕ
-  pub owner : Option ℕ
 
 -- The call's own abort begins on the senders queued there at that moment, if allowance remains, the first argument.
 unfoldable pub begins : ℕ → Course → Walk → Walk
-begins zero c w = record { standing = none; queued = w .queued; ended = w .ended; stray = w .stray }
+begins zero c w = w
 begins (suc k) c w =
     record {
       standing =
@@ -182,11 +236,9 @@ begins (suc k) c w =
           });
       queued = w .queued;
       ended = w .ended;
+      debts = takesUp (c .caller) (c .endpoint) (w .debts);
       stray = w .stray;
     }
-
-abbrev pub ownerIn : Aborting → Course → Option ℕ
-ownerIn x c = pick (eqb (x .began) (c .place)) none (c .owner)
 
 -- The abort x ends in the call.
 unfoldable pub ends : Aborting → Course → Walk → Walk
@@ -194,7 +246,8 @@ ends x c w =
     record {
       standing = none;
       queued = w .queued;
-      ended = record { abort = x; by = c .place; owner = ownerIn x c } ∷ w .ended;
+      ended = record { abort = x; by = c .place } ∷ w .ended;
+      debts = hearsBy (c .caller) (c .endpoint) (reportOf x) (w .debts);
       stray = w .stray;
     }
 
@@ -226,12 +279,19 @@ lookedAt v x =
 -- A look belongs to the abort standing at its endpoint when it is made.
 unfoldable pub takes : Option Aborting → NamedLook → Walk → Walk
 takes none v w =
-    record { standing = none; queued = w .queued; ended = w .ended; stray = v .waiter ∷ w .stray }
+    record {
+      standing = none;
+      queued = w .queued;
+      ended = w .ended;
+      debts = w .debts;
+      stray = v .waiter ∷ w .stray;
+    }
 takes (some x) v w =
     record {
       standing = some (lookedAt v x);
       queued = pick (v .removed) (without (v .waiter) (w .queued)) (w .queued);
       ended = w .ended;
+      debts = w .debts;
       stray = w .stray;
     }
 
@@ -252,57 +312,79 @@ unfoldable pub close : Course → Walk → Walk
 close c w = closes (w .standing) c w
 
 -- The call reports the abort that it began or found under its badge.
-abbrev pub reportOf : Aborting → Reported
-reportOf x = record { endpoint = x .endpoint; badge = x .badge; began = x .began }
-
 abbrev pub reportIf : Option Aborting → ℕ → Option Reported
 reportIf none b = none
 reportIf (some x) b = pick (eqb (x .badge) b) (some (reportOf x)) none
-
--- The noted abort: the last ended of that endpoint and badge that was the caller's.
-abbrev pub isOwner : Option ℕ → ℕ → Bool
-isOwner none t = false
-isOwner (some u) t = eqb u t
-
-unfoldable pub notedOf : List Ended → ℕ → ℕ → ℕ → Option Reported
-notedOf [] e b t = none
-notedOf (z ∷ l) e b t =
-    pick (eqb (z .abort .endpoint) e && (eqb (z .abort .badge) b && isOwner (z .owner) t)) (some (reportOf (z .abort)))
-    (notedOf l e b t)
 
 -- What a call comes to for the aborts, and which one it reports.
 pub record Outcome : Type 0 where
   pub aborts : Aborts
   pub reports : Option Reported
 
-abbrev pub unchanged : History → Outcome
-unchanged h = record { aborts = h .aborts; reports = none }
+-- The call neither begins nor ends an abort and leaves these debts: whatever it looked at was looked at by none.
+abbrev pub apart : Debts → Option Reported → Result → History → Outcome
+apart d reports r h =
+    record {
+      aborts =
+          record {
+            standing = h .aborts .standing;
+            ended = h .aborts .ended;
+            debts = d;
+            stray = map (λ v. h .since (v .waiter)) (r .looks) ++ h .aborts .stray;
+          };
+      reports = reports;
+    }
+
+abbrev pub unchanged : Result → History → Outcome
+unchanged r h = apart (h .aborts .debts) none r h
+
+-- The debts without those of the thread, if there is one.
+abbrev pub letGoBy : Option ℕ → Debts → Debts
+letGoBy none d = d
+letGoBy (some t) d = letsGo t d
+
+abbrev pub drops : Option ℕ → Result → History → Outcome
+drops o r h = apart (letGoBy o (h .aborts .debts)) none r h
 
 -- An accepted call 11 ends the abort that stands at its endpoint.
-unfoldable pub deletes : Option Aborting → ℕ → State → History → Outcome
-deletes none e s h = unchanged h
-deletes (some x) e s h =
+unfoldable pub deletes : Option Aborting → ℕ → Option ℕ → Result → History → Outcome
+deletes none e o r h = drops o r h
+deletes (some x) e o r h =
     record {
       aborts =
           record {
             standing = put (h .aborts .standing) e none;
-            ended =
-                record { abort = x; by = h .now; owner = ownerOf (s .endpoints e .abort) } ∷ h .aborts .ended;
-            stray = h .aborts .stray;
+            ended = record { abort = x; by = h .now } ∷ h .aborts .ended;
+            debts = hears e (reportOf x) (letGoBy o (h .aborts .debts));
+            stray = drops o r h .aborts .stray;
           };
       reports = none;
     }
 
-abbrev pub courseOf : ℕ → ℕ → State → History → Course
-courseOf e b s h =
-    record { place = h .now; endpoint = e; badge = b; owner = ownerOf (s .endpoints e .abort) }
+-- A call 12 of thread t that is accepted and not answered from a note.
 
-abbrev pub startOf : ℕ → State → History → Walk
-startOf e s h =
+-- Such a call of t, which finds x standing at e: it is no other call if t works on that abort, under that badge.
+abbrev pub goesOn : ℕ → ℕ → ℕ → Option Aborting → Debts → Bool
+goesOn t e b x d = isUnder b x && isIn t (d .workers e)
+
+-- An other call drops what t had to do with another abort.
+abbrev pub letsOther : ℕ → ℕ → ℕ → Option Aborting → Debts → Debts
+letsOther t e b x d = pick (goesOn t e b x d) d (letsGo t d)
+
+-- The same badge is joined.
+abbrev pub comesIn : ℕ → ℕ → ℕ → Option Aborting → Debts → Debts
+comesIn t e b x d = pick (isUnder b x) (joinsIn t e (letsOther t e b x d)) (letsOther t e b x d)
+
+abbrev pub courseOf : ℕ → ℕ → ℕ → History → Course
+courseOf t e b h = record { place = h .now; caller = t; endpoint = e; badge = b }
+
+abbrev pub startOf : ℕ → ℕ → ℕ → History → Walk
+startOf t e b h =
     record {
       standing = h .aborts .standing e;
-      queued = map (h .since) (senders (s .threads) (s .endpoints e .waiters));
+      queued = h .waiting .messages e;
       ended = h .aborts .ended;
+      debts = comesIn t e b (h .aborts .standing e) (h .aborts .debts);
       stray = h .aborts .stray;
     }
 
@@ -310,44 +392,52 @@ startOf e s h =
 abbrev pub walked : ℕ → Option Reported → Walk → History → Outcome
 walked e reports w h =
     record {
-      aborts = record { standing = put (h .aborts .standing) e (w .standing); ended = w .ended; stray = w .stray };
+      aborts =
+          record {
+            standing = put (h .aborts .standing) e (w .standing);
+            ended = w .ended;
+            debts = w .debts;
+            stray = w .stray;
+          };
       reports = reports;
     }
 
-unfoldable pub walks : ℕ → ℕ → ℕ → State → Result → History → Outcome
-walks e a b s r h =
+unfoldable pub walks : ℕ → ℕ → ℕ → ℕ → Result → History → Outcome
+walks t e a b r h =
     walked e
-    (reportIf (walk (namedLooks (h .since) (r .looks)) a (courseOf e b s h) (startOf e s h) .standing) b)
-    (close (courseOf e b s h)
-    (walk (namedLooks (h .since) (r .looks)) a (courseOf e b s h) (startOf e s h))) h
+    (reportIf (walk (namedLooks (h .since) (r .looks)) a (courseOf t e b h) (startOf t e b h) .standing) b)
+    (close (courseOf t e b h)
+    (walk (namedLooks (h .since) (r .looks)) a (courseOf t e b h) (startOf t e b h))) h
 
--- A call 12 by thread t, accepted; the first argument says whether it was answered from a note.
-unfoldable pub abortsBy : Bool → ℕ → ℕ → ℕ → ℕ → State → Result → History → Outcome
-abortsBy true t e a b s r h = record { aborts = h .aborts; reports = notedOf (h .aborts .ended) e b t }
-abortsBy false t e a b s r h = walks e a b s r h
+-- A call 12 by thread t, accepted. It is answered from a note if t has a note of that endpoint and badge, the first
+-- argument: it reports the noted abort and begins none, and the note goes.
+unfoldable pub abortsBy : Bool → ℕ → ℕ → ℕ → ℕ → Result → History → Outcome
+abortsBy true t e a b r h = apart (letsGo t (h .aborts .debts)) (h .aborts .debts .notes t) r h
+abortsBy false t e a b r h = walks t e a b r h
 
-unfoldable pub abortsOf : Option ℕ → ℕ → ℕ → ℕ → State → Result → History → Outcome
-abortsOf none e a b s r h = unchanged h
-abortsOf (some t) e a b s r h = abortsBy (hasNote e b (s .threads t .debt)) t e a b s r h
+unfoldable pub abortsOf : Option ℕ → ℕ → ℕ → ℕ → Result → History → Outcome
+abortsOf none e a b r h = unchanged r h
+abortsOf (some t) e a b r h = abortsBy (isNoteOf e b (h .aborts .debts .notes t)) t e a b r h
 
-unfoldable pub outcomeOf : Call → State → Result → History → Outcome
-outcomeOf (CreateThread t p) s r h = unchanged h
-outcomeOf (DestroyThread t) s r h = unchanged h
-outcomeOf (SetPriority t p) s r h = unchanged h
-outcomeOf (CreateEndpoint e) s r h = unchanged h
-outcomeOf (Interrupt l) s r h = unchanged h
-outcomeOf Tick s r h = unchanged h
-outcomeOf (Send e b m) s r h = unchanged h
-outcomeOf (Receive e) s r h = unchanged h
-outcomeOf Yield s r h = unchanged h
-outcomeOf (Wait l) s r h = unchanged h
-outcomeOf (Delete e a) s r h = deletes (h .aborts .standing e) e s h
-outcomeOf (Abort e a b) s r h = abortsOf (s .runs) e a b s r h
+-- An accepted call. The running thread, the second argument, makes calls 7 to 12.
+unfoldable pub outcomeOf : Call → Option ℕ → Result → History → Outcome
+outcomeOf (CreateThread t p) o r h = unchanged r h
+outcomeOf (DestroyThread t) o r h = drops (some t) r h
+outcomeOf (SetPriority t p) o r h = unchanged r h
+outcomeOf (CreateEndpoint e) o r h = unchanged r h
+outcomeOf (Interrupt l) o r h = unchanged r h
+outcomeOf Tick o r h = unchanged r h
+outcomeOf (Send e b m) o r h = drops o r h
+outcomeOf (Receive e) o r h = drops o r h
+outcomeOf Yield o r h = drops o r h
+outcomeOf (Wait l) o r h = drops o r h
+outcomeOf (Delete e a) o r h = deletes (h .aborts .standing e) e o r h
+outcomeOf (Abort e a b) o r h = abortsOf o e a b r h
 
 -- A refused call comes to nothing.
-unfoldable pub outcomeIf : Bool → Call → State → Result → History → Outcome
-outcomeIf true c s r h = outcomeOf c s r h
-outcomeIf false c s r h = unchanged h
+unfoldable pub outcomeIf : Bool → Call → Option ℕ → Result → History → Outcome
+outcomeIf true c o r h = outcomeOf c o r h
+outcomeIf false c o r h = unchanged r h
 
 -- Deliveries and calls 12
 
@@ -421,7 +511,7 @@ recorded since o c r h =
 unfoldable pub told : Call → State → Result → History → History
 told c s r h =
     recorded (named (queues? c (r .answer .code)) (s .runs) (h .now) (h .since))
-    (outcomeIf (isAccepted (r .answer)) c s r h) c r h
+    (outcomeIf (isAccepted (r .answer)) c (s .runs) r h) c r h
 
 abbrev pub freshHistory : History
 freshHistory =
@@ -430,7 +520,13 @@ freshHistory =
       answers = [];
       since = λ t. 0;
       waiting = waitingIn (λ t. 0) freshState;
-      aborts = record { standing = λ e. none; ended = []; stray = [] };
+      aborts =
+          record {
+            standing = λ e. none;
+            ended = [];
+            debts = record { workers = λ e. []; notes = λ t. none };
+            stray = [];
+          };
       deliveries = [];
       abortCalls = [];
     }

@@ -1,5 +1,5 @@
 -- Lists of thread numbers, and tables as functions of a number.
-use Prim.Native.Nat.{ℕ}
+use Prim.Native.Nat.{ℕ, _<_}
 use mathlib.Core.Path.{_≡_}
 use mathlib.Core.Logic.{_⊎_}
 use mathlib.Core.Bool.{Bool, true, false}
@@ -40,3 +40,8 @@ Mem t (x ∷ l) = (t ≡ x) ⊎ Mem t l
 abbrev pub Distinct : List ℕ → Type 0
 Distinct [] = Unit {0}
 Distinct (x ∷ l) = (Mem x l → ⊥) × Distinct l
+
+-- The numbers ascend.
+abbrev pub Rising : List ℕ → Type 0
+Rising [] = Unit {0}
+Rising (x ∷ l) = ((w : ℕ) → Mem w l → x < w) × Rising l
