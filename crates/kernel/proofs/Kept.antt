@@ -18,7 +18,6 @@ use Rattle.machine.proofs.Refusals.{refused-exactly, accepted-exactly}
 use Rattle.machine.proofs.Steps.{step-sound}
 use Rattle.layout.specs.Words.{image}
 use Rattle.layout.specs.Tables.{stateOf}
-use Rattle.layout.proofs.Image.{length-image}
 use Rattle.layout.proofs.Tables.{state-exact}
 use Rattle.layout.proofs.Ends.{none-some}
 use Rattle.layout.proofs.Tests.{Tells, tells-and, tells-eqb}
@@ -43,16 +42,19 @@ module _ (m scratch : List ℕ) (c : Call) where
 
   -- The lengths are right, and the tables show the sound state s.
   shown-kept :
-      (s : State) → length scratch ≡ 256 → Sound s → m ≡ image s → Kept m scratch c (taken (some s) m c)
-  shown-kept s n S e = go (refusalOf c s) refl
+      (s : State) → length m ≡ 4096 → length scratch ≡ 256 → Sound s → m ≡ image s
+      → Kept m scratch c (taken (some s) m c)
+  shown-kept s p q S e = go (refusalOf c s) refl
     where
       go : (o : Option ℕ) → refusalOf c s ≡ o → Kept m scratch c (taken (some s) m c)
-      go none h = holds s n S e h (accepted-exactly c s h) (step-sound s c S)
-      go (some k) h = subst (λ (x : Called). Kept m scratch c x) (refused-taken s k e h) (refused s k n S e h)
+      go none h = holds s p q S e h (accepted-exactly c s h) (step-sound s c S)
+      go (some k) h = subst (λ (x : Called). Kept m scratch c x) (refused-taken s k e h) (refused s k p q S e h)
 
-  shown-called : (s : State) → length scratch ≡ 256 → Sound s → m ≡ image s → taken (some s) m c ≡ called m scratch c
+  shown-called :
+      (s : State) → length m ≡ 4096 → length scratch ≡ 256 → Sound s → m ≡ image s
+      → taken (some s) m c ≡ called m scratch c
   unfolding called
-  shown-called s n S e = rw (sizes m scratch .back (ap length e ∙ length-image s, n), state-exact m s .1 (S, e))
+  shown-called s p q S e = rw (sizes m scratch .back (p, q), state-exact m s .1 (S, e))
 
   -- The lengths are wrong.
   short-called :
@@ -88,12 +90,15 @@ demand1 m scratch c = go (eqb (length m) 4096 && eqb (length scratch) 256) refl 
         let k = sizes m scratch .holds h in
         unsound (k .0) (k .1) (λ s S e. none-some (sym i ∙ state-exact m s .1 (S, e)))
     go true h (some s) i =
-        let k = state-exact m s .0 i in shown-kept m scratch c s (sizes m scratch .holds h .1) (k .0) (k .1)
+        let l = sizes m scratch .holds h in
+        let k = state-exact m s .0 i in
+        shown-kept m scratch c s (l .0) (l .1) (k .0) (k .1)
 
 -- No other result is one of them: a core that answered otherwise, or left other tables or another scratch, would not
 -- keep it.
 pub kept-only : (m scratch : List ℕ) (c : Call) (x : Called) → Kept m scratch c x → x ≡ called m scratch c
 kept-only m scratch c x (lengths h) = short-called m scratch c h
 kept-only m scratch c x (unsound p q h) = unsound-called m scratch c p q h
-kept-only m scratch c x (refused s n p S e h) = refused-taken m scratch c s n e h ∙ shown-called m scratch c s p S e
-kept-only m scratch c x (holds s p S e h k T) = shown-called m scratch c s p S e
+kept-only m scratch c x (refused s n p q S e h) =
+    refused-taken m scratch c s n e h ∙ shown-called m scratch c s p q S e
+kept-only m scratch c x (holds s p q S e h k T) = shown-called m scratch c s p q S e

@@ -28,11 +28,11 @@ pub data Kept (m scratch : List ℕ) (c : Call) : Called → Type 0 where
       → Kept m scratch c (record { answer = plain 17; tables = m; scratch = zeros })
   -- 19 to 27: the list's number for the sound state that they show; they are left, and the scratch is all zero
   refused :
-      (s : State) (n : ℕ) → length scratch ≡ 256 → Sound s → m ≡ image s → refusalOf c s ≡ some n
+      (s : State) (n : ℕ) → length m ≡ 4096 → length scratch ≡ 256 → Sound s → m ≡ image s → refusalOf c s ≡ some n
       → Kept m scratch c (record { answer = plain n; tables = m; scratch = zeros })
   -- accepted: the machine's answer in the sound state that they show, of code 0, 1 or 2; they hold the sound state that
   -- the machine comes to, and the scratch is all zero
   holds :
-      (s : State) → length scratch ≡ 256 → Sound s → m ≡ image s → refusalOf c s ≡ none
+      (s : State) → length m ≡ 4096 → length scratch ≡ 256 → Sound s → m ≡ image s → refusalOf c s ≡ none
       → step s c .answer .code ≤ 2 → Sound (step s c .state)
       → Kept m scratch c (record { answer = step s c .answer; tables = image (step s c .state); scratch = zeros })
