@@ -25,7 +25,7 @@ use Rattle.results.specs.Results.{Performs}
 use Rattle.kernel.specs.Entry.{Called, taken, called}
 use Rattle.kernel.specs.Steps.{stepping}
 
-abbrev calledOf : Answer → List ℕ → List ℕ → Called
+abbrev pub calledOf : Answer → List ℕ → List ℕ → Called
 calledOf a m x = record { answer = a; tables = m; scratch = x }
 
 abbrev checkedOf : ℕ → List ℕ → Checked

@@ -1,17 +1,20 @@
--- Lists of calls through the entry: from fresh tables the answers and the tables are those of the machine's run.
--- Assumes nothing.
+-- Lists of calls through the entry, each with any scratch: from fresh tables the answers and the tables are those of
+-- the machine's run of the calls that had a scratch of 256 words. Assumes nothing.
 use Prim.Native.Nat.{ℕ}
 use mathlib.Core.Path.{_≡_, refl, sym, _∙_, ap}
+use mathlib.Core.Bool.{Bool, true, false}
 use mathlib.Core.List.{List, [], _∷_, _++_, append-nil}
-use lib.ListN.{length, length-replicate}
+use lib.Dec.{eqb}
+use lib.ListN.{length}
 use lib.Seq.{append-snoc}
-use borrow.Author.Tests.{eq-eqb}
+use borrow.Author.Tests.{eq-eqb, eqb-true}
+use Rattle.machine.specs.declared.Answer.{Answer}
 use Rattle.machine.specs.declared.Call.{Call}
-use Rattle.machine.specs.State.{State}
+use Rattle.machine.specs.State.{State, freshState}
+use Rattle.machine.specs.Results.{plain}
 use Rattle.machine.specs.Machine.{step}
 use Rattle.machine.specs.Sound.{Sound}
-use Rattle.machine.specs.History.{Run, freshRun, runFrom, historyOf, recorded, told}
-use Rattle.machine.specs.Claim.{Claim}
+use Rattle.machine.specs.History.{Run, freshRun, runFrom, recorded, told}
 use Rattle.machine.proofs.Demand.{demand}
 use Rattle.machine.proofs.Steps.{step-sound, fresh-sound}
 use Rattle.layout.specs.Words.{image}
@@ -19,7 +22,7 @@ use Rattle.layout.proofs.Image.{length-image}
 use Rattle.checks.proofs.Tables.{state-image}
 use Rattle.tables.specs.Entries.{zeros, freshened}
 use Rattle.kernel.specs.Entry.{Called, called}
-use Rattle.kernel.specs.Turns.{turns}
+use Rattle.kernel.specs.Turns.{Attempt, turns, made, filled, Demanded}
 
 -- On the memory of a sound state a call does what the machine does.
 pub called-image :
@@ -30,56 +33,98 @@ unfolding called
 called-image s scratch c S n =
     rw (eq-eqb (length (image s)) 4096 (length-image s), eq-eqb (length scratch) 256 n, state-image s S)
 
--- From the memory of a run's state, calls made in turn go on as the machine's run does.
-pub record Same (calls : List Call) (x : Run) (scratch : List ℕ) : Type 0 where
-  pub answers :
-      x .history .answers ++ turns calls (image (x .state)) scratch .answers ≡ runFrom step calls x .history .answers
-  pub tables : turns calls (image (x .state)) scratch .tables ≡ image (runFrom step calls x .state)
+-- With a scratch of another length it does nothing.
+called-short :
+    (s : State) (scratch : List ℕ) (c : Call) → eqb (length scratch) 256 ≡ false
+    → called (image s) scratch c ≡ record { answer = plain 16; tables = image s; scratch = scratch }
+unfolding called
+called-short s scratch c n = rw (eq-eqb (length (image s)) 4096 (length-image s), n)
+
+-- From the memory of a run's state, calls made in turn go on as the machine's run does; rest are the machine's answers
+-- to those with a scratch of 256 words.
+record Same (l : List Attempt) (x : Run) : Type 0 where
+  rest : List Answer
+  more : x .history .answers ++ rest ≡ runFrom step (made l) x .history .answers
+  answers : turns l (image (x .state)) .answers ≡ filled l rest
+  tables : turns l (image (x .state)) .tables ≡ image (runFrom step (made l) x .state)
 
 next : Run → Call → Run
 next x c = record { state = step (x .state) c .state; history = told c (x .state) (step (x .state) c) (x .history) }
 
-one-more :
-    (c : Call) (l : List Call) (x : Run) (scratch : List ℕ) → Sound (x .state) → length scratch ≡ 256
-    → Same l (next x c) zeros → Same (c ∷ l) x scratch
-unfolding turns runFrom next told recorded
-one-more c l x scratch S n ih =
-    let e = called-image (x .state) scratch c S n in
+-- A call with a scratch of 256 words is made.
+module _ (a : Attempt) (l : List Attempt) (n : eqb (length (a .scratch)) 256 ≡ true) where
+  made-one : made (a ∷ l) ≡ a .call ∷ made l
+  unfolding made
+  made-one = rw n
+
+  filled-one : (r : Answer) (k : List Answer) → filled (a ∷ l) (r ∷ k) ≡ r ∷ filled l k
+  unfolding filled
+  filled-one r k = rw n
+
+  one-more : (x : Run) → Sound (x .state) → Same l (next x (a .call)) → Same (a ∷ l) x
+  unfolding turns runFrom next told recorded
+  one-more x S ih =
+      let e = called-image (x .state) (a .scratch) (a .call) S (eqb-true (length (a .scratch)) 256 n) in
+      let r = step (x .state) (a .call) .answer in
+      record {
+        rest = r ∷ ih .rest;
+        more =
+            sym (append-snoc (x .history .answers) _ _) ∙ ih .more
+            ∙ ap (λ (k : List Call). runFrom step k x .history .answers) (sym made-one);
+        answers =
+            ap (λ (k : Called). k .answer ∷ turns l (k .tables) .answers) e
+            ∙ ap (λ (k : List Answer). r ∷ k) (ih .answers) ∙ sym (filled-one r (ih .rest));
+        tables =
+            ap (λ (k : Called). turns l (k .tables) .tables) e ∙ ih .tables
+            ∙ ap (λ (k : List Call). image (runFrom step k x .state)) (sym made-one);
+      }
+
+-- One with another is answered 16, and nothing comes of it.
+module _ (a : Attempt) (l : List Attempt) (n : eqb (length (a .scratch)) 256 ≡ false) where
+  made-none : made (a ∷ l) ≡ made l
+  unfolding made
+  made-none = rw n
+
+  filled-none : (k : List Answer) → filled (a ∷ l) k ≡ plain 16 ∷ filled l k
+  unfolding filled
+  filled-none k = rw n
+
+  none-more : (x : Run) → Same l x → Same (a ∷ l) x
+  unfolding turns
+  none-more x ih =
+      let e = called-short (x .state) (a .scratch) (a .call) n in
+      record {
+        rest = ih .rest;
+        more = ih .more ∙ ap (λ (k : List Call). runFrom step k x .history .answers) (sym made-none);
+        answers =
+            ap (λ (k : Called). k .answer ∷ turns l (k .tables) .answers) e
+            ∙ ap (λ (k : List Answer). plain 16 ∷ k) (ih .answers) ∙ sym (filled-none (ih .rest));
+        tables =
+            ap (λ (k : Called). turns l (k .tables) .tables) e ∙ ih .tables
+            ∙ ap (λ (k : List Call). image (runFrom step k x .state)) (sym made-none);
+      }
+
+same-turns : (l : List Attempt) (x : Run) → Sound (x .state) → Same l x
+unfolding turns made filled runFrom next
+same-turns [] x S = record { rest = []; more = append-nil (x .history .answers); answers = refl; tables = refl }
+same-turns (a ∷ l) x S = go (eqb (length (a .scratch)) 256) refl (λ y Y. same-turns l y Y)
+  where
+    go : (b : Bool) → eqb (length (a .scratch)) 256 ≡ b → ((y : Run) → Sound (y .state) → Same l y) → Same (a ∷ l) x
+    go true h ih = one-more a l h x S (ih (next x (a .call)) (step-sound (x .state) (a .call) S))
+    go false h ih = none-more a l h x (ih x S)
+
+fresh-tables : (m : List ℕ) → length m ≡ 4096 → freshened m .tables ≡ image freshState
+unfolding freshened
+fresh-tables m n = rw (eq-eqb (length m) 4096 n)
+
+-- Demand 3 of the entry, from tables of any content made fresh.
+pub demand-kept : (m : List ℕ) (l : List Attempt) → length m ≡ 4096 → Demanded m l
+demand-kept m l n =
+    let e = same-turns l freshRun fresh-sound in
     record {
       answers =
-          ap (λ (k : Called). x .history .answers ++ (k .answer ∷ turns l (k .tables) (k .scratch) .answers)) e
-          ∙ sym (append-snoc (x .history .answers) _ _)
-          ∙ ih .answers;
-      tables = ap (λ (k : Called). turns l (k .tables) (k .scratch) .tables) e ∙ ih .tables;
+          ap (λ (k : List ℕ). turns l k .answers) (fresh-tables m n) ∙ e .answers
+          ∙ ap (λ (k : List Answer). filled l k) (e .more);
+      tables = ap (λ (k : List ℕ). turns l k .tables) (fresh-tables m n) ∙ e .tables;
+      claim = demand (made l);
     }
-
-turns-same :
-    (calls : List Call) (x : Run) (scratch : List ℕ) → Sound (x .state) → length scratch ≡ 256 → Same calls x scratch
-unfolding turns runFrom next
-turns-same [] x scratch S n = record { answers = append-nil (x .history .answers); tables = refl }
-turns-same (c ∷ l) x scratch S n =
-    one-more c l x scratch S n
-    (turns-same l (next x c) zeros (step-sound (x .state) c S) (length-replicate {A = ℕ} 256 0))
-
--- "Its first call gets fresh tables, each later one the tables that the one before it left": from the tables that
--- making fresh leaves, the answers that the entry gives are those of the list's history, of which demand 3 speaks,
--- and the tables are the memory of the machine's state.
-pub fresh-turns :
-    (m scratch : List ℕ) (calls : List Call) → length m ≡ 4096 → length scratch ≡ 256
-    → (turns calls (freshened m .tables) scratch .answers ≡ historyOf calls .answers)
-    × (turns calls (freshened m .tables) scratch .tables ≡ image (runFrom step calls freshRun .state))
-unfolding freshened
-fresh-turns m scratch calls n k =
-    let e = turns-same calls freshRun scratch fresh-sound k in
-    rw (eq-eqb (length m) 4096 n) (e .answers, e .tables)
-
--- Demand 3 of the code: the answers that the entry gives to a list of calls, from fresh tables and with any scratch of
--- 256 words, are those of the list's history, and of that the claim holds.
-pub record Demanded (m scratch : List ℕ) (calls : List Call) : Type 0 where
-  pub answers : turns calls (freshened m .tables) scratch .answers ≡ historyOf calls .answers
-  pub claim : Claim calls (historyOf calls)
-
-pub demand-kept :
-    (m scratch : List ℕ) (calls : List Call) → length m ≡ 4096 → length scratch ≡ 256 → Demanded m scratch calls
-demand-kept m scratch calls n k =
-    record { answers = fresh-turns m scratch calls n k .0; claim = demand calls }

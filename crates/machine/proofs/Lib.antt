@@ -22,6 +22,7 @@ pub mod Marks
 pub mod Loops
 pub mod Shapes
 pub mod Answers
+pub mod Refusals
 -- Demand 3: the invariant of a list of calls and its history, call by call, and the theorem.
 pub mod Sublists
 pub mod Standing

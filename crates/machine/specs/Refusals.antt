@@ -1,0 +1,162 @@
+-- Document 01's table "Cause, tried in this order", from 19 on, row by row: by which number a call is refused. 16 and
+-- 17 are refusals of the lent memory, 18 of the reader.
+use Prim.Native.Nat.{ℕ}
+use mathlib.Core.Bool.{Bool, true, false, _&&_, _||_, not}
+use mathlib.Core.Option.{Option, none, some}
+use mathlib.Core.List.{List, [], _∷_}
+use lib.Dec.{eqb, leb}
+use Rattle.machine.specs.declared.Call.{Call}
+use Rattle.machine.specs.declared.Call.the-variants.{CreateThread, DestroyThread, SetPriority, CreateEndpoint}
+use Rattle.machine.specs.declared.Call.the-variants.{Interrupt, Tick, Send, Receive, Yield, Wait, Delete, Abort}
+use Rattle.machine.specs.Calls.{numberOf, inRange}
+use Rattle.machine.specs.Lists.{pick}
+use Rattle.machine.specs.State.{State, Thread, Debt, nothing, Status, missing, live, closing, Endpoint, Line}
+use Rattle.machine.specs.State.{quiet, pending, awaited}
+use Rattle.machine.specs.Endpoints.{underAbort}
+use Rattle.machine.specs.Aborts.{hasNote}
+use Rattle.machine.specs.Machine.{isAbsent}
+
+-- The call's number is one of these.
+abbrev pub oneOf : List ℕ → ℕ → Bool
+oneOf [] n = false
+oneOf (k ∷ l) n = eqb n k || oneOf l n
+
+-- The call's subject: its thread, endpoint or line; 0 where it has none.
+abbrev pub subjectOf : Call → ℕ
+subjectOf (CreateThread t p) = t
+subjectOf (DestroyThread t) = t
+subjectOf (SetPriority t p) = t
+subjectOf (CreateEndpoint e) = e
+subjectOf (Interrupt l) = l
+subjectOf Tick = 0
+subjectOf (Send e b m) = e
+subjectOf (Receive e) = e
+subjectOf Yield = 0
+subjectOf (Wait l) = l
+subjectOf (Delete e a) = e
+subjectOf (Abort e a b) = e
+
+-- The badge of a send or an abort; 0 of another call.
+abbrev pub badgeOf : Call → ℕ
+badgeOf (CreateThread t p) = 0
+badgeOf (DestroyThread t) = 0
+badgeOf (SetPriority t p) = 0
+badgeOf (CreateEndpoint e) = 0
+badgeOf (Interrupt l) = 0
+badgeOf Tick = 0
+badgeOf (Send e b m) = b
+badgeOf (Receive e) = 0
+badgeOf Yield = 0
+badgeOf (Wait l) = 0
+badgeOf (Delete e a) = 0
+badgeOf (Abort e a b) = b
+
+abbrev pub threadIn : Call → State → Thread
+threadIn c s = s .threads (subjectOf c)
+
+abbrev pub endpointIn : Call → State → Endpoint
+endpointIn c s = s .endpoints (subjectOf c)
+
+abbrev pub isNobody : Option ℕ → Bool
+isNobody none = true
+isNobody (some t) = false
+
+abbrev pub isMissing : Status → Bool
+isMissing missing = true
+isMissing live = false
+isMissing closing = false
+
+abbrev pub isClosing : Status → Bool
+isClosing missing = false
+isClosing live = false
+isClosing closing = true
+
+abbrev pub hasWaiter : Line → Bool
+hasWaiter quiet = false
+hasWaiter pending = false
+hasWaiter (awaited t) = true
+
+-- What the thread that runs has to do with aborts.
+abbrev pub debtIn : Option ℕ → State → Debt
+debtIn none s = nothing
+debtIn (some t) s = s .threads t .debt
+
+-- A row: whether its cause is there, and by which number the call is then refused, if it is.
+pub record Row : Type 0 where
+  pub cause : Bool
+  pub number : Option ℕ
+
+-- The first row whose cause is there decides; where none is, the call is not refused.
+abbrev pub firstOf : List Row → Option ℕ
+firstOf [] = none
+firstOf (r ∷ l) = pick (r .cause) (r .number) (firstOf l)
+
+-- "thread or priority above 255, endpoint above 63, line above 31, badge or message 2^28 or more, allowance 0 or above
+-- 65,535 | 19"
+abbrev pub row19 : Call → State → Row
+row19 c s = record { cause = not (inRange c); number = some 19 }
+
+-- "call 7 to 12 and nobody running | 20"
+abbrev pub row20 : Call → State → Row
+row20 c s = record { cause = leb 7 (numberOf c) && isNobody (s .runs); number = some 20 }
+
+-- "2, 3: thread absent | 21"
+abbrev pub row21 : Call → State → Row
+row21 c s = record { cause = oneOf (2 ∷ 3 ∷ []) (numberOf c) && isAbsent (threadIn c s .place); number = some 21 }
+
+-- "1: thread present | 22"
+abbrev pub row22 : Call → State → Row
+row22 c s = record { cause = oneOf (1 ∷ []) (numberOf c) && not (isAbsent (threadIn c s .place)); number = some 22 }
+
+-- Of the note: "the owner's next abort call of that endpoint and badge is answered 0, count 0, before 23 is tried": it
+-- is not refused.
+abbrev pub rowOfNote : Call → State → Row
+rowOfNote c s =
+    record {
+      cause = oneOf (12 ∷ []) (numberOf c) && hasNote (subjectOf c) (badgeOf c) (debtIn (s .runs) s);
+      number = none;
+    }
+
+-- "7, 8, 11, 12: endpoint absent | 23"
+abbrev pub row23 : Call → State → Row
+row23 c s =
+    record {
+      cause = oneOf (7 ∷ 8 ∷ 11 ∷ 12 ∷ []) (numberOf c) && isMissing (endpointIn c s .status);
+      number = some 23;
+    }
+
+-- "4: endpoint present, closing included | 24"
+abbrev pub row24 : Call → State → Row
+row24 c s = record { cause = oneOf (4 ∷ []) (numberOf c) && not (isMissing (endpointIn c s .status)); number = some 24 }
+
+-- "7, 8, 12: endpoint closing | 25"
+abbrev pub row25 : Call → State → Row
+row25 c s =
+    record { cause = oneOf (7 ∷ 8 ∷ 12 ∷ []) (numberOf c) && isClosing (endpointIn c s .status); number = some 25 }
+
+-- "7: that badge is under abort there | 26"
+abbrev pub row26 : Call → State → Row
+row26 c s =
+    record { cause = oneOf (7 ∷ []) (numberOf c) && underAbort (badgeOf c) (endpointIn c s .abort); number = some 26 }
+
+-- "10: the line has a waiter | 27"
+abbrev pub row27 : Call → State → Row
+row27 c s = record { cause = oneOf (10 ∷ []) (numberOf c) && hasWaiter (s .lines (subjectOf c)); number = some 27 }
+
+-- The rows behind the first, for a call whose numbers are in range.
+abbrev pub laterRows : Call → State → List Row
+laterRows c s =
+    row20 c s
+    ∷ row21 c s
+    ∷ row22 c s
+    ∷ rowOfNote c s
+    ∷ row23 c s
+    ∷ row24 c s
+    ∷ row25 c s
+    ∷ row26 c s
+    ∷ row27 c s
+    ∷ []
+
+-- The number that the call is refused by in this state, if it is refused.
+unfoldable pub refusalOf : Call → State → Option ℕ
+refusalOf c s = firstOf (row19 c s ∷ laterRows c s)
