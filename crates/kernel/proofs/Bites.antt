@@ -16,7 +16,7 @@ use Rattle.machine.specs.Sound.{Sound}
 use Rattle.machine.proofs.Running.{choose-keeps}
 use Rattle.machine.proofs.Steps.{step-sound, fresh-sound}
 use Rattle.layout.specs.Words.{image}
-use Rattle.layout.proofs.Tables.{image-injective}
+use Rattle.layout.proofs.Decode.{image-injective}
 use Rattle.tables.specs.Entries.{zeros}
 use Rattle.kernel.specs.Entry.{Called, called}
 use Rattle.kernel.specs.Kept.{Kept}

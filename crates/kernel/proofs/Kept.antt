@@ -17,8 +17,8 @@ use Rattle.machine.proofs.Lists.{clash}
 use Rattle.machine.proofs.Refusals.{refused-exactly, accepted-exactly}
 use Rattle.machine.proofs.Steps.{step-sound}
 use Rattle.layout.specs.Words.{image}
-use Rattle.layout.specs.Tables.{stateOf}
-use Rattle.layout.proofs.Tables.{state-exact}
+use Rattle.checks.specs.Tables.{stateOf}
+use Rattle.checks.proofs.Tables.{state-exact}
 use Rattle.layout.proofs.Ends.{none-some}
 use Rattle.layout.proofs.Tests.{Tells, tells-and, tells-eqb}
 use Rattle.tables.specs.Entries.{zeros}

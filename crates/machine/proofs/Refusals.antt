@@ -24,7 +24,7 @@ use Rattle.machine.specs.Machine.{isAbsent, createIf, createThread, dest
 use Rattle.machine.specs.Machine.{setPriority, createAt, createEndpoint, interrupt, tick, sendTo, sendUnless}
 use Rattle.machine.specs.Machine.{sendAt, send, receiveFrom, receiveAt, receive, yield, waitAt, wait, byCaller}
 use Rattle.machine.specs.Machine.{perform, performIf, step}
-use Rattle.machine.specs.Refusals.{isNobody, isMissing, isClosing, hasWaiter, debtIn, firstOf}
+use Rattle.machine.specs.Refusals.{isNobody, isMissing, isClosing, hasWaiter, debtIn, firstCause}
 use Rattle.machine.specs.Refusals.{laterRows, refusalOf}
 
 -- The result is the one for this row of the table: a refusal by its number, or an accepted call where there is none.
@@ -173,7 +173,7 @@ caller-agrees :
 caller-agrees none s v f h = refl
 caller-agrees (some t) s v f h = h t
 
-perform-agrees : (c : Call) (s : State) → Agrees (firstOf (laterRows c s)) s (perform c s)
+perform-agrees : (c : Call) (s : State) → Agrees (firstCause (laterRows c s)) s (perform c s)
 unfolding perform createThread destroyThread setPriority createEndpoint interrupt tick send receive yield wait delete
     abort
 perform-agrees (CreateThread t p) s = create-agrees (isAbsent (s .threads t .place)) t p s
@@ -210,7 +210,7 @@ agrees : (c : Call) (s : State) → Agrees (refusalOf c s) s (step s c)
 unfolding refusalOf step performIf
 agrees c s = go (inRange c)
   where
-    go : (x : Bool) → Agrees (pick (not x) (some 19) (firstOf (laterRows c s))) s (performIf x c s)
+    go : (x : Bool) → Agrees (pick (not x) (some 19) (firstCause (laterRows c s))) s (performIf x c s)
     go true = perform-agrees c s
     go false = refl
 

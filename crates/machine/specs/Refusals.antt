@@ -81,36 +81,36 @@ abbrev pub debtIn : Option ℕ → State → Debt
 debtIn none s = nothing
 debtIn (some t) s = s .threads t .debt
 
--- A row: whether its cause is there, and by which number the call is then refused, if it is.
-pub record Row : Type 0 where
+-- A row of the table: whether its cause is there, and by which number the call is then refused, if it is.
+pub record Refusal : Type 0 where
   pub cause : Bool
   pub number : Option ℕ
 
 -- The first row whose cause is there decides; where none is, the call is not refused.
-abbrev pub firstOf : List Row → Option ℕ
-firstOf [] = none
-firstOf (r ∷ l) = pick (r .cause) (r .number) (firstOf l)
+abbrev pub firstCause : List Refusal → Option ℕ
+firstCause [] = none
+firstCause (r ∷ l) = pick (r .cause) (r .number) (firstCause l)
 
 -- "thread or priority above 255, endpoint above 63, line above 31, badge or message 2^28 or more, allowance 0 or above
 -- 65,535 | 19"
-abbrev pub row19 : Call → State → Row
+abbrev pub row19 : Call → State → Refusal
 row19 c s = record { cause = not (inRange c); number = some 19 }
 
 -- "call 7 to 12 and nobody running | 20"
-abbrev pub row20 : Call → State → Row
+abbrev pub row20 : Call → State → Refusal
 row20 c s = record { cause = leb 7 (numberOf c) && isNobody (s .runs); number = some 20 }
 
 -- "2, 3: thread absent | 21"
-abbrev pub row21 : Call → State → Row
+abbrev pub row21 : Call → State → Refusal
 row21 c s = record { cause = oneOf (2 ∷ 3 ∷ []) (numberOf c) && isAbsent (threadIn c s .place); number = some 21 }
 
 -- "1: thread present | 22"
-abbrev pub row22 : Call → State → Row
+abbrev pub row22 : Call → State → Refusal
 row22 c s = record { cause = oneOf (1 ∷ []) (numberOf c) && not (isAbsent (threadIn c s .place)); number = some 22 }
 
 -- Of the note: "the owner's next abort call of that endpoint and badge is answered 0, count 0, before 23 is tried": it
 -- is not refused.
-abbrev pub rowOfNote : Call → State → Row
+abbrev pub rowOfNote : Call → State → Refusal
 rowOfNote c s =
     record {
       cause = oneOf (12 ∷ []) (numberOf c) && hasNote (subjectOf c) (badgeOf c) (debtIn (s .runs) s);
@@ -118,7 +118,7 @@ rowOfNote c s =
     }
 
 -- "7, 8, 11, 12: endpoint absent | 23"
-abbrev pub row23 : Call → State → Row
+abbrev pub row23 : Call → State → Refusal
 row23 c s =
     record {
       cause = oneOf (7 ∷ 8 ∷ 11 ∷ 12 ∷ []) (numberOf c) && isMissing (endpointIn c s .status);
@@ -126,25 +126,25 @@ row23 c s =
     }
 
 -- "4: endpoint present, closing included | 24"
-abbrev pub row24 : Call → State → Row
+abbrev pub row24 : Call → State → Refusal
 row24 c s = record { cause = oneOf (4 ∷ []) (numberOf c) && not (isMissing (endpointIn c s .status)); number = some 24 }
 
 -- "7, 8, 12: endpoint closing | 25"
-abbrev pub row25 : Call → State → Row
+abbrev pub row25 : Call → State → Refusal
 row25 c s =
     record { cause = oneOf (7 ∷ 8 ∷ 12 ∷ []) (numberOf c) && isClosing (endpointIn c s .status); number = some 25 }
 
 -- "7: that badge is under abort there | 26"
-abbrev pub row26 : Call → State → Row
+abbrev pub row26 : Call → State → Refusal
 row26 c s =
     record { cause = oneOf (7 ∷ []) (numberOf c) && underAbort (badgeOf c) (endpointIn c s .abort); number = some 26 }
 
 -- "10: the line has a waiter | 27"
-abbrev pub row27 : Call → State → Row
+abbrev pub row27 : Call → State → Refusal
 row27 c s = record { cause = oneOf (10 ∷ []) (numberOf c) && hasWaiter (s .lines (subjectOf c)); number = some 27 }
 
 -- The rows behind the first, for a call whose numbers are in range.
-abbrev pub laterRows : Call → State → List Row
+abbrev pub laterRows : Call → State → List Refusal
 laterRows c s =
     row20 c s
     ∷ row21 c s
@@ -159,4 +159,4 @@ laterRows c s =
 
 -- The number that the call is refused by in this state, if it is refused.
 unfoldable pub refusalOf : Call → State → Option ℕ
-refusalOf c s = firstOf (row19 c s ∷ laterRows c s)
+refusalOf c s = firstCause (row19 c s ∷ laterRows c s)
