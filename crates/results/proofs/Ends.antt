@@ -6,7 +6,7 @@ use mathlib.Core.List.{List, []}
 use Rattle.machine.specs.declared.Answer.{Answer}
 use Rattle.machine.specs.State.{State}
 use Rattle.machine.specs.Scheduling.{choose}
-use Rattle.machine.specs.Results.{Result, plain, accept, refuse}
+use Rattle.machine.specs.Results.{Result, plain, accept, refuse, done}
 use Rattle.layout.specs.Shows.{Shows}
 use Rattle.store.specs.Steps.{Shown, Does}
 use Rattle.queues.specs.Queues.{Chooses}
@@ -15,6 +15,10 @@ use Rattle.results.specs.Results.{Performs, Accepts}
 -- Chosen, and answered.
 pub accepted : {m n : List ℕ} {a : Answer} → Does m n Chooses choose → Accepts m a a Chooses n
 accepted D = record { performs = λ looks. record { answers = λ s M h. refl; shows = λ s M h. D .shows s M h } }
+
+-- Chosen, and answered by code 0.
+pub done-is : {m n : List ℕ} {a : Answer} → Does m n Chooses choose → a ≡ plain 0 → Performs m n a Chooses done
+done-is D e = record { answers = λ s M h. e; shows = λ s M h. D .shows s M h }
 
 -- An accepted call that has no looks.
 pub answered :

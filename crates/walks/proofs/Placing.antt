@@ -1,12 +1,14 @@
--- The test of a thread's place, as the code takes it: by the values read. Assumes nothing.
+-- The tests of a thread's place, and of one met in a level's queue, as the code takes them: by the values read. Assumes
+-- nothing.
 use Prim.Native.Nat.{ℕ, _+_}
 use mathlib.Core.Bool.{Bool, not, _&&_, _||_, Bool·beq}
 use mathlib.Core.List.{List}
 use mathlib.Core.Path.{_≡_}
 use native.Mathlib.Numerals.{add-one}
 use lib.Dec.{eqb, leb, ltb}
-use Rattle.layout.specs.Addresses.{place, running, at, next, prev, linkAt, word}
-use Rattle.checks.specs.Checks.{threadIn, metBelow, queuedTest, placedTest}
+use Rattle.layout.specs.Addresses.{place, priority, running, at, next, prev, linkAt, word}
+use Rattle.checks.specs.Checks.{threadIn, metBelow, queuedTest, placedTest, readyTest}
+use Rattle.walks.specs.Steps.{readyBehind}
 use Rattle.walks.proofs.Aborting.{beq-same}
 
 pub placed-is :
@@ -16,3 +18,10 @@ pub placed-is :
     ≡ placedTest m t
 unfolding placedTest queuedTest
 placed-is m t e f g h i = rw (beq-same, add-one, e, f, g, h, i)
+
+pub ready-is :
+    (m : List ℕ) (p x t : ℕ) {v k q r : ℕ} → v ≡ word m (linkAt (prev t)) → k ≡ threadIn m place t
+    → q ≡ threadIn m priority t → r ≡ word m (at running)
+    → (eqb v x && (eqb k 1 && eqb q p && not (eqb r (t + 1)))) ≡ readyBehind m p x t
+unfolding readyTest
+ready-is m p x t e f g h = rw (add-one, e, f, g, h)

@@ -1,6 +1,7 @@
 -- The refusals by status, and the work of a caller without other debts.
 -- Assumes nothing.
 use borrow.Author.Needs.{needs}
+use native.Mathlib.Omega.{arith}
 use Rattle.aborts.proofs.Opening.{calls-asked, refused-missing, refused-closing, owing-asked, opened}
 use Rattle.aborts.proofs.abort_at.Statement.{statement}
 use Rattle.aborts.proofs.abort_at.Tie as tie
@@ -44,7 +45,7 @@ abort-open-requires c κs =
     let at-start = at-status .before .before .before in (
       owing-asked (at-status .status .ensures) (at-if1 .if1 .left) (at-if2 .if2 .left)
           (at-drop-other .drop-other .ensures) (at-start .pre),
-      at-start .pre .holds .numbers .1,
+      omega (arith, at-start .pre .holds .numbers .1),
       at-start .pre .holds .numbers .2,
     )
 

@@ -19,10 +19,16 @@ same-length : tie.Need-same-length
 same-length c = search needs
 
 returns : tie.Need-returns
-returns c = search own-broken
+returns c =
+    let at-accept = c .before .before in
+    let at-counted = at-accept .before in
+    let at-if1 = at-counted .before .before in
+    let at-cursor = at-if1 .before in
+    own-broken (at-cursor .cursor .ensures) (at-if1 .if1 .taken) (at-counted .counted .ensures)
+    (at-accept .accept .ensures)
 
 drop-debt-requires : tie.Need-drop-debt-requires
-drop-debt-requires c κs = search debtor-asked
+drop-debt-requires c κs = debtor-asked (c .before .before .before .before .before .pre)
 
 end-abort-requires : tie.Need-end-abort-requires
 end-abort-requires c κs = search endable-asked

@@ -19,7 +19,13 @@ same-length : tie.Need-same-length
 same-length c = search needs
 
 returns : tie.Need-returns
-returns c = search look-removed
+returns c =
+    let at-wake-from = c .before .before in
+    let at-if1 = at-wake-from .before .before in
+    let at-under-abort = at-if1 .before in
+    let at-badge = at-under-abort .before .before in
+    look-removed (at-badge .badge .ensures) (at-under-abort .under-abort .ensures) (at-if1 .if1 .taken)
+    (at-wake-from .wake-from .ensures)
 
 keep-look-requires : tie.Need-keep-look-requires
 keep-look-requires c κs = search first-asked
@@ -28,7 +34,13 @@ same-length-2 : tie.Need-same-length-2
 same-length-2 c = search needs
 
 returns-2 : tie.Need-returns-2
-returns-2 c = search look-kept
+returns-2 c =
+    let at-keep-look = c .before .before in
+    let at-if1 = at-keep-look .before .before in
+    let at-under-abort = at-if1 .before in
+    let at-badge = at-under-abort .before .before in
+    look-kept (at-badge .badge .ensures) (at-under-abort .under-abort .ensures) (at-if1 .if1 .left)
+    (at-keep-look .keep-look .ensures)
 
 pub look-spec : {M : Type 1} → statement M
 look-spec =

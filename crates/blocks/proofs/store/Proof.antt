@@ -10,7 +10,10 @@ set-place-requires : tie.Need-set-place-requires
 set-place-requires c κs = search needs
 
 set-priority-requires : tie.Need-set-priority-requires
-set-priority-requires c κs = search placed
+set-priority-requires c κs =
+    let at-set-place = c .before .before .before in
+    let at-start = at-set-place .before .before .before in
+    placed (at-start .pre .1) (at-set-place .set-place .ensures) (at-start .pre .0)
 
 set-ticks-requires : tie.Need-set-ticks-requires
 set-ticks-requires c κs =

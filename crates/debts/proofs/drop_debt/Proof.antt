@@ -24,13 +24,27 @@ set-owner-requires : tie.Need-set-owner-requires
 set-owner-requires c κs = search owner-asked
 
 set-owes-requires : tie.Need-set-owes-requires
-set-owes-requires c κs = search owes-asked
+set-owes-requires c κs =
+    let at-set-owner = c .before .before .before in
+    let at-if2 = at-set-owner .before .before in
+    let at-if1 = at-if2 .before in
+    let at-owes = at-if1 .before in
+    let at-start = at-owes .before .before .before in
+    owes-asked (at-owes .owes .ensures) (at-if1 .if1 .left) (at-if2 .if2 .taken) (at-start .pre)
+    (at-set-owner .set-owner .ensures)
 
 same-length-2 : tie.Need-same-length-2
 same-length-2 c = search needs
 
 returns-2 : tie.Need-returns-2
-returns-2 c = search drop-owned depth 9
+returns-2 c =
+    let at-set-owes = c .before .before in
+    let at-set-owner = at-set-owes .before .before .before .before in
+    let at-if2 = at-set-owner .before .before in
+    let at-if1 = at-if2 .before in
+    let at-owes = at-if1 .before in
+    drop-owned (at-owes .owes .ensures) (at-if1 .if1 .left) (at-if2 .if2 .taken) (at-set-owner .set-owner .ensures)
+    (at-set-owes .set-owes .ensures)
 
 set-owes-requires-2 : tie.Need-set-owes-requires-2
 set-owes-requires-2 c κs = search needs

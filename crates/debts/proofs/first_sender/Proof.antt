@@ -30,10 +30,18 @@ cast-sends : tie.Need-cast-sends
 cast-sends c = search needs
 
 returns-2 : tie.Need-returns-2
-returns-2 c = search first-receives
+returns-2 c =
+    let at-place = c .before in
+    let at-if1 = at-place .before in
+    let at-first = at-if1 .before in
+    first-receives _ (at-first .first .ensures) (at-if1 .if1 .left) (at-place .place .ensures) (c .if2 .taken)
 
 returns-3 : tie.Need-returns-3
-returns-3 c = search first-sends
+returns-3 c =
+    let at-place = c .before in
+    let at-if1 = at-place .before in
+    let at-first = at-if1 .before in
+    first-sends _ (at-first .first .ensures) (at-if1 .if1 .left) (at-place .place .ensures) (c .if2 .left)
 
 pub first-sender-spec : {M : Type 1} → statement M
 first-sender-spec =

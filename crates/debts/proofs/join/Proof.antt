@@ -12,7 +12,9 @@ same-length : tie.Need-same-length
 same-length c = search needs
 
 returns : tie.Need-returns
-returns c = search join-owned
+returns c =
+    let at-owner = c .before in
+    join-owned _ (at-owner .owner .ensures) (c .if1 .taken)
 
 add-set-owner : tie.Need-add-set-owner
 add-set-owner c = search needs
@@ -36,7 +38,13 @@ same-length-2 : tie.Need-same-length-2
 same-length-2 c = search needs
 
 returns-2 : tie.Need-returns-2
-returns-2 c = search join-free depth 9
+returns-2 c =
+    let at-set-owes = c .before .before in
+    let at-set-owner = at-set-owes .before .before .before .before in
+    let at-if1 = at-set-owner .before .before in
+    let at-owner = at-if1 .before in
+    join-free _ (at-owner .owner .ensures) (at-if1 .if1 .left) (at-set-owner .set-owner .ensures)
+    (at-set-owes .set-owes .ensures)
 
 pub join-spec : {M : Type 1} → statement M
 join-spec =

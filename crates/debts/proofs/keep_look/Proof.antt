@@ -24,7 +24,14 @@ same-length : tie.Need-same-length
 same-length c = search needs
 
 returns : tie.Need-returns
-returns c = search keeps depth 9
+returns c =
+    let at-set-abort = c .before .before in
+    let at-owner = at-set-abort .before .before in
+    let at-aborted = at-owner .before .before in
+    let at-next-end = at-aborted .before .before in
+    let at-next-cursor = at-next-end .before .before in
+    keeps (at-next-cursor .next-cursor .ensures) (at-next-end .next-end .ensures) (at-aborted .aborted .ensures)
+    (at-owner .owner .ensures) (at-set-abort .set-abort .ensures)
 
 pub keep-look-spec : {M : Type 1} → statement M
 keep-look-spec =

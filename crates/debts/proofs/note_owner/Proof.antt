@@ -36,7 +36,13 @@ same-length-2 : tie.Need-same-length-2
 same-length-2 c = search needs
 
 returns-2 : tie.Need-returns-2
-returns-2 c = search note-somebody depth 9
+returns-2 c =
+    let at-set-owes = c .before .before in
+    let at-aborted = at-set-owes .before .before in
+    let at-if1 = at-aborted .before .before in
+    let at-owner = at-if1 .before in
+    note-somebody (at-owner .owner .ensures) (at-if1 .if1 .left) (at-aborted .aborted .ensures)
+    (at-set-owes .set-owes .ensures)
 
 pub note-owner-spec : {M : Type 1} → statement M
 note-owner-spec =

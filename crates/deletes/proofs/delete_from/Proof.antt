@@ -24,7 +24,14 @@ same-length : tie.Need-same-length
 same-length c = search needs
 
 returns : tie.Need-returns
-returns c = search broken-off
+returns c =
+    let at-accept = c .before .before in
+    let at-counted = at-accept .before in
+    let at-if1 = at-counted .before .before in
+    let at-first = at-if1 .before in
+    let at-remove = at-first .before .before .before .before in
+    broken-off (at-remove .remove .ensures) (at-first .first .ensures) (at-if1 .if1 .taken)
+    (at-counted .counted .ensures) (at-accept .accept .ensures)
 
 set-status-requires : tie.Need-set-status-requires
 set-status-requires c κs = search status-asked

@@ -28,7 +28,10 @@ same-length : tie.Need-same-length Inv-loop μ-loop
 same-length c = search needs
 
 returns : tie.Need-returns Inv-loop μ-loop
-returns c = search removed-some
+returns c =
+    let at-first = c .before in
+    let at-loop = at-first .before .before .before in
+    removed-some (at-loop .loop .inv) (at-first .first .ensures) (c .if1 .taken)
 
 sub-wake-from : tie.Need-sub-wake-from Inv-loop μ-loop
 sub-wake-from c = search needs
@@ -46,13 +49,21 @@ loop-less : tie.Need-loop-less Inv-loop μ-loop
 loop-less c = search needs
 
 loop-again : tie.Need-loop-again Inv-loop μ-loop
-loop-again c = search removing-more
+loop-again c =
+    let at-wake-from = c .before .before in
+    let at-if1 = at-wake-from .before .before in
+    let at-first = at-if1 .before in
+    let at-loop = at-first .before .before .before in
+    removing-more (at-loop .loop .inv) (at-first .first .ensures) (at-if1 .if1 .left) (search needs)
+    (at-wake-from .wake-from .ensures)
 
 same-length-2 : tie.Need-same-length-2 Inv-loop μ-loop
 same-length-2 c = search needs
 
 returns-2 : tie.Need-returns-2 Inv-loop μ-loop
-returns-2 c = search removed-all
+returns-2 c =
+    let at-loop = c .before in
+    removed-all (at-loop .loop .inv) (c .loop-test .left)
 
 pub remove-spec : {M : Type 1} → statement M
 remove-spec =

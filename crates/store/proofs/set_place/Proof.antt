@@ -32,7 +32,18 @@ same-length : tie.Need-same-length
 same-length c = search needs
 
 returns : tie.Need-returns
-returns c = search place-does depth 9
+returns c =
+    let at-put4 = c .before .before in
+    let at-message-at = at-put4 .before in
+    let at-put3 = at-message-at .before .before .before .before in
+    let at-badge-at = at-put3 .before in
+    let at-put2 = at-badge-at .before .before .before .before in
+    let at-outcome-at = at-put2 .before in
+    let at-put = at-outcome-at .before .before .before .before in
+    let at-place-at = at-put .before in
+    place-does _ _ _ _ _ (at-place-at .place-at .ensures) (at-put .put .ensures) (at-outcome-at .outcome-at .ensures)
+    (at-put2 .put2 .ensures) (at-badge-at .badge-at .ensures) (at-put3 .put3 .ensures)
+    (at-message-at .message-at .ensures) (at-put4 .put4 .ensures)
 
 pub set-place-spec : {M : Type 1} → statement M
 set-place-spec =

@@ -29,7 +29,14 @@ same-length : tie.Need-same-length
 same-length c = search needs
 
 returns : tie.Need-returns
-returns c = search writes depth 9
+returns c =
+    let at-put2 = c .before .before in
+    let at-top-at = at-put2 .before in
+    let at-put = at-top-at .before .before .before .before in
+    let at-summary-at = at-put .before in
+    let at-start = at-summary-at .before .before .before .before in
+    writes _ _ _ _ _ _ _ (at-start .pre .0) (at-start .pre .1) (at-summary-at .summary-at .ensures)
+    (at-put .put .ensures) (at-top-at .top-at .ensures) (at-put2 .put2 .ensures)
 
 pub store-mark-spec : {M : Type 1} → statement M
 store-mark-spec =

@@ -14,7 +14,11 @@ same-length : tie.Need-same-length
 same-length c = search needs
 
 returns-2 : tie.Need-returns-2
-returns-2 c = fresh-made _ (c .before .before .before .before .if1 .left) (c .before .before .clear .ensures)
+returns-2 c =
+    let at-clear = c .before .before in
+    let at-if1 = at-clear .before .before in
+    let at-args = at-if1 .before .before in
+    fresh-made (at-args .args .tables .now) (at-if1 .if1 .left) (at-clear .clear .ensures)
 
 pub fresh-spec : {M : Type 1} → statement M
 fresh-spec = tie.close (tie.spec returns clear-requires same-length returns-2)

@@ -15,13 +15,22 @@ same-length : tie.Need-same-length
 same-length c = search needs
 
 returns : tie.Need-returns
-returns c = search create-refused
+returns c =
+    let at-if1 = c .before in
+    let at-place = at-if1 .before in
+    create-refused _ (at-place .place .ensures) (at-if1 .if1 .taken) (c .plain .ensures)
 
 new-thread-requires : tie.Need-new-thread-requires
 new-thread-requires c κs = search needs
 
 enqueue-requires : tie.Need-enqueue-requires
-enqueue-requires c κs = search enqueue-asked
+enqueue-requires c κs =
+    let at-new-thread = c .before .before .before in
+    let at-if1 = at-new-thread .before .before in
+    let at-place = at-if1 .before in
+    let at-start = at-place .before .before .before in
+    enqueue-asked _ (at-place .place .ensures) (at-if1 .if1 .left) (at-new-thread .new-thread .ensures)
+    (at-start .pre)
 
 done-requires : tie.Need-done-requires
 done-requires c κs = search create-chooses

@@ -19,7 +19,9 @@ returns : tie.Need-returns
 returns c = search destroy-refused
 
 drop-debt-requires : tie.Need-drop-debt-requires
-drop-debt-requires c κs = search drop-asked
+drop-debt-requires c κs =
+    let at-start = c .before .before .before .before .before in
+    drop-asked (at-start .pre)
 
 leave-requires : tie.Need-leave-requires
 leave-requires c κs = search leave-asked

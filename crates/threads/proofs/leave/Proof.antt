@@ -34,7 +34,11 @@ cast-leave-endpoint-2 : tie.Need-cast-leave-endpoint-2
 cast-leave-endpoint-2 c = search needs
 
 leave-endpoint-requires-2 : tie.Need-leave-endpoint-requires-2
-leave-endpoint-requires-2 c κs = search receiving-asked
+leave-endpoint-requires-2 c κs =
+    let at-if3 = c .before in
+    let at-if2 = at-if3 .before in
+    let at-start = at-if2 .before .before .before in
+    receiving-asked (at-if2 .if2 .left) (at-if3 .if3 .taken) (at-start .pre)
 
 same-length-3 : tie.Need-same-length-3
 same-length-3 c = search needs

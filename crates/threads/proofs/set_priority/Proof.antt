@@ -29,7 +29,14 @@ same-length-2 : tie.Need-same-length-2
 same-length-2 c = search needs
 
 returns-2 : tie.Need-returns-2
-returns-2 c = search priority-same
+returns-2 c =
+    let at-done = c .before .before in
+    let at-if2 = at-done .before .before in
+    let at-priority = at-if2 .before in
+    let at-if1 = at-priority .before .before in
+    let at-place = at-if1 .before in
+    priority-same _ (at-place .place .ensures) (at-if1 .if1 .left) (at-priority .priority .ensures)
+    (at-if2 .if2 .taken) (at-done .done .ensures)
 
 change-requires : tie.Need-change-requires
 change-requires c κs =

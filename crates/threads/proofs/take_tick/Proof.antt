@@ -20,7 +20,12 @@ same-length : tie.Need-same-length
 same-length c = search needs
 
 returns : tie.Need-returns
-returns c = search one-tick
+returns c =
+    let at-store = c .before .before .before .before in
+    let at-lend-to-tick = at-store .before .before in
+    let at-load = at-lend-to-tick .before in
+    one-tick (at-load .load .ensures) (at-lend-to-tick .lend-to-tick .ensures) (at-store .store .ensures)
+    (c .if1 .taken)
 
 stand-down-requires : tie.Need-stand-down-requires
 stand-down-requires c κs = search stand-asked

@@ -12,7 +12,9 @@ same-length : tie.Need-same-length
 same-length c = search needs
 
 returns : tie.Need-returns
-returns c = search nobody-ticks
+returns c =
+    let at-running = c .before in
+    nobody-ticks (at-running .running .ensures) (c .if1 .taken)
 
 sub-take-tick : tie.Need-sub-take-tick
 sub-take-tick c = search needs

@@ -6,10 +6,15 @@ use Rattle.threads.proofs.yield_running.Statement.{statement}
 use Rattle.threads.proofs.yield_running.Tie as tie
 
 drop-debt-requires : tie.Need-drop-debt-requires
-drop-debt-requires c κs = search yield-asked
+drop-debt-requires c κs =
+    let at-start = c .before .before in
+    yield-asked (at-start .pre)
 
 stand-down-requires : tie.Need-stand-down-requires
-stand-down-requires c κs = search down-asked
+stand-down-requires c κs =
+    let at-drop-debt = c .before .before .before in
+    let at-start = at-drop-debt .before .before .before in
+    down-asked (at-drop-debt .drop-debt .ensures) (at-start .pre)
 
 done-requires : tie.Need-done-requires
 done-requires c κs = search yield-chooses

@@ -15,13 +15,20 @@ same-length : tie.Need-same-length
 same-length c = search needs
 
 returns : tie.Need-returns
-returns c = search present-refused depth 9
+returns c =
+    let at-if1 = c .before in
+    let at-status = at-if1 .before in
+    present-refused (at-status .status .ensures) (at-if1 .if1 .taken) (c .plain .ensures)
 
 set-status-requires : tie.Need-set-status-requires
 set-status-requires c κs = search needs
 
 done-requires : tie.Need-done-requires
-done-requires c κs = search made-asked depth 9
+done-requires c κs =
+    let at-set-status = c .before .before .before in
+    let at-status = at-set-status .before .before .before in
+    let at-start = at-status .before .before .before in
+    made-asked (at-status .status .ensures) (at-set-status .set-status .ensures) (at-start .pre)
 
 same-length-2 : tie.Need-same-length-2
 same-length-2 c = search needs

@@ -15,7 +15,11 @@ same-length : tie.Need-same-length
 same-length c = search needs
 
 returns : tie.Need-returns
-returns c = search fired-quiet depth 9
+returns c =
+    let at-set-line = c .before .before in
+    let at-if1 = at-set-line .before .before in
+    let at-line = at-if1 .before in
+    fired-quiet (at-line .line .ensures) (at-if1 .if1 .taken) (at-set-line .set-line .ensures)
 
 same-length-2 : tie.Need-same-length-2
 same-length-2 c = search needs
@@ -39,7 +43,14 @@ same-length-3 : tie.Need-same-length-3
 same-length-3 c = search needs
 
 returns-3 : tie.Need-returns-3
-returns-3 c = search fired-awaited depth 9
+returns-3 c =
+    let at-wake = c .before .before in
+    let at-set-line2 = at-wake .before .before .before .before in
+    let at-if2 = at-set-line2 .before .before in
+    let at-if1 = at-if2 .before in
+    let at-line = at-if1 .before in
+    fired-awaited (at-line .line .ensures) (at-if1 .if1 .left) (at-if2 .if2 .left) (at-set-line2 .set-line2 .ensures)
+    (at-wake .wake .ensures)
 
 pub fire-spec : {M : Type 1} → statement M
 fire-spec =

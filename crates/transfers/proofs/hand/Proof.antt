@@ -47,13 +47,25 @@ wake-from-requires c κs =
     receiver-asked (f .first-at .ensures) (c .before .if1 .left) (f .before .before .before .pre)
 
 done-requires : tie.Need-done-requires
-done-requires c κs = search handed-asked depth 9
+done-requires c κs =
+    let at-wake-from = c .before .before .before in
+    let at-if1 = at-wake-from .before .before in
+    let at-first-at = at-if1 .before in
+    let at-start = at-first-at .before .before .before in
+    handed-asked (at-first-at .first-at .ensures) (at-if1 .if1 .left) (at-wake-from .wake-from .ensures)
+    (at-start .pre)
 
 same-length-2 : tie.Need-same-length-2
 same-length-2 c = search needs
 
 returns-2 : tie.Need-returns-2
-returns-2 c = search handed depth 9
+returns-2 c =
+    let at-done = c .before .before in
+    let at-wake-from = at-done .before .before .before .before in
+    let at-if1 = at-wake-from .before .before in
+    let at-first-at = at-if1 .before in
+    handed (at-first-at .first-at .ensures) (at-if1 .if1 .left) (at-wake-from .wake-from .ensures)
+    (at-done .done .ensures)
 
 pub hand-spec : {M : Type 1} → statement M
 hand-spec =

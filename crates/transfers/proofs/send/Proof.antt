@@ -37,7 +37,14 @@ same-length-3 : tie.Need-same-length-3
 same-length-3 c = search needs
 
 returns-3 : tie.Need-returns-3
-returns-3 c = search send-under depth 9
+returns-3 c =
+    let at-if3 = c .before in
+    let at-under-abort = at-if3 .before in
+    let at-if2 = at-under-abort .before .before in
+    let at-if1 = at-if2 .before in
+    let at-status = at-if1 .before in
+    send-under (at-status .status .ensures) (at-if1 .if1 .left) (at-if2 .if2 .left)
+    (at-under-abort .under-abort .ensures) (at-if3 .if3 .taken) (c .plain3 .ensures)
 
 drop-debt-requires : tie.Need-drop-debt-requires
 drop-debt-requires c κs = search debtor-asked depth 9

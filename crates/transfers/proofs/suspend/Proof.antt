@@ -12,13 +12,20 @@ plain-requires : tie.Need-plain-requires
 plain-requires c κs = search needs
 
 accept-requires : tie.Need-accept-requires
-accept-requires c κs = search blocked-asked depth 9
+accept-requires c κs =
+    let at-block = c .before .before .before .before in
+    let at-start = at-block .before .before .before in
+    blocked-asked (at-block .block .ensures) (at-start .pre)
 
 same-length : tie.Need-same-length
 same-length c = search needs
 
 returns : tie.Need-returns
-returns c = search suspended depth 9
+returns c =
+    let at-accept = c .before .before in
+    let at-plain = at-accept .before .before in
+    let at-block = at-plain .before .before .before in
+    suspended (at-block .block .ensures) (at-plain .plain .ensures) (at-accept .accept .ensures)
 
 pub suspend-spec : {M : Type 1} → statement M
 suspend-spec =

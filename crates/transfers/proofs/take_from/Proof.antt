@@ -23,7 +23,13 @@ same-length : tie.Need-same-length
 same-length c = search needs
 
 returns : tie.Need-returns
-returns c = search taken depth 9
+returns c =
+    let at-accept = c .before .before in
+    let at-wake-from = at-accept .before .before .before .before in
+    let at-message = at-wake-from .before .before in
+    let at-badge = at-message .before .before in
+    taken (at-wake-from .wake-from .ensures) (at-badge .badge .ensures) (at-message .message .ensures)
+    (at-accept .accept .ensures)
 
 pub take-from-spec : {M : Type 1} → statement M
 take-from-spec =

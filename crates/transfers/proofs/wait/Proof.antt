@@ -39,7 +39,14 @@ same-length-2 : tie.Need-same-length-2
 same-length-2 c = search needs
 
 returns-2 : tie.Need-returns-2
-returns-2 c = search waited-pending depth 9
+returns-2 c =
+    let at-done = c .before .before in
+    let at-set-line = at-done .before .before .before .before in
+    let at-if2 = at-set-line .before .before in
+    let at-drop-debt = at-if2 .before .before .before in
+    let at-line = at-drop-debt .before .before .before in
+    waited-pending (at-line .line .ensures) (at-drop-debt .drop-debt .ensures) (at-if2 .if2 .taken)
+    (at-set-line .set-line .ensures) (at-done .done .ensures)
 
 add-set-line : tie.Need-add-set-line
 add-set-line c =

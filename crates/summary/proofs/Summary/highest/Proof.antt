@@ -1,6 +1,7 @@
 -- `summary::Summary::highest` meets its contract: the highest word that is not 0, and that word's highest bit.
 -- Assumes nothing.
 use borrow.Author.Needs.{needs}
+use native.Mathlib.Omega.{arith}
 use Rattle.summary.proofs.Found.{Led, led, finds-nothing, finds-level}
 use Rattle.summary.proofs.Summary.highest.Statement.{statement}
 use Rattle.summary.proofs.Summary.highest.Tie as tie
@@ -13,7 +14,7 @@ led-here : (c : tie.Else1) → Led (c .before .args .t1) (c .before .pre .levels
 led-here c = led (c .before .args .t1) (c .before .pre .levels) (c .before .pre .shown) (c .if1 .left)
 
 sub-w : tie.Need-sub-w
-sub-w c = led-here c .fits
+sub-w c = omega (arith, led-here c .fits)
 
 cast-i : tie.Need-cast-i
 cast-i c = search needs
@@ -22,10 +23,10 @@ mul-word : tie.Need-mul-word
 mul-word c = search needs
 
 element-copy-out-word : tie.Need-element-copy-out-word
-element-copy-out-word c = led-here c .inside
+element-copy-out-word c = omega (arith, led-here c .inside)
 
 sub-bit : tie.Need-sub-bit
-sub-bit c = led-here (c .before) .fits-word
+sub-bit c = omega (arith, led-here (c .before) .fits-word)
 
 mul-level : tie.Need-mul-level
 mul-level c = search needs

@@ -1,7 +1,6 @@
 -- A thread of a level's queue, by the words read. Assumes nothing.
-use native.Mathlib.Numerals.{add-one}
 use borrow.Author.Needs.{needs}
-use Rattle.checks.specs.Checks.{readyTest}
+use Rattle.walks.proofs.Placing.{ready-is}
 use Rattle.walks.proofs.levels.ready.Statement.{statement}
 use Rattle.walks.proofs.levels.ready.Tie as tie
 
@@ -21,8 +20,12 @@ add-result : tie.Need-add-result
 add-result c = search needs
 
 returns : tie.Need-returns
-unfolding readyTest
-returns c = cc (add-one (c .before .before .before .before .before .args .t))
+returns c =
+    let at-priority = c .before in
+    let at-place = at-priority .before in
+    let at-prev = at-place .before in
+    ready-is _ _ _ _ (at-prev .prev .ensures) (at-place .place .ensures) (at-priority .priority .ensures)
+    (c .running .ensures)
 
 pub ready-spec : {M : Type 1} → statement M
 ready-spec =
