@@ -15,7 +15,8 @@ use Rattle.machine.specs.Machine.{fire, interrupt, leaveTicks, tickFor, 
 use Rattle.machine.specs.Machine.{receiveFrom, receiveAt, receive, yield, waitAt, wait, perform, performIf}
 use Rattle.machine.specs.Machine.{step}
 use Rattle.machine.specs.History.{named, leftOf, begins, ends, passes, settles, settle, takes, takeLook, walk}
-use Rattle.machine.specs.History.{takesUp, joinsIn, letsGo, hears, closes, close, deletes, walks, abortsBy, abortsOf, outcomeOf}
+use Rattle.machine.specs.History.{takesUp, joinsIn, letsGo, hears, closes, close, deletes, walks, abortsBy}
+use Rattle.machine.specs.History.{abortsOf, outcomeOf}
 use Rattle.machine.specs.History.{outcomeIf, deliveredIf, delivered, abortCallsOf, recorded, told, runFrom}
 
 unfoldable pub computed : Unit {0}
@@ -26,6 +27,7 @@ unfolding put without only enqueue unqueue standDown wake block highestBelow hig
     abortUnless abort createIf createThread leaveReady leave destroyIf destroyThread moveReady changeUnless priorityIf
     setPriority createAt createEndpoint fire interrupt leaveTicks tickFor tick sendTo sendUnless sendAt send receiveFrom
     receiveAt receive yield waitAt wait perform performIf step named leftOf begins ends passes settles settle takes
-    takeLook walk takesUp joinsIn letsGo hears closes close deletes walks abortsBy abortsOf outcomeOf outcomeIf deliveredIf delivered
+    takeLook walk takesUp joinsIn letsGo hears closes close deletes walks abortsBy abortsOf outcomeOf outcomeIf
+    deliveredIf delivered
     abortCallsOf recorded told runFrom
 computed = tt

@@ -24,7 +24,8 @@ use Rattle.machine.proofs.Aborting.{running-present}
 use Rattle.machine.proofs.Standing.{Stood, Core}
 use Rattle.machine.proofs.Ending.{core-end}
 use Rattle.machine.proofs.Owing.{tied-free, tied-end}
-use Rattle.machine.proofs.Walks.{put-again, Gone, walkAt, Going, going-abort, left-some, left-none, settle-pending}
+use Rattle.machine.proofs.Walks.{put-again, Gone, walkAt, Going, going-abort, left-some, left-none}
+use Rattle.machine.proofs.Walks.{settle-pending}
 use Rattle.machine.proofs.Looks.{Frame, frame-then, frame-keep, Walked, walked}
 use Rattle.machine.proofs.Runs.{More, more-cons, walk-keeps, keeps-endAbort, walk-settle, walk-nil, Ran}
 use Rattle.machine.proofs.Runs.{own-begins}
@@ -204,7 +205,8 @@ module _
           → Ran past answers since standing t e b place s a start (finished l t e a b r)
       go [] h =
           finishes r (H .abort) d (H .going) other (T .debt t ∙ free) (A .0) (A .1) (A .2)
-          (T .entry e .status ∙ lives) frame E (T .runs ∙ runs) (a - length (r .looks)) goes (ap pendingOf (sym (A .1)) ∙ h)
+          (T .entry e .status ∙ lives) frame E (T .runs ∙ runs) (a - length (r .looks)) goes
+          (ap pendingOf (sym (A .1)) ∙ h)
       go (u ∷ l) h =
           breaks r (H .abort) d (H .going) other (T .debt t ∙ free) (A .0) (A .1) (A .2)
           (T .entry e .status ∙ lives) frame E u l

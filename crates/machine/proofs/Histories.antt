@@ -118,6 +118,24 @@ joined-history :
 unfolding tableOf reportsOf joined computed answer done blocked abort ends hands reports
 joined-history = refl
 
+-- Between call 8 and call 10: nobody works at the endpoint, and thread 1 has the note; afterwards it is used up.
+owed : List Call
+owed =
+    CreateThread 2 5 ∷ CreateEndpoint 0 ∷ Send 0 7 100 ∷ CreateThread 3 5 ∷ Send 0 7 101 ∷ CreateThread 1 10
+    ∷ Abort 0 1 7 ∷ CreateThread 6 11 ∷ Abort 0 5 7 ∷ DestroyThread 6 ∷ []
+
+owed-worker : historyOf owed .aborts .debts .workers 0 ≡ []
+unfolding owed computed
+owed-worker = refl
+
+owed-note : historyOf owed .aborts .debts .notes 1 ≡ reports 0 7 6
+unfolding owed computed reports
+owed-note = refl
+
+used-note : historyOf joined .aborts .debts .notes 1 ≡ none
+unfolding joined computed
+used-note = refl
+
 -- The abort broken off in call 6 is ended by the delete of call 8, and the endpoint is made anew. Its owner's note is
 -- answered while a message of the badge's new holder is queued, which stays and is received.
 made-anew : List Call

@@ -18,7 +18,8 @@ use Rattle.machine.specs.Results.{plain}
 use Rattle.machine.specs.Sound.{Sound, Queued}
 use Rattle.machine.specs.History.{Aborting, Ended, Delivery, NamedLook, AbortCall, Waiting, History, lineName}
 use Rattle.machine.specs.History.{waitingIn}
-use Rattle.machine.specs.Claim.{In, IsAbort, isSend, isOld, removedBy, less, Reports, Hands, Named, QueuesAt, WaitsOn}
+use Rattle.machine.specs.Claim.{In, IsAbort, isSend, isOld, removedBy, less, Reports, Hands, Named}
+use Rattle.machine.specs.Claim.{QueuesAt, WaitsOn}
 use Rattle.machine.specs.Claim.{Claim}
 use Rattle.machine.specs.Tied.{Tied}
 use Rattle.machine.proofs.Sublists.{Apart, map-mem, map-only, distinct-map, entry-grow}

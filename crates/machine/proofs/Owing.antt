@@ -1,5 +1,5 @@
--- The machine's ownerships and notes are the history's, step by step: dropping a debt, the beginning, joining and end of
--- an abort, and steps that leave them. Assumes nothing.
+-- The machine's ownerships and notes are the history's, step by step: dropping a debt, the beginning, joining and end
+-- of an abort, and steps that leave them. Assumes nothing.
 use Prim.Native.Nat.{ℕ}
 use mathlib.Core.Path.{_≡_, refl, sym, _∙_, ap, subst}
 use mathlib.Core.Logic.{inl, inr}
@@ -21,7 +21,6 @@ use Rattle.machine.specs.Claim.{In}
 use Rattle.machine.specs.Tied.{listOf, noteIn, noteFrom, Tied}
 use Rattle.machine.proofs.Lists.{Same, same, other, same?, put-all, put-same, put-other, without-hit}
 use Rattle.machine.proofs.Lists.{without-miss, without-nil}
-use Rattle.machine.proofs.Ready.{none-some}
 use Rattle.machine.proofs.Debts.{nothing-owns, noted-owns, owns-one, dropDebt-drops}
 use Rattle.machine.proofs.Looking.{steady-wakeFrom}
 

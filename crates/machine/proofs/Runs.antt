@@ -159,7 +159,8 @@ module _
     -- The abort x of the call's badge, after the looks: it ends if nothing is left.
     own-ends :
         (q : State) (x : Aborting) (d : Gone) (looks : List Look)
-        → Going past answers (suc place) since standing e q (some x) d → x .badge ≡ b → q .endpoints e .status ≡ live → Frame since e s q looks
+        → Going past answers (suc place) since standing e q (some x) d → x .badge ≡ b
+        → q .endpoints e .status ≡ live → Frame since e s q looks
         → walk (namedLooks since looks) a course start ≡ walkAt since e q (some x) d
         → More place (start .ended) (d .ended) → Ran s a start (ended (pendingAt e q) t e looks q)
     unfolding ended close closes ends
@@ -191,7 +192,8 @@ module _
             (core-end past answers (suc place) since (dropDebt t q) (put standing e (some x)) (d .ended)
             (core-leaves past (suc place) (suc place) (omega arith) since (q .threads) (dropDebt t q .threads) answers
             (put standing e (some x)) (d .ended) (leaves-dropDebt t q) (G .core))
-            e (mid-dropDebt q t (G .mid)) live k x place was (put-same standing e (some x)) (omega arith) (λ i. h) (λ i. dropDebt-drops q t .status e ∙ lives))
+            e (mid-dropDebt q t (G .mid)) live k x place was (put-same standing e (some x)) (omega arith) (λ i. h)
+            (λ i. dropDebt-drops q t .status e ∙ lives))
 
         go : (l : List ℕ) → pendingAt e q ≡ l → Ran s a start (ended l t e looks q)
         go [] h =
@@ -256,7 +258,8 @@ module _
     -- The abort x of the call's badge, with allowance k, after the looks made earlier in the call.
     pub own-works :
         (k : ℕ) (earlier : List Look) (q : State) (x : Aborting) (d : Gone)
-        → Going past answers (suc place) since standing e q (some x) d → x .badge ≡ b → q .endpoints e .status ≡ live → Frame since e s q earlier
+        → Going past answers (suc place) since standing e q (some x) d → x .badge ≡ b
+        → q .endpoints e .status ≡ live → Frame since e s q earlier
         → ((l : List NamedLook)
         → walk (namedLooks since earlier ++ l) a course start ≡ walk l k course (walkAt since e q (some x) d))
         → More place (start .ended) (d .ended) → Ran s a start (workOwn t e k earlier q)

@@ -210,7 +210,8 @@ map-agree f g (x ∷ l) h = rw (h x (inl refl), map-agree f g l (λ t m. h t (in
 
 -- The names of those that pass a test.
 pub map-only :
-    (f : ℕ → ℕ) (p q : ℕ → Bool) (l : List ℕ) → ((t : ℕ) → Mem t l → p t ≡ q (f t)) → map f (only p l) ≡ only q (map f l)
+    (f : ℕ → ℕ) (p q : ℕ → Bool) (l : List ℕ) → ((t : ℕ) → Mem t l → p t ≡ q (f t))
+    → map f (only p l) ≡ only q (map f l)
 unfolding only
 map-only f p q [] h = refl
 map-only f p q (x ∷ l) h = rw (h x (inl refl)) (go (q (f x)) (map-only f p q l (λ t m. h t (inr m))))

@@ -65,7 +65,9 @@ dropsIf false c o = none
 -- The call drops those debts, and leaves the others.
 pub data Sheds (s : State) (c : Call) (r : Result) : Type 0 where
   keeps : dropsIf (isAccepted (r .answer)) c (s .runs) ≡ none → Still s (r .state) → Sheds s c r
-  sheds : (t : ℕ) → dropsIf (isAccepted (r .answer)) c (s .runs) ≡ some t → Still (dropDebt t s) (r .state) → Sheds s c r
+  sheds :
+      (t : ℕ) → dropsIf (isAccepted (r .answer)) c (s .runs) ≡ some t → Still (dropDebt t s) (r .state)
+      → Sheds s c r
 
 pub data Turn (s : State) (c : Call) (r : Result) : Type 0 where
   idle : Leaves s (r .state) → queues? c (r .answer .code) ≡ false → Sheds s c r → Turn s c r
@@ -299,7 +301,8 @@ module _ (s : State) (S : Sound s) where
         go : (x : Line) → Turn s (Wait l) (waitAt x t l s)
         go quiet =
             blocks (block-at (Wait l) (waiting l) 0 0 refl refl _ refl (λ e. refl) (λ e. refl) (λ e. inl refl))
-            (sheds-block (Wait l) (waiting l) 0 0 runs (setLine l (awaited t) (dropDebt t s)) (still-self (dropDebt t s)))
+            (sheds-block (Wait l) (waiting l) 0 0 runs (setLine l (awaited t) (dropDebt t s))
+            (still-self (dropDebt t s)))
         go pending =
             idle (leaves-choose s _ (leaves-dropDebt t s)) refl
             (sheds t runs (still-choose (dropDebt t s) _ (still-self (dropDebt t s))))

@@ -249,7 +249,8 @@ hider s c = withState (hiding (step s c .state)) (step s c)
 
 -- Its abort goes on to look at a destroyed thread.
 unfoldable pub ghost : State → Call → Result
-ghost s c = instead2 (λ t. withState (withMarks s (step s (DestroyThread t) .state)) (step s (DestroyThread t))) c (step s c)
+ghost s c =
+    instead2 (λ t. withState (withMarks s (step s (DestroyThread t) .state)) (step s (DestroyThread t))) c (step s c)
 
 -- It tries 23 and 25 before the note.
 abbrev late : Status → ℕ → ℕ → ℕ → ℕ → State → Result

@@ -1,6 +1,7 @@
 -- Lists of calls: what has come of a list of calls made in turn from fresh tables, told in the terms of the section
--- of that name. It reads each call, its answer, who ran when it was made, the queues and who sends in them, and the
--- log of looks. Of the machine's aborts, their owners and pending waiters, and of what a thread owes, it reads nothing.
+-- of that name. It reads each call, its answer, who ran when it was made, the queues and who sends in them
+-- (waitingIn), and the log of looks. Of the machine's aborts, of their owners and pending waiters, and of what a
+-- thread owes it reads nothing.
 use Prim.Native.Nat.{ℕ, zero, suc, _-_}
 use mathlib.Core.Bool.{Bool, true, false, _&&_, _||_, not}
 use mathlib.Core.Option.{Option, none, some}
