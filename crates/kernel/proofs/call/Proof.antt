@@ -33,7 +33,8 @@ same-length-4 c = search needs
 
 returns-2 : tie.Need-returns-2
 returns-2 c =
-    step-taken _ _ (c .before .before .before .before .before .before .before .check .ensures) _
+    let checked = c .before .before .before .before .before .before .before in
+    step-taken _ _ (checked .check .ensures) (checked .before .before .before .before .before .args .c)
     (c .before .before .before .before .if1 .left) (c .before .before .step .ensures)
 
 pub call-spec : {M : Type 1} → statement M

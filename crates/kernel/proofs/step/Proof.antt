@@ -13,8 +13,7 @@ plain-requires c κs = search needs
 
 returns : tie.Need-returns
 returns c =
-    out-of-range (c .before .before .before .before .args .c) (c .before .before .in-range .ensures)
-    (not-true _ (c .before .if1 .taken)) (c .plain .ensures)
+    out-of-range _ (c .before .before .in-range .ensures) (not-true _ (c .before .if1 .taken)) (c .plain .ensures)
 
 perform-requires : tie.Need-perform-requires
 perform-requires c κs =
