@@ -16,9 +16,10 @@ use Rattle.listing.specs.Line.{header}
 use Rattle.input.specs.Words.{wordsIn}
 use Rattle.lister.specs.Listing.{linesOf, oddRows, rowsIn, listingOf, callRows, Begins}
 use Rattle.lister.specs.Feeding.{Told, fed, ending, fedParts, joined, starting}
-use Rattle.lister.proofs.Feeding.{fed-append, parts-joined}
+use Rattle.lister.proofs.Feeding.{following, fed-append, parts-joined}
 use Rattle.lister.proofs.Streams.{Streams, streams}
 
+-- Tables made fresh are those of the fresh state.
 made-fresh : (m : List ℕ) → length m ≡ 4096 → freshened m .tables ≡ image freshState
 unfolding freshened
 made-fresh m h = rw (eq-eqb (length m) 4096 h)
@@ -45,8 +46,9 @@ listed-in-one :
 unfolding listingOf rowsIn
 listed-in-one bytes m x hm hx few = ap (λ (l : List ℕ). header ++ l) (in-one bytes m x hm hx few .whole)
 
--- For every division of the bytes into parts, from whatever the lent tables held before they were made fresh, the bytes
--- written are the listing of the whole. The bound is there because a line's index has 64 bits.
+-- For every division of the bytes into parts, from whatever the lent tables held before they were made fresh, the
+-- header and the bytes written, with those at the end, are the listing of the whole. The bound is there because a
+-- line's index has 64 bits.
 pub every-division :
     (parts : List (List ℕ)) (m x : List ℕ) → length m ≡ 4096 → length x ≡ 256 → length (joined parts) < 2 ^ 64
     → header
@@ -78,11 +80,9 @@ no-more parts behind m x hm hx few =
     let t = fedParts parts s in
     let u = fed behind (t .after) in
     let end = ending (u .after) in
-    let first : fed (joined parts ++ behind) s ≡ record { after = u .after; text = t .text ++ u .text } =
+    let first : fed (joined parts ++ behind) s ≡ following t u =
     fed-append (joined parts) behind s
-    ∙ ap (λ (k : Told).
-    record { after = fed behind (k .after) .after; text = k .text ++ fed behind (k .after) .text })
-    (sym (parts-joined parts s)) in
+    ∙ ap (λ (k : Told). following k (fed behind (k .after))) (sym (parts-joined parts s)) in
     record {
       more = u .text ++ end;
       whole =

@@ -79,7 +79,8 @@ on held i s x = record { held = held; index = i; going = true; tables = image s;
 
 module _ (b : ℕ) (held : List ℕ) (i : ℕ) (s : State) (x : List ℕ) where
   -- Bytes that are not ready are held,
-  pub byte-held : ready (held ++ (b ∷ [])) ≡ false → byteTo b (on held i s x) ≡ holding (held ++ (b ∷ [])) (on held i s x)
+  pub byte-held :
+      ready (held ++ (b ∷ [])) ≡ false → byteTo b (on held i s x) ≡ holding (held ++ (b ∷ [])) (on held i s x)
   unfolding byteTo
   byte-held e =
       ap

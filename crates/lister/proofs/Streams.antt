@@ -31,6 +31,7 @@ pub record Streams (t : Told) (rows odd : List Row) : Type 0 where
   pub whole : t .text ++ ending (t .after) ≡ linesOf (rows ++ odd)
   pub begun : Begins (linesOf (callRows rows)) (t .text)
 
+-- The same told of the same rows.
 alike :
     {t u : Told} {rows rows′ odd odd′ : List Row} → t ≡ u → rows ≡ rows′ → odd ≡ odd′
     → Streams u rows′ odd′ → Streams t rows odd
