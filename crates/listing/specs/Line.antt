@@ -6,8 +6,6 @@ use mathlib.Core.Option.{Option, none, some}
 use mathlib.Core.List.{List, [], _∷_, _++_}
 use lib.Dec.{ltb}
 use Rattle.machine.specs.declared.Answer.{Answer}
-use Rattle.listing.specs.declared.Running.{Running}
-use Rattle.listing.specs.declared.Running.the-variants.{Nobody, Thread}
 
 -- The byte of a digit, 0 to 9.
 abbrev pub digit : ℕ → ℕ
@@ -41,11 +39,6 @@ runner (some t) = decimal t
 -- A line: index, call number, answer, who runs, and a newline.
 unfoldable pub lineOf : ℕ → ℕ → Answer → Option ℕ → List ℕ
 lineOf index call a running = spaced index ++ spaced call ++ answerText a ++ runner running ++ (10 ∷ [])
-
--- The code's name for who runs.
-abbrev pub threadOf : Running → Option ℕ
-threadOf Nobody = none
-threadOf (Thread t) = some t
 
 -- The header: "n call code count badge message running" and a newline, a word to a row.
 abbrev pub header : List ℕ

@@ -1,17 +1,13 @@
 // The listing's text: a line for a call and its answer, and the header, made into a lent buffer.
-// Which bytes they are stands in specs/Line.antt; that different lines are different bytes stands in proofs/Lines.antt.
+// Which bytes they are stands in specs/Line.antt; that different lines are different bytes stands in proofs/Apart.antt.
 ghost use mathlib.Core.Path.{_≡_};
 ghost use Prim.Native.Nat.{_+_, _≤_};
 ghost use lib.ListN.{length};
-ghost use Rattle.listing.specs.Line.{decimal, spaced, answerText, runner, threadOf, lineOf, header};
+ghost use Rattle.machine.specs.Results.{threadOf};
+ghost use Rattle.listing.specs.Line.{decimal, spaced, answerText, runner, lineOf, header};
 ghost use Rattle.listing.specs.Buffer.{written, after, Counts, Wrote};
 use machine::Answer;
-
-// Who runs after a call.
-pub enum Running {
-    Nobody,
-    Thread(u32),
-}
+use machine::Runner;
 
 // Room for every line, whatever its numbers; the longest has 87 bytes.
 const ROOM: usize = 96;
@@ -68,22 +64,22 @@ fn fields(out: &mut [u8], at: usize, a: Answer) -> usize
 }
 
 // Who runs, in at most ten bytes: a thread, or the sign - for nobody.
-fn who(out: &mut [u8], at: usize, running: Running) -> usize
+fn who(out: &mut [u8], at: usize, running: Runner) -> usize
     requires { ⌜ at + 10 ≤ length (now out) ⌝ }
     ensures { λ r. ⌜ Wrote (now (out .entry)) at (runner (threadOf running)) r (now (out .exit)) ⌝ }
     ensures { λ r. ⌜ r ≤ at + 10 ⌝ }
 {
     match running {
-        Running::Nobody => {
+        Runner::Nobody => {
             out[at] = b'-';
             at + 1
         }
-        Running::Thread(t) => number(out, at, t as u64),
+        Runner::Thread(t) => number(out, at, t as u64),
     }
 }
 
 // One line at the front of the buffer, if it has 96 bytes; how many bytes were written.
-pub fn line(out: &mut [u8], index: u64, call: u32, answer: Answer, running: Running) -> usize
+pub fn line(out: &mut [u8], index: u64, call: u32, answer: Answer, running: Runner) -> usize
     ensures { λ r. ⌜ r ≡ written (lineOf index call answer (threadOf running)) (now (out .entry)) ⌝ }
     ensures { λ r. ⌜ now (out .exit) ≡ after (lineOf index call answer (threadOf running)) (now (out .entry)) ⌝ }
     ensures { λ r. ⌜ Counts r (now (out .exit)) ⌝ }

@@ -1,8 +1,11 @@
 -- What a call comes to: the new state, the answer and, for call 12, its looks.
 use Prim.Native.Nat.{ℕ}
 use mathlib.Core.Bool.{Bool}
+use mathlib.Core.Option.{Option, none, some}
 use mathlib.Core.List.{List, []}
 use Rattle.machine.specs.declared.Answer.{Answer}
+use Rattle.machine.specs.declared.Runner.{Runner}
+use Rattle.machine.specs.declared.Runner.the-variants.{Nobody, Thread}
 use Rattle.machine.specs.State.{State}
 use Rattle.machine.specs.Scheduling.{choose}
 
@@ -38,3 +41,8 @@ done s = accept (plain 0) [] s
 
 abbrev pub blocked : State → Result
 blocked s = accept (plain 1) [] s
+
+-- The code's name for who runs.
+abbrev pub threadOf : Runner → Option ℕ
+threadOf Nobody = none
+threadOf (Thread t) = some t

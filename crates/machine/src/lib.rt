@@ -54,6 +54,12 @@ pub struct Answer {
     pub message: u32,
 }
 
+// Who runs after a call.
+pub enum Runner {
+    Nobody,
+    Thread(u32),
+}
+
 // The call's number, 1 to 12.
 pub fn number(c: Call) -> u32
     ensures { λ r. ⌜ r ≡ numberOf c ⌝ }

@@ -1,11 +1,11 @@
--- `listing::who` meets its contract, by the two cases of `Running`: one byte, or a word's digits, ten at most.
+-- `listing::who` meets its contract, by the two cases of `Runner`: one byte, or a word's digits, ten at most.
 -- Assumes nothing.
 use mathlib.Core.Path.{refl, ap}
 use native.Mathlib.Nat.{lt-trans}
 use native.Mathlib.Omega.{arith}
 use lib.Dec.{lit<}
 use borrow.Author.Needs.{needs}
-use Rattle.listing.specs.Line.{threadOf}
+use Rattle.machine.specs.Results.{threadOf}
 use Rattle.listing.proofs.Digits.{length-below}
 use Rattle.listing.proofs.Texts.{wrote-byte}
 use Rattle.listing.proofs.Parts.{nobody-wrote, thread-wrote}

@@ -1,0 +1,112 @@
+-- The lister: it is fed the bytes of a journal one by one, and a part of them is their fold. How its text comes to be
+-- `listingOf` of all bytes is known by the theorems of proofs/Division; these definitions are for reading contracts.
+use Prim.Native.Nat.{ℕ, _+_, _*_, _%_, _^_}
+use mathlib.Core.Bool.{Bool, true, false, _&&_}
+use mathlib.Core.List.{List, [], _∷_, _++_}
+use lib.Dec.{leb}
+use lib.ListN.{length}
+use Rattle.machine.specs.Calls.{numberOf}
+use Rattle.machine.specs.Lists.{pick}
+use Rattle.machine.specs.Results.{plain, threadOf}
+use Rattle.journal.specs.Words.{topByte, wordsTaken, readAt}
+use Rattle.listing.specs.Line.{lineOf}
+use Rattle.kernel.specs.Entry.{runningLink}
+use Rattle.input.specs.Words.{littleEndian, wordsIn}
+use Rattle.rows.specs.declared.Turn.{Turn}
+use Rattle.rows.specs.declared.Turn.the-variants.{Took, Stopped, Over}
+use Rattle.rows.specs.Turns.{runnerOf, Turned, turned}
+
+-- Between two bytes: those of a call that is not yet whole, the next line's index, whether the listing goes on, and
+-- the lent tables and scratch.
+pub record Standing : Type 0 where
+  pub held : List ℕ
+  pub index : ℕ
+  pub going : Bool
+  pub tables : List ℕ
+  pub scratch : List ℕ
+
+-- Where it stands afterwards, and the bytes of the listing that are written.
+pub record Told : Type 0 where
+  pub after : Standing
+  pub text : List ℕ
+
+-- The bytes have all the words that their first word asks for.
+abbrev pub ready : List ℕ → Bool
+ready bytes = leb 4 (length bytes) && leb (wordsTaken (topByte (littleEndian bytes 0)) * 4) (length bytes)
+
+-- Nothing is written; these bytes are held.
+abbrev pub holding : List ℕ → Standing → Told
+holding bytes s =
+    record {
+      after =
+          record {
+            held = bytes;
+            index = s .index;
+            going = s .going;
+            tables = s .tables;
+            scratch = s .scratch;
+          };
+      text = [];
+    }
+
+-- The line of a call taken, or the last line, which stops the listing. Bytes that are ready are never over.
+abbrev pub toldOf : Turn → List ℕ → List ℕ → Standing → Told
+toldOf (Took c a who next) m x s =
+    record {
+      after = record { held = []; index = (s .index + 1) % 2 ^ 64; going = s .going; tables = m; scratch = x };
+      text = lineOf (s .index) (numberOf c) a (threadOf who);
+    }
+toldOf (Stopped code who) m x s =
+    record {
+      after = record { held = []; index = s .index; going = false; tables = m; scratch = x };
+      text = lineOf (s .index) 0 (plain code) (threadOf who);
+    }
+toldOf Over m x s = record {
+  after = record { held = []; index = s .index; going = s .going; tables = m; scratch = x };
+  text = [];
+}
+
+abbrev pub toldBy : Turned → Standing → Told
+toldBy r s = toldOf (r .turn) (r .tables) (r .scratch) s
+
+-- The bytes of a call are taken with its last one.
+abbrev pub offered : List ℕ → Standing → Told
+offered bytes s =
+    pick (ready bytes) (toldBy (turned (readAt (wordsIn bytes) 0) (s .tables) (s .scratch)) s) (holding bytes s)
+
+-- One byte more; none is taken once the listing has stopped.
+unfoldable pub byteTo : ℕ → Standing → Told
+byteTo b s = pick (s .going) (offered (s .held ++ (b ∷ [])) s) (holding (s .held) s)
+
+-- A part of the bytes.
+unfoldable pub fed : List ℕ → Standing → Told
+fed [] s = holding (s .held) s
+fed (b ∷ part) s = record {
+  after = fed part (byteTo b s .after) .after;
+  text = byteTo b s .text ++ fed part (byteTo b s .after) .text;
+}
+
+-- The bytes have ended: those still held are odd bytes, or a call that lacks words, which both are 18.
+abbrev pub endingWith : List ℕ → Standing → List ℕ
+endingWith [] s = []
+endingWith (b ∷ held) s = lineOf (s .index) 0 (plain 18) (threadOf (runnerOf (runningLink (s .tables))))
+
+unfoldable pub ending : Standing → List ℕ
+ending s = pick (s .going) (endingWith (s .held) s) []
+
+-- Parts in turn.
+unfoldable pub fedParts : List (List ℕ) → Standing → Told
+fedParts [] s = holding (s .held) s
+fedParts (part ∷ parts) s = record {
+  after = fedParts parts (fed part s .after) .after;
+  text = fed part s .text ++ fedParts parts (fed part s .after) .text;
+}
+
+-- The bytes of the parts, one behind the other.
+unfoldable pub joined : List (List ℕ) → List ℕ
+joined [] = []
+joined (part ∷ parts) = part ++ joined parts
+
+-- At the beginning nothing is held, and the first index is 0.
+abbrev pub starting : List ℕ → List ℕ → Standing
+starting m x = record { held = []; index = 0; going = true; tables = m; scratch = x }
