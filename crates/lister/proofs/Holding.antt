@@ -162,7 +162,7 @@ module _ (l : Lister) (b : ℕ) (small : l .held < 12) (long : length (l .bytes)
       now-taken g e r m′ x′ out′ t =
           subst (λ (o : Told). Tells o out used r m′ x′ out′)
           (ap (λ (j : Lister). toldBy did (stand (take (k .held) (k .bytes)) j m x)) is
-          ∙ any-held (did .turn) (did .tables) (did .scratch) (take (k .held) (k .bytes)) (take (l .held) (l .bytes)) l m x
+          ∙ any-held (did .turn) (did .tables) (did .scratch) _ (take (l .held) (l .bytes)) l m x
           ∙ sym (bytes-offered true g e))
           t
         where

@@ -144,23 +144,23 @@ fn answer(l: Lister, tables: &mut [u32], scratch: &mut [u32], out: &mut [u8], us
 
 // Takes one byte: it is held, or the last of a call, which is taken.
 fn byte(
-    l: Lister,
+    from: Lister,
     byte: u8,
     tables: &mut [u32],
     scratch: &mut [u32],
     out: &mut [u8],
     used: usize,
 ) -> Fed
-    requires { ⌜ (l .held < 12) × (length (l .bytes) ≡ 12) × (used + (l .held + 1) * 24 ≤ length (now out)) ⌝ }
+    requires { ⌜ (from .held < 12) × (length (from .bytes) ≡ 12) × (used + (from .held + 1) * 24 ≤ length (now out)) ⌝ }
     ensures { λ r. ⌜ (r .lister .held < 12) × (length (r .lister .bytes) ≡ 12) ⌝ }
-    ensures { λ r. ⌜ r .used + r .lister .held * 24 ≤ used + (l .held + 1) * 24 ⌝ }
-    ensures { λ r. ⌜ Tells (byteTo byte (standingOf l (now (tables .entry)) (now (scratch .entry))))
+    ensures { λ r. ⌜ r .used + r .lister .held * 24 ≤ used + (from .held + 1) * 24 ⌝ }
+    ensures { λ r. ⌜ Tells (byteTo byte (standingOf from (now (tables .entry)) (now (scratch .entry))))
         (now (out .entry)) used r (now (tables .exit)) (now (scratch .exit)) (now (out .exit)) ⌝ }
 {
-    if !l.going {
-        return Fed { lister: l, used };
+    if !from.going {
+        return Fed { lister: from, used };
     }
-    let more = hold(l, byte);
+    let more = hold(from, byte);
     let bytes = more.bytes;
     let held = more.held;
     if !whole(&bytes[..held]) {

@@ -29,7 +29,14 @@ same-length : tie.Need-same-length
 same-length c = search needs
 
 returns : tie.Need-returns
-returns c = let a = c .before .before .before .before .before .args in let line = c .before .before .line in (search needs, line-added (a .out .now) (a .used) (a .used + 96 - a .used) (c .before .before .before .before .before .pre) (search needs) _ _ _ (line .result) (line .ensures .0) (line .ensures .1 .0) (search needs) refl)
+returns c =
+    let line = c .before .before .line in
+    let start = c .before .before .before .before .before in
+    let a = start .args in (
+      search needs,
+      line-added (a .out .now) (a .used) (a .used + 96 - a .used) (start .pre) (search needs) _ _ _ (line .result)
+          (line .ensures .0) (line .ensures .1 .0) (search needs) refl,
+    )
 
 pub add-spec : {M : Type 1} → statement M
 add-spec =

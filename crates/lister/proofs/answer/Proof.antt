@@ -1,7 +1,9 @@
 -- `lister::answer` meets its contract: the words of the bytes held are read and their call is taken.
 -- Assumes nothing.
+use Prim.Native.Nat.{_≤_}
 use native.Mathlib.Omega.{arith}
-use mathlib.Core.Path.{sym, ap}
+use mathlib.Core.Path.{_≡_, sym, ap}
+use lib.ListN.{length, take}
 use lib.Seq.{length-take-le}
 use borrow.Author.Needs.{needs}
 use Rattle.lister.specs.declared.Lister.{Lister}
@@ -9,17 +11,24 @@ use Rattle.lister.proofs.Answering.{left-answered, call-answered}
 use Rattle.lister.proofs.answer.Statement.{statement}
 use Rattle.lister.proofs.answer.Tie as tie
 
+within : (l : Lister) → l .held ≤ 12 → length (l .bytes) ≡ 12 → length (take (l .held) (l .bytes)) ≡ l .held
+within l h long = length-take-le (l .held) (l .bytes) (omega arith)
+
 array-share-prefix-bytes : tie.Need-array-share-prefix-bytes
 array-share-prefix-bytes c = search needs
 
 slice-aggregate-words : tie.Need-slice-aggregate-words
-slice-aggregate-words c = let a = c .before .before .before .before .before .args .l in let pre = c .before .before .before .before .before .pre in sym (length-take-le (a .held) (a .bytes) (omega (arith, pre .0, pre .1)))
+slice-aggregate-words c =
+    let start = c .before .before .before .before .before in
+    sym (within (start .args .l) (start .pre .0) (start .pre .1))
 
 slice-aggregate-words-2 : tie.Need-slice-aggregate-words-2
 slice-aggregate-words-2 c = search needs
 
 words-requires : tie.Need-words-requires
-words-requires c κs = let a = c .before .before .before .before .before .before .args .l in let pre = c .before .before .before .before .before .before .pre in omega (arith, pre .0, length-take-le (a .held) (a .bytes) (omega (arith, pre .0, pre .1)))
+words-requires c κs =
+    let start = c .before .before .before .before .before .before in
+    omega (arith, start .pre .0, within (start .args .l) (start .pre .0) (start .pre .1))
 
 array-share-prefix-words : tie.Need-array-share-prefix-words
 array-share-prefix-words c = search needs
@@ -46,7 +55,16 @@ same-length-3 : tie.Need-same-length-3
 same-length-3 c = search needs
 
 returns : tie.Need-returns
-returns c = let a = c .before .before .before .before .before .before .before .before .before .before .before .before .before .before .before .before .before .before .before .before .before .args in (c .before .before .stop .ensures .0, left-answered (a .l) (a .out .now) (a .used) (a .tables .now) (a .scratch .now) _ _ _ (c .before .before .before .before .before .before .before .before .before .next .result) _ (c .before .before .before .before .before .before .before .before .before .before .before .before .before .before .words2 .ensures .1 .1) (c .before .before .before .before .before .before .before .before .before .next .ensures) (c .before .before .before .before .match .keys2) _ (c .before .before .stop .ensures .1))
+returns c =
+    let stopped = c .before .before .stop in
+    let tested = c .before .before .before .before in
+    let turned = tested .before .before .before .before .before in
+    let filled = turned .before .before .before .before .before in
+    let a = filled .before .before .before .before .before .before .before .args in (
+      stopped .ensures .0,
+      left-answered (a .l) (a .out .now) (a .used) (a .tables .now) (a .scratch .now) _ _ _ (turned .next .result) _
+          (filled .words2 .ensures .1 .1) (turned .next .ensures) (tested .match .keys2) _ (stopped .ensures .1),
+    )
 
 number-requires : tie.Need-number-requires
 number-requires c κs = search needs
@@ -58,7 +76,11 @@ empty-requires : tie.Need-empty-requires
 empty-requires c κs = search needs
 
 add-requires : tie.Need-add-requires
-add-requires c κs = c .before .before .before .before .before .before .before .before .before .before .before .before .before .before .before .before .before .before .before .before .before .before .before .pre .2
+add-requires c κs =
+    let tested = c .before .before .before .before .before .before in
+    let turned = tested .before .before .before .before .before in
+    let filled = turned .before .before .before .before .before in
+    filled .before .before .before .before .before .before .before .pre .2
 
 same-length-4 : tie.Need-same-length-4
 same-length-4 c = search needs
@@ -70,7 +92,21 @@ same-length-6 : tie.Need-same-length-6
 same-length-6 c = search needs
 
 returns-2 : tie.Need-returns-2
-returns-2 c = let a = c .before .before .before .before .before .before .before .before .before .before .before .before .before .before .before .before .before .before .before .before .before .before .before .before .before .before .args in let e = c .before .before .before .before .empty .ensures in ((ap (λ (k : Lister). k .held) e, ap (λ (k : Lister). k .bytes) e, c .before .before .add .ensures .0), call-answered (a .l) (a .out .now) (a .used) (a .tables .now) (a .scratch .now) _ _ _ (c .before .before .before .before .before .before .before .before .before .before .before .before .before .before .next .result) _ (c .before .before .before .before .before .before .before .before .before .before .before .before .before .before .before .before .before .before .before .words2 .ensures .1 .1) (c .before .before .before .before .before .before .before .before .before .before .before .before .before .before .next .ensures) _ _ _ _ (c .before .before .before .before .before .before .before .before .turn .given .1) _ (c .before .before .before .before .before .before .number .ensures) _ (c .before .before .before .before .before .wrapping-add-u64 .ensures) _ e _ (c .before .before .add .ensures .1))
+returns-2 c =
+    let added = c .before .before in
+    let emptied = added .before .before in
+    let counted = emptied .before in
+    let named = counted .before in
+    let took = named .before .before in
+    let turned = took .before .before .before .before .before .before in
+    let filled = turned .before .before .before .before .before in
+    let a = filled .before .before .before .before .before .before .before .args in
+    let e = emptied .empty .ensures in (
+      (ap (λ (k : Lister). k .held) e, ap (λ (k : Lister). k .bytes) e, added .add .ensures .0),
+      call-answered (a .l) (a .out .now) (a .used) (a .tables .now) (a .scratch .now) _ _ _ (turned .next .result) _
+          (filled .words2 .ensures .1 .1) (turned .next .ensures) _ _ _ _ (took .turn .given .1) _
+          (named .number .ensures) _ (counted .wrapping-add-u64 .ensures) _ e _ (added .add .ensures .1),
+    )
 
 pub answer-spec : {M : Type 1} → statement M
 answer-spec =

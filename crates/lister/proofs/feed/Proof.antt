@@ -24,7 +24,18 @@ abbrev μ-loop : tie.MeasureT-loop
 μ-loop part tables₀ scratch₀ out₀ at₀ i₀ tables scratch out at i = length part - i
 
 loop-holds : tie.Need-loop-holds Inv-loop μ-loop
-loop-holds c = let a = c .before .before .before .before .args in let pre = c .before .before .before .before .pre in (search needs, search needs, search needs, pre .0, pre .1, search needs, search needs, none-fed (a .l) (a .tables .now) (a .scratch .now) (a .out .now))
+loop-holds c =
+    let start = c .before .before .before .before in
+    let a = start .args in (
+      search needs,
+      search needs,
+      search needs,
+      start .pre .0,
+      start .pre .1,
+      search needs,
+      search needs,
+      none-fed (a .l) (a .tables .now) (a .scratch .now) (a .out .now),
+    )
 
 shared-slice-read-byte : tie.Need-shared-slice-read-byte Inv-loop μ-loop
 shared-slice-read-byte c = search needs
@@ -39,7 +50,23 @@ loop-less : tie.Need-loop-less Inv-loop μ-loop
 loop-less c = search needs
 
 loop-again : tie.Need-loop-again Inv-loop μ-loop
-loop-again c = let a = c .before .before .before .before .before .before .before .before .before .before .before .before .before .before .before .before .before .args in let at = c .before .before .before .before .before .before .before .before .before .before .before .before .loop in let b = c .before .before .before .before .before .before .byte in let more = c .before .before .before .before .before .before .before .before .before .before .before .loop-test .taken in (search needs, search needs, search needs, b .ensures .0 .0, b .ensures .0 .1, search needs, search needs, one-fed (a .l) (a .tables .now) (a .scratch .now) (a .out .now) (a .part .now) (at .i) more (at .at) _ _ _ (at .inv .7) (omega (arith, c .before .before .before .before .before .before .before .before .before .before .before .before .before .before .before .before .before .pre .2, at .inv .5, more)) _ _ _ _ (b .ensures .1 .1))
+loop-again c =
+    let b = c .before .before .before .before .before .before in
+    let test = b .before .before .before .before .before in
+    let at = test .before .loop in
+    let start = test .before .before .before .before .before .before in
+    let a = start .args in
+    let more = test .loop-test .taken in (
+      search needs,
+      search needs,
+      search needs,
+      b .byte .ensures .0 .0,
+      b .byte .ensures .0 .1,
+      search needs,
+      search needs,
+      one-fed (a .l) (a .tables .now) (a .scratch .now) (a .out .now) (a .part .now) (at .i) more (at .at) _ _ _
+          (at .inv .7) (omega (arith, start .pre .2, at .inv .5, more)) _ _ _ _ (b .byte .ensures .1 .1),
+    )
 
 same-length : tie.Need-same-length Inv-loop μ-loop
 same-length c = search needs
@@ -51,7 +78,18 @@ same-length-3 : tie.Need-same-length-3 Inv-loop μ-loop
 same-length-3 c = search needs
 
 returns : tie.Need-returns Inv-loop μ-loop
-returns c = let a = c .before .before .before .before .before .before .args in let at = c .before .loop in let fits : at .at .used ≤ length (at .out) = omega (arith, c .before .before .before .before .before .before .pre .2, at .inv .2, at .inv .5, at .inv .6) in ((at .inv .3, at .inv .4), (counts fits, all-fed (a .l) (a .tables .now) (a .scratch .now) (a .out .now) (a .part .now) (at .i) (search needs) (at .at) _ _ _ (at .inv .7)))
+returns c =
+    let at = c .before .loop in
+    let start = c .before .before .before .before .before .before in
+    let a = start .args in
+    let fits : at .at .used ≤ length (at .out) = omega (arith, start .pre .2, at .inv .2, at .inv .5, at .inv .6) in (
+      (at .inv .3, at .inv .4),
+      (
+        counts fits,
+        all-fed (a .l) (a .tables .now) (a .scratch .now) (a .out .now) (a .part .now) (at .i) (c .loop-test .left)
+            (at .at) _ _ _ (at .inv .7),
+      ),
+    )
 
 pub feed-spec : {M : Type 1} → statement M
 feed-spec =

@@ -21,7 +21,10 @@ mul-result : tie.Need-mul-result
 mul-result c = record { fits = omega (arith, c .words-taken .ensures, taken-most (c .before .word .result / 2 ^ 24)) }
 
 returns-2 : tie.Need-returns-2
-returns-2 c = ready-is (c .before .before .before .before .args .bytes .now) _ _ (search needs) (c .before .word .ensures) (c .words-taken .ensures)
+returns-2 c =
+    let read = c .before in
+    let a = read .before .before .before .args in
+    ready-is (a .bytes .now) _ _ (search needs) (read .word .ensures) (c .words-taken .ensures)
 
 pub whole-spec : {M : Type 1} → statement M
 whole-spec = tie.close (tie.spec returns word-requires words-taken-requires mul-result returns-2)

@@ -22,7 +22,10 @@ same-length : tie.Need-same-length
 same-length c = search needs
 
 returns : tie.Need-returns
-returns c = left _ _ _ _ _ _ (c .before .before .before .before .read .ensures) (c .before .before .before .match .keys2) (c .stop .ensures) (c .before .running .ensures)
+returns c =
+    let who = c .before in
+    let arm = who .before .before in
+    left _ _ _ _ _ _ (arm .before .read .ensures) (arm .match .keys2) (c .stop .ensures) (who .running .ensures)
 
 call-requires : tie.Need-call-requires
 call-requires c κs = search needs
@@ -37,7 +40,11 @@ same-length-3 : tie.Need-same-length-3
 same-length-3 c = search needs
 
 returns-2 : tie.Need-returns-2
-returns-2 c = took _ _ _ _ _ _ _ _ _ (sym (c .before .before .before .before .before .before .before .before .before .before .before .before .read .ensures) ∙ c .before .before .before .before .before .before .before .before .before .before .reading .given .1) (c .before .before .before .before .before .before .call .ensures) (c .running2 .ensures)
+returns-2 c =
+    let made = c .before .before .before .before .before .before in
+    let found = made .before .before .before .before in
+    took _ _ _ _ _ _ _ _ _ (sym (found .before .before .read .ensures) ∙ found .reading .given .1)
+    (made .call .ensures) (c .running2 .ensures)
 
 pub next-spec : {M : Type 1} → statement M
 next-spec =

@@ -27,7 +27,9 @@ header-requires : tie.Need-header-requires Inv-loop μ-loop
 header-requires c κs = search needs
 
 loop-holds : tie.Need-loop-holds Inv-loop μ-loop
-loop-holds c = let is = c .before .start .ensures in (refl, refl, omega (arith, ap (λ (l : Lister). l .held) is), ap (λ (l : Lister). length (l .bytes)) is)
+loop-holds c =
+    let is = c .before .start .ensures in
+    (refl, refl, omega (arith, ap (λ (l : Lister). l .held) is), ap (λ (l : Lister). length (l .bytes)) is)
 
 turn-requires : tie.Need-turn-requires Inv-loop μ-loop
 turn-requires c κs = let inv = c .before .before .before .before .loop .inv in (inv .2, inv .3)
@@ -36,10 +38,14 @@ sub-turns : tie.Need-sub-turns Inv-loop μ-loop
 sub-turns c = search needs
 
 loop-less : tie.Need-loop-less Inv-loop μ-loop
-loop-less c = less (c .before .before .before .before .before .before .before .before .before .loop .turns) (search needs)
+loop-less c =
+    let test = c .before .before .before .before .before .before .before .before in
+    less (test .before .loop .turns) (search needs)
 
 loop-again : tie.Need-loop-again Inv-loop μ-loop
-loop-again c = let told = c .before .before .before .before .turn .ensures in (search needs, search needs, told .0, told .1)
+loop-again c =
+    let told = c .before .before .before .before .turn .ensures in
+    (search needs, search needs, told .0, told .1)
 
 finish-requires : tie.Need-finish-requires Inv-loop μ-loop
 finish-requires c κs = let inv = c .before .before .before .loop .inv in (inv .2, inv .3)
