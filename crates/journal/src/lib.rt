@@ -1,5 +1,5 @@
 // Journal words and calls: what the words at a place read as, and the words of a call.
-mod taken;
+pub mod taken;
 pub mod types;
 
 use crate::taken::words_taken;

@@ -14,6 +14,12 @@ abbrev pub runnerOf : ℕ → Runner
 runnerOf zero = Nobody
 runnerOf (suc t) = Thread t
 
+-- The turn of a reading that is no call, by who runs.
+abbrev pub untaken : Read → Runner → Turn
+untaken (Found c next) who = Over
+untaken (Refused code at) who = Stopped code who
+untaken Ended who = Over
+
 -- The turn, and the tables and the scratch after it.
 pub record Turned : Type 0 where
   pub turn : Turn

@@ -2,7 +2,7 @@
 ghost use mathlib.Core.Path.{_≡_};
 ghost use Rattle.journal.specs.Words.{readAt};
 ghost use Rattle.kernel.specs.Entry.{runningLink};
-ghost use Rattle.rows.specs.Turns.{runnerOf, Turned, turned};
+ghost use Rattle.rows.specs.Turns.{runnerOf, untaken, Turned, turned};
 use journal::types::Read;
 use machine::Answer;
 use machine::Call;
@@ -33,5 +33,35 @@ pub fn running(tables: &[u32]) -> Runner
         Runner::Nobody
     } else {
         Runner::Thread(link - 1)
+    }
+}
+
+// The turn where no call was read.
+fn stop(reading: Read, who: Runner) -> Turn
+    ensures { λ r. ⌜ r ≡ untaken reading who ⌝ }
+{
+    match reading {
+        Read::Refused { code, at: _ } => Turn::Stopped { code, who },
+        Read::Ended => Turn::Over,
+        Read::Found { call: _, next: _ } => Turn::Over,
+    }
+}
+
+// Reads the call at a word of the journal and takes it on the lent memory.
+pub fn next(words: &[u32], at: usize, tables: &mut [u32], scratch: &mut [u32]) -> Turn
+    ensures { λ r. ⌜ _≡_ {A = Turned}
+        (record { turn = r; tables = now (tables .exit); scratch = now (scratch .exit) })
+        (turned (readAt (now (words .entry)) at) (now (tables .entry)) (now (scratch .entry))) ⌝ }
+{
+    let reading = reader::read(words, at);
+    let Read::Found { call, next } = reading else {
+        return stop(reading, running(tables));
+    };
+    let answer = kernel::call(tables, scratch, call);
+    Turn::Took {
+        call,
+        answer,
+        who: running(tables),
+        next,
     }
 }

@@ -1,0 +1,52 @@
+-- `lister::add` meets its contract: the line stands at the front of the part lent for it.
+-- Assumes nothing.
+use Prim.Native.Nat.{_+_, _-_}
+use mathlib.Core.Path.{refl}
+use borrow.Author.Needs.{needs}
+use Rattle.lister.proofs.Writing.{line-added}
+use Rattle.lister.proofs.add.Statement.{statement}
+use Rattle.lister.proofs.add.Tie as tie
+
+add-end : tie.Need-add-end
+add-end c = search needs
+
+sub-line : tie.Need-sub-line
+sub-line c = search needs
+
+part-line-start : tie.Need-part-line-start
+part-line-start c = search needs
+
+part-line-end : tie.Need-part-line-end
+part-line-end c = search needs
+
+line-requires : tie.Need-line-requires
+line-requires c κs = search needs
+
+add-result : tie.Need-add-result
+add-result c = search needs
+
+same-length : tie.Need-same-length
+same-length c = search needs
+
+returns : tie.Need-returns
+returns c =
+    let line = c .before .before .line in
+    let start = c .before .before .before .before .before in
+    let a = start .args in (
+      search needs,
+      line-added (a .out .now) (a .used) (a .used + 96 - a .used) (start .pre) (search needs) _ _ _ (line .result)
+          (line .ensures .0) (line .ensures .1 .0) (search needs) refl,
+    )
+
+pub add-spec : {M : Type 1} → statement M
+add-spec =
+    tie.close
+    (tie.spec
+    add-end
+    sub-line
+    part-line-start
+    part-line-end
+    line-requires
+    add-result
+    same-length
+    returns)

@@ -1,0 +1,109 @@
+-- `lister::feed` meets its contract: each turn takes one byte more of the part, and its lines have room.
+-- Assumes nothing.
+use Prim.Native.Nat.{_+_, _-_, _*_, _≤_, _<_}
+use native.Mathlib.Omega.{arith}
+use mathlib.Core.Path.{_≡_}
+use lib.ListN.{length, take}
+use borrow.Author.Needs.{needs}
+use Rattle.listing.proofs.Parts.{counts}
+use Rattle.lister.specs.Feeding.{fed}
+use Rattle.lister.specs.Buffers.{standingOf, Tells}
+use Rattle.lister.proofs.Holding.{none-fed, one-fed, all-fed}
+use Rattle.lister.proofs.feed.Statement.{statement}
+use Rattle.lister.proofs.feed.Tie as tie
+
+abbrev Inv-loop : tie.InvT-loop
+Inv-loop part tables₀ scratch₀ out₀ at₀ i₀ tables scratch out at i =
+    (length tables ≡ length tables₀) × (length scratch ≡ length scratch₀) × (length out ≡ length out₀)
+    × (at .lister .held < 12) × (length (at .lister .bytes) ≡ 12)
+    × (at .used + at .lister .held * 24 ≤ (at₀ .lister .held + i) * 24)
+    × (i ≤ length part)
+    × Tells (fed (take i part) (standingOf (at₀ .lister) tables₀ scratch₀)) out₀ 0 at tables scratch out
+
+abbrev μ-loop : tie.MeasureT-loop
+μ-loop part tables₀ scratch₀ out₀ at₀ i₀ tables scratch out at i = length part - i
+
+loop-holds : tie.Need-loop-holds Inv-loop μ-loop
+loop-holds c =
+    let start = c .before .before .before .before in
+    let a = start .args in (
+      search needs,
+      search needs,
+      search needs,
+      start .pre .0,
+      start .pre .1,
+      search needs,
+      search needs,
+      none-fed (a .l) (a .tables .now) (a .scratch .now) (a .out .now),
+    )
+
+shared-slice-read-byte : tie.Need-shared-slice-read-byte Inv-loop μ-loop
+shared-slice-read-byte c = search needs
+
+byte-requires : tie.Need-byte-requires Inv-loop μ-loop
+byte-requires c κs = search needs
+
+add-i : tie.Need-add-i Inv-loop μ-loop
+add-i c = search needs
+
+loop-less : tie.Need-loop-less Inv-loop μ-loop
+loop-less c = search needs
+
+loop-again : tie.Need-loop-again Inv-loop μ-loop
+loop-again c =
+    let b = c .before .before .before .before .before .before in
+    let test = b .before .before .before .before .before in
+    let at = test .before .loop in
+    let start = test .before .before .before .before .before .before in
+    let a = start .args in
+    let more = test .loop-test .taken in (
+      search needs,
+      search needs,
+      search needs,
+      b .byte .ensures .0 .0,
+      b .byte .ensures .0 .1,
+      search needs,
+      search needs,
+      one-fed (a .l) (a .tables .now) (a .scratch .now) (a .out .now) (a .part .now) (at .i) more (at .at) _ _ _
+          (at .inv .7) (omega (arith, start .pre .2, at .inv .5, more)) _ _ _ _ (b .byte .ensures .1 .1),
+    )
+
+same-length : tie.Need-same-length Inv-loop μ-loop
+same-length c = search needs
+
+same-length-2 : tie.Need-same-length-2 Inv-loop μ-loop
+same-length-2 c = search needs
+
+same-length-3 : tie.Need-same-length-3 Inv-loop μ-loop
+same-length-3 c = search needs
+
+returns : tie.Need-returns Inv-loop μ-loop
+returns c =
+    let at = c .before .loop in
+    let start = c .before .before .before .before .before .before in
+    let a = start .args in
+    let fits : at .at .used ≤ length (at .out) = omega (arith, start .pre .2, at .inv .2, at .inv .5, at .inv .6) in (
+      (at .inv .3, at .inv .4),
+      (
+        counts fits,
+        all-fed (a .l) (a .tables .now) (a .scratch .now) (a .out .now) (a .part .now) (at .i) (c .loop-test .left)
+            (at .at) _ _ _ (at .inv .7),
+      ),
+    )
+
+pub feed-spec : {M : Type 1} → statement M
+feed-spec =
+    tie.close
+    (tie.spec
+    Inv-loop
+    μ-loop
+    loop-holds
+    shared-slice-read-byte
+    byte-requires
+    add-i
+    loop-less
+    loop-again
+    same-length
+    same-length-2
+    same-length-3
+    returns)

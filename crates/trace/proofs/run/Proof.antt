@@ -1,0 +1,90 @@
+-- `trace::run` is safe and ends: the turns left get fewer.
+-- Assumes nothing.
+use Prim.Native.Nat.{ℕ, _-_, _≤_, _<_}
+use native.Mathlib.Omega.{arith}
+use mathlib.Core.Path.{_≡_, refl, ap}
+use lib.ListN.{length}
+use borrow.Author.Needs.{needs}
+use Rattle.lister.specs.declared.Lister.{Lister}
+use Rattle.trace.proofs.run.Statement.{statement}
+use Rattle.trace.proofs.run.Tie as tie
+
+less : (n : ℕ) → 1 ≤ n → n - 1 < n
+less n h = omega arith
+
+abbrev Inv-loop : tie.InvT-loop
+Inv-loop tables₀ scratch₀ p₀ turns₀ tables scratch p turns =
+    (length tables ≡ length tables₀) × (length scratch ≡ length scratch₀)
+    × (p .lister .held < 12) × (length (p .lister .bytes) ≡ 12)
+
+abbrev μ-loop : tie.MeasureT-loop
+μ-loop tables₀ scratch₀ p₀ turns₀ tables scratch p turns = turns
+
+start-requires : tie.Need-start-requires Inv-loop μ-loop
+start-requires c κs = search needs
+
+header-requires : tie.Need-header-requires Inv-loop μ-loop
+header-requires c κs = search needs
+
+loop-holds : tie.Need-loop-holds Inv-loop μ-loop
+loop-holds c =
+    let is = c .before .start .ensures in
+    (refl, refl, omega (arith, ap (λ (l : Lister). l .held) is), ap (λ (l : Lister). length (l .bytes)) is)
+
+turn-requires : tie.Need-turn-requires Inv-loop μ-loop
+turn-requires c κs = let inv = c .before .before .before .before .loop .inv in (inv .2, inv .3)
+
+sub-turns : tie.Need-sub-turns Inv-loop μ-loop
+sub-turns c = search needs
+
+loop-less : tie.Need-loop-less Inv-loop μ-loop
+loop-less c =
+    let test = c .before .before .before .before .before .before .before .before in
+    less (test .before .loop .turns) (search needs)
+
+loop-again : tie.Need-loop-again Inv-loop μ-loop
+loop-again c =
+    let told = c .before .before .before .before .turn .ensures in
+    (search needs, search needs, told .0, told .1)
+
+finish-requires : tie.Need-finish-requires Inv-loop μ-loop
+finish-requires c κs = let inv = c .before .before .before .loop .inv in (inv .2, inv .3)
+
+same-length : tie.Need-same-length Inv-loop μ-loop
+same-length c = search needs
+
+same-length-2 : tie.Need-same-length-2 Inv-loop μ-loop
+same-length-2 c = search needs
+
+returns : tie.Need-returns Inv-loop μ-loop
+returns c = search needs
+
+same-length-3 : tie.Need-same-length-3 Inv-loop μ-loop
+same-length-3 c = search needs
+
+same-length-4 : tie.Need-same-length-4 Inv-loop μ-loop
+same-length-4 c = search needs
+
+returns-2 : tie.Need-returns-2 Inv-loop μ-loop
+returns-2 c = search needs
+
+pub run-spec : {M : Type 1} → statement M
+run-spec =
+    tie.close
+    (tie.spec
+    Inv-loop
+    μ-loop
+    start-requires
+    header-requires
+    loop-holds
+    turn-requires
+    sub-turns
+    loop-less
+    loop-again
+    finish-requires
+    same-length
+    same-length-2
+    returns
+    same-length-3
+    same-length-4
+    returns-2)
