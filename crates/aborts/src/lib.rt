@@ -8,6 +8,7 @@ ghost use Rattle.store.specs.Steps.{Shown, Does};
 ghost use Rattle.results.specs.Results.{Calling, Performs};
 ghost use Rattle.aborts.specs.Aborts.{Cursor, Within, Open, Clear, Bare, Owing, Joining, Looks};
 ghost use Rattle.aborts.specs.Aborts.{Continues, ending, beginning, joining, unnoted};
+use layout::Field;
 use machine::Answer;
 
 // The status of a live endpoint: one whose abort ends is live as before.
@@ -18,7 +19,7 @@ fn look(tables: &mut [u32], e: usize, w: usize)
     requires { ⌜ Shown (now tables) (Cursor e w) ⌝ }
     ensures { λ _. ⌜ Does (now (tables .entry)) (now (tables .exit)) (Cursor e w) (look e w) ⌝ }
 {
-    let badge = store::badge(tables, w);
+    let badge = store::thread(tables, Field::Badge, w);
     let hit = debts::under_abort(tables, e, badge);
     if hit {
         queues::wake_from(tables, e, w, 3, 0, 0);

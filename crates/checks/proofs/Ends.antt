@@ -10,7 +10,8 @@ use native.Mathlib.Omega.{arith}
 use borrow.Author.Tests.{le-leb}
 use Rattle.machine.specs.State.{State, owns, Abort, Status, missing, live, closing, Endpoint, missingEndpoint}
 use Rattle.machine.specs.Endpoints.{ownerOf, pendingOf}
-use Rattle.layout.specs.Addresses.{Part, status, aborting, aborted, owner, cursor, end, owes, badge, ofThread}
+use Rattle.layout.specs.declared.Field.{Field}
+use Rattle.layout.specs.Addresses.{Part, status, aborting, aborted, owner, cursor, end, ofThread}
 use Rattle.layout.specs.Addresses.{ofEndpoint, head, linkAt, word}
 use Rattle.layout.specs.Words.{linkOf, firstOf, lastOf, debtCode, statusCode, abortCode, badgeCode, endpointWord}
 use Rattle.layout.specs.Shows.{Chain}
@@ -29,7 +30,7 @@ use Rattle.checks.proofs.Reading.{Reads, end-joined}
 
 abbrev Owned : List ℕ → ℕ → ℕ → Type 0
 Owned m e zero = Unit {0}
-Owned m e (suc t) = (t ≤ 255) × (threadIn m owes t ≡ suc e)
+Owned m e (suc t) = (t ≤ 255) × (threadIn m Field.Owes t ≡ suc e)
 
 abbrev Aborting : List ℕ → ℕ → ℕ → Type 0
 Aborting m e zero =
@@ -210,13 +211,13 @@ module _ (m : List ℕ) (s : State) (R : Reads m s) (e : ℕ) (h : e ≤ 63) whe
   owns-there t o =
       tells-owns (s .threads t .debt) e h .holds
       (tells-eqb (debtCode (s .threads t .debt)) (1 + e) .back
-      (sym (R .slots (ofThread owes t) (o .0)) ∙ o .1 ∙ sym one-more))
+      (sym (R .slots (ofThread Field.Owes t) (o .0)) ∙ o .1 ∙ sym one-more))
 
   owned-there : Paired s e → (o : Option ℕ) → ownerOf (s .endpoints e .abort) ≡ o → Owned m e (linkOf o)
   owned-there P none i = tt
   owned-there P (some t) i =
       let small = X .neat .owner t i in
-      (small, R .slots (ofThread owes t) small ∙ ap debtCode (P t i) ∙ one-more)
+      (small, R .slots (ofThread Field.Owes t) small ∙ ap debtCode (P t i) ∙ one-more)
 
   from-aborting : (o : Option Abort) → s .endpoints e .abort ≡ o → Aborting m e (abortCode o) → Paired s e
   from-aborting none i a t k = none-some (ap ownerOf (sym i) ∙ k)

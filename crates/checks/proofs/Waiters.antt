@@ -12,7 +12,8 @@ use borrow.Author.Tests.{le-leb, eq-eqb, ne-eqb}
 use Rattle.machine.specs.Lists.{pick, Mem, Distinct}
 use Rattle.machine.specs.State.{State, Place, absent, sending, receiving, Abort}
 use Rattle.machine.specs.Endpoints.{pendingOf}
-use Rattle.layout.specs.Addresses.{aborting, aborted, cursor, end, place, badge, ofThread, ofEndpoint, head, linkAt}
+use Rattle.layout.specs.declared.Field.{Field}
+use Rattle.layout.specs.Addresses.{aborting, aborted, cursor, end, ofThread, ofEndpoint, head, linkAt}
 use Rattle.layout.specs.Addresses.{word, afterAt}
 use Rattle.layout.specs.Words.{firstOf, lastOf, placeCode, abortCode, badgeCode}
 use Rattle.layout.specs.Shows.{Chain}
@@ -37,26 +38,26 @@ bannedIn m e = bannedOf m e (kindIn m e)
 -- What the walk tests of the threads met.
 abbrev threadsTest : List ℕ → ℕ → List ℕ → Bool
 threadsTest m e l =
-    every (λ t. eqb (threadIn m place t) (kindIn m e)) l
-    && phased ahead (endpointIn m cursor e) (endpointIn m end e) (bannedIn m e) (threadIn m badge) l
+    every (λ t. eqb (threadIn m Field.Place t) (kindIn m e)) l
+    && phased ahead (endpointIn m cursor e) (endpointIn m end e) (bannedIn m e) (threadIn m Field.Badge) l
 
 -- The kind, the threads that are all of it, and the marks.
 abbrev Kind : List ℕ → ℕ → Type 0
 Kind m e = (kindIn m e ≡ 2 + e) ⊎ ((kindIn m e ≡ 66 + e) × (endpointIn m cursor e ≡ 0))
 
 abbrev AllOf : List ℕ → ℕ → List ℕ → Type 0
-AllOf m e l = (t : ℕ) → Mem t l → threadIn m place t ≡ kindIn m e
+AllOf m e l = (t : ℕ) → Mem t l → threadIn m Field.Place t ≡ kindIn m e
 
 abbrev pub Marks-in : List ℕ → ℕ → List ℕ → Type 0
 Marks-in m e l =
-    Marked (endpointIn m cursor e) (endpointIn m end e) (bannedIn m e) (threadIn m badge) l
+    Marked (endpointIn m cursor e) (endpointIn m end e) (bannedIn m e) (threadIn m Field.Badge) l
     (between (endpointIn m cursor e) (endpointIn m end e) l)
 
 module _ (m : List ℕ) (e : ℕ) where
   tells-threads : (l : List ℕ) → Distinct l → Tells (threadsTest m e l) (AllOf m e l × Marks-in m e l)
   tells-threads l d =
-      tells-and (tells-every _ _ l (λ t k. tells-eqb (threadIn m place t) (kindIn m e)))
-      (tells-marked (endpointIn m cursor e) (endpointIn m end e) (bannedIn m e) (threadIn m badge) l d)
+      tells-and (tells-every _ _ l (λ t k. tells-eqb (threadIn m Field.Place t) (kindIn m e)))
+      (tells-marked (endpointIn m cursor e) (endpointIn m end e) (bannedIn m e) (threadIn m Field.Badge) l d)
 
   tells-kind :
       Tells
@@ -114,7 +115,7 @@ banned-miss m e n = go (told (tells-eqb (endpointIn m aborting e) 1)) (told (tel
     go (inr a) k = rw (ne-eqb (endpointIn m aborting e) 1 a)
 
 kind-first :
-    (m : List ℕ) (e code : ℕ) (l : List ℕ) → ((t : ℕ) → Mem t l → (t ≤ 255) × (threadIn m place t ≡ code))
+    (m : List ℕ) (e code : ℕ) (l : List ℕ) → ((t : ℕ) → Mem t l → (t ≤ 255) × (threadIn m Field.Place t ≡ code))
     → (l ≡ [] → 2 + e ≡ code) → kindOf (firstOf l) m e ≡ code
 unfolding kindOf
 kind-first m e code [] f g = g refl
@@ -154,16 +155,16 @@ module _ (m : List ℕ) (s : State) (R : Reads m s) (e : ℕ) (h : e ≤ 63) whe
           (word m (afterAt (256 + e) 0)) ahead 0
           ∙ walk-along m (256 + e) l (end-joined m s R e h) small (threadsTest m e)
 
-  at-place : (t : ℕ) (q : Place) → t ≤ 255 → s .threads t .place ≡ q → threadIn m place t ≡ placeCode q
-  at-place t q k i = R .slots (ofThread place t) k ∙ ap placeCode i
+  at-place : (t : ℕ) (q : Place) → t ≤ 255 → s .threads t .place ≡ q → threadIn m Field.Place t ≡ placeCode q
+  at-place t q k i = R .slots (ofThread Field.Place t) k ∙ ap placeCode i
 
   sends : AllOf m e l → kindIn m e ≡ 2 + e → (t : ℕ) → Mem t l → s .threads t .place ≡ sending e
   sends A k t i =
-      tells-seat m s R t (sending e) (small t i) h .holds (tells-eqb (threadIn m place t) (2 + e) .back (A t i ∙ k))
+      tells-seat m s R t (sending e) (small t i) h .holds (tells-eqb (threadIn m Field.Place t) (2 + e) .back (A t i ∙ k))
 
   receives : AllOf m e l → kindIn m e ≡ 66 + e → (t : ℕ) → Mem t l → s .threads t .place ≡ receiving e
   receives A k t i =
-      tells-seat m s R t (receiving e) (small t i) h .holds (tells-eqb (threadIn m place t) (66 + e) .back (A t i ∙ k))
+      tells-seat m s R t (receiving e) (small t i) h .holds (tells-eqb (threadIn m Field.Place t) (66 + e) .back (A t i ∙ k))
 
   -- From the test
 
@@ -178,22 +179,22 @@ module _ (m : List ℕ) (s : State) (R : Reads m s) (e : ℕ) (h : e ≤ 63) whe
       let banned : bannedIn m e ≡ a .badge
       = banned-hit m e (R .slots (ofEndpoint aborting e) h ∙ ap abortCode i) k
       ∙ R .slots (ofEndpoint aborted e) h ∙ ap badgeCode i in
-      subst (Mem t) pending-there (M .outside t u (R .slots (ofThread badge t) (small t u) ∙ b ∙ sym banned))
+      subst (Mem t) pending-there (M .outside t u (R .slots (ofThread Field.Badge t) (small t u) ∙ b ∙ sym banned))
 
   -- To the test
 
-  kind-of : (code : ℕ) → ((t : ℕ) → Mem t l → threadIn m place t ≡ code) → (l ≡ [] → 2 + e ≡ code) → kindIn m e ≡ code
+  kind-of : (code : ℕ) → ((t : ℕ) → Mem t l → threadIn m Field.Place t ≡ code) → (l ≡ [] → 2 + e ≡ code) → kindIn m e ≡ code
   kind-of code f g =
       rw (chain-first m (256 + e) 0 l (end-joined m s R e h)) (kind-first m e code l (λ t i. (small t i, f t i)) g)
 
   to-kind : Alike s e → Kind m e × AllOf m e l
   to-kind (inl f) =
-      let there : (t : ℕ) → Mem t l → threadIn m place t ≡ 2 + e = λ t i. at-place t (sending e) (small t i) (f t i) in
+      let there : (t : ℕ) → Mem t l → threadIn m Field.Place t ≡ 2 + e = λ t i. at-place t (sending e) (small t i) (f t i) in
       let k = kind-of (2 + e) there (λ _. refl) in
       (inl k, λ t i. there t i ∙ sym k)
   to-kind (inr f) = go (nobody? l)
     where
-      there : (t : ℕ) → Mem t l → threadIn m place t ≡ 66 + e
+      there : (t : ℕ) → Mem t l → threadIn m Field.Place t ≡ 66 + e
       there t i = at-place t (receiving e) (small t i) (f .0 t i)
 
       go : (l ≡ []) ⊎ (l ≡ [] → ⊥) → Kind m e × AllOf m e l
@@ -205,12 +206,12 @@ module _ (m : List ℕ) (s : State) (R : Reads m s) (e : ℕ) (h : e ≤ 63) whe
           let k = kind-of (66 + e) there (λ z. absurd (n z)) in
           (inr (k, R .slots (ofEndpoint cursor e) h ∙ ap firstOf (f .1)), λ t i. there t i ∙ sym k)
 
-  badge-small : Kind m e → AllOf m e l → (t : ℕ) → Mem t l → threadIn m badge t < 2 ^ 28
+  badge-small : Kind m e → AllOf m e l → (t : ℕ) → Mem t l → threadIn m Field.Badge t < 2 ^ 28
   badge-small K A t i =
       let n : s .threads t .place ≡ absent → ⊥
       = λ z. ⊎-elim (λ k. omega (arith, at-place t absent (small t i) z, A t i))
       (λ k. omega (arith, at-place t absent (small t i) z, A t i, k .0)) K in
-      omega (arith, R .slots (ofThread badge t) (small t i), R .neat .threads t .numbers n .badge)
+      omega (arith, R .slots (ofThread Field.Badge t) (small t i), R .neat .threads t .numbers n .badge)
 
   to-marks : Kind m e → AllOf m e l → NoneOutside s e → Marks-in m e l
   to-marks K A O =
@@ -224,14 +225,14 @@ module _ (m : List ℕ) (s : State) (R : Reads m s) (e : ℕ) (h : e ≤ 63) whe
             (told (tells-and (tells-eqb (endpointIn m aborting e) 1) (tells-eqb (kindIn m e) (2 + e)))));
       }
     where
-      under : (t : ℕ) → Mem t l → threadIn m badge t ≡ bannedIn m e
+      under : (t : ℕ) → Mem t l → threadIn m Field.Badge t ≡ bannedIn m e
           → (endpointIn m aborting e ≡ 1) × (kindIn m e ≡ 2 + e) → (o : Option Abort) → s .endpoints e .abort ≡ o
           → Mem t pend
       under t i b r none z =
           absurd (omega (arith, sym (r .0) ∙ R .slots (ofEndpoint aborting e) h ∙ ap abortCode z))
       under t i b r (some a) z =
           O a t z (sends A (r .1) t i) i
-          (sym (R .slots (ofThread badge t) (small t i)) ∙ b ∙ banned-hit m e (r .0) (r .1)
+          (sym (R .slots (ofThread Field.Badge t) (small t i)) ∙ b ∙ banned-hit m e (r .0) (r .1)
           ∙ R .slots (ofEndpoint aborted e) h ∙ ap badgeCode z)
 
   pub tells-waiters : Tells (waitersTest m e) (Alike s e × NoneOutside s e)

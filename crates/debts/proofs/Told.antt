@@ -14,7 +14,8 @@ use Rattle.machine.specs.Aborts.{hasNote, ownsThis}
 use Rattle.layout.specs.Words.{debtCode, noteCode, abortCode, badgeCode}
 use Rattle.store.specs.Steps.{Tells}
 use Rattle.store.specs.Store.{IsThread, IsEndpoint}
-use Rattle.store.specs.Readings.{owesIn, noteIn, abortingIn, abortedIn}
+use Rattle.layout.specs.declared.Field.{Field}
+use Rattle.store.specs.Readings.{threadIn, abortingIn, abortedIn}
 use Rattle.debts.specs.Debts.{Says, Calls, underIn, notedIn, ownsIn}
 
 -- The badge under abort.
@@ -35,7 +36,7 @@ module _ {m : List ℕ} {e r : ℕ} (b : ℕ) (T : Tells m (IsEndpoint e) r (abo
       go (some a) k j = ap (λ y. eqb y b) j
 
 -- A note, and an ownership.
-module _ {m : List ℕ} {t r : ℕ} (e b : ℕ) (T : Tells m (IsThread t) r (owesIn t)) where
+module _ {m : List ℕ} {t r : ℕ} (e b : ℕ) (T : Tells m (IsThread t) r (threadIn Field.Owes t)) where
   pub note-none : (r ≡ 65 + e → ⊥) → Says m (Calls t e) false (notedIn t e b)
   note-none z = record { says = λ s M C. go (s .threads t .debt) (T .tells s M (C .debtor .thread)) }
     where
@@ -45,7 +46,7 @@ module _ {m : List ℕ} {t r : ℕ} (e b : ℕ) (T : Tells m (IsThread t) r (owe
       go (noted f c) k = rw (ne-eqb f e (λ j. z (omega arith)))
 
   pub note-some :
-      {c : ℕ} → r ≡ 65 + e → Tells m (IsThread t) c (noteIn t) → Says m (Calls t e) (eqb c b) (notedIn t e b)
+      {c : ℕ} → r ≡ 65 + e → Tells m (IsThread t) c (threadIn Field.Note t) → Says m (Calls t e) (eqb c b) (notedIn t e b)
   note-some {c} z U =
       record {
         says = λ s M C.

@@ -7,13 +7,14 @@ ghost use Rattle.store.specs.Steps.{Shown, Does, Tells};
 ghost use Rattle.store.specs.Store.{IsEndpoint};
 ghost use Rattle.debts.specs.Debts.{Says, Debtor, Calls, underIn, notedIn, ownsIn, Joins, Endable, noting, Ends};
 ghost use Rattle.debts.specs.Debts.{Alike, Begins, firstSender, lastSender, First, cursorWithout, endWithout};
+use layout::Field;
 
 // Thread t's ownership or note goes.
 pub fn drop_debt(tables: &mut [u32], t: usize)
     requires { ⌜ Shown (now tables) (Debtor t) ⌝ }
     ensures { λ _. ⌜ Does (now (tables .entry)) (now (tables .exit)) (Debtor t) (dropDebt t) ⌝ }
 {
-    let owes = store::owes(tables, t);
+    let owes = store::thread(tables, Field::Owes, t);
     if owes == 0 {
         return;
     }
@@ -43,12 +44,12 @@ pub fn has_note(tables: &[u32], t: usize, e: usize, badge: u32) -> bool
     requires { ⌜ Shown (now tables) (Calls t e) ⌝ }
     ensures { λ r. ⌜ Says (now (tables .entry)) (Calls t e) r (notedIn t e badge) ⌝ }
 {
-    let owes = store::owes(tables, t);
+    let owes = store::thread(tables, Field::Owes, t);
     let code = (65 + e) as u32;
     if owes != code {
         return false;
     }
-    let note = store::note(tables, t);
+    let note = store::thread(tables, Field::Note, t);
     note == badge
 }
 
@@ -57,7 +58,7 @@ pub fn owns_this(tables: &[u32], t: usize, e: usize, badge: u32) -> bool
     requires { ⌜ Shown (now tables) (Calls t e) ⌝ }
     ensures { λ r. ⌜ Says (now (tables .entry)) (Calls t e) r (ownsIn t e badge) ⌝ }
 {
-    let owes = store::owes(tables, t);
+    let owes = store::thread(tables, Field::Owes, t);
     let code = (1 + e) as u32;
     if owes != code {
         return false;
@@ -122,7 +123,7 @@ fn first_sender(tables: &[u32], e: usize) -> u32
     if first == 0 {
         return 0;
     }
-    let place = store::place(tables, (first - 1) as usize);
+    let place = store::thread(tables, Field::Place, (first - 1) as usize);
     let sends = (2 + e) as u32;
     if place != sends {
         return 0;

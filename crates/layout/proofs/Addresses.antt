@@ -10,7 +10,8 @@ use lib.Dec.{ltb}
 use lib.ListN.{length, set}
 use lib.Seq.{getD-set-same, getD-set-other}
 use borrow.Author.Tests.{lt-ltb, le-ltb, ltb-true, ltb-false}
-use Rattle.layout.specs.Addresses.{Field, place, priority, ticks, outcome, badge, message, owes, note, Part}
+use Rattle.layout.specs.declared.Field.{Field}
+use Rattle.layout.specs.Addresses.{Part}
 use Rattle.layout.specs.Addresses.{status, aborting, aborted, owner, cursor, end, Slot, ofThread, ofEndpoint}
 use Rattle.layout.specs.Addresses.{ofLine, summary, top, running, unused, Link, next, prev, head, tail, Name}
 use Rattle.layout.specs.Addresses.{slot, link, ValidSlot, ValidLink, Valid, column, offset, at, linkAt, address}
@@ -41,15 +42,14 @@ endpoint-row e k h g =
     rw (le-ltb i 2560 (omega arith), le-ltb i 3200 (omega arith), lt-ltb i 3584 (omega arith), d, r)
 
 column-small : (f : Field) → column f < 10
-unfolding column
-column-small place = omega arith
-column-small priority = omega arith
-column-small ticks = omega arith
-column-small outcome = omega arith
-column-small badge = omega arith
-column-small message = omega arith
-column-small owes = omega arith
-column-small note = omega arith
+column-small Field.Place = omega arith
+column-small Field.Priority = omega arith
+column-small Field.Ticks = omega arith
+column-small Field.Outcome = omega arith
+column-small Field.Badge = omega arith
+column-small Field.Message = omega arith
+column-small Field.Owes = omega arith
+column-small Field.Note = omega arith
 
 offset-small : (p : Part) → offset p < 6
 unfolding offset
@@ -61,15 +61,15 @@ offset-small cursor = omega arith
 offset-small end = omega arith
 
 field-name : (f : Field) (t : ℕ) → inThread t (column f) ≡ slot (ofThread f t)
-unfolding inThread column
-field-name place t = refl
-field-name priority t = refl
-field-name ticks t = refl
-field-name outcome t = refl
-field-name badge t = refl
-field-name message t = refl
-field-name owes t = refl
-field-name note t = refl
+unfolding inThread
+field-name Field.Place t = refl
+field-name Field.Priority t = refl
+field-name Field.Ticks t = refl
+field-name Field.Outcome t = refl
+field-name Field.Badge t = refl
+field-name Field.Message t = refl
+field-name Field.Owes t = refl
+field-name Field.Note t = refl
 
 part-name : (p : Part) (e : ℕ) → inEndpoint e (offset p) ≡ slot (ofEndpoint p e)
 unfolding inEndpoint offset
@@ -181,21 +181,21 @@ pub record Named (i : ℕ) : Type 0 where
 
 -- The valid name of word k of thread t, of queue q and of endpoint e.
 in-thread : (t k i : ℕ) → t ≤ 255 → k < 10 → 10 * t + k ≡ i → Named i
-unfolding at column linkAt
-in-thread t zero i h g e = record { name = slot (ofThread place t); valid = h; here = e }
-in-thread t (suc zero) i h g e = record { name = slot (ofThread priority t); valid = h; here = e }
-in-thread t (suc (suc zero)) i h g e = record { name = slot (ofThread ticks t); valid = h; here = e }
-in-thread t (suc (suc (suc zero))) i h g e = record { name = slot (ofThread outcome t); valid = h; here = e }
-in-thread t (suc (suc (suc (suc zero)))) i h g e = record { name = slot (ofThread badge t); valid = h; here = e }
+unfolding at linkAt
+in-thread t zero i h g e = record { name = slot (ofThread Field.Place t); valid = h; here = e }
+in-thread t (suc zero) i h g e = record { name = slot (ofThread Field.Priority t); valid = h; here = e }
+in-thread t (suc (suc zero)) i h g e = record { name = slot (ofThread Field.Ticks t); valid = h; here = e }
+in-thread t (suc (suc (suc zero))) i h g e = record { name = slot (ofThread Field.Outcome t); valid = h; here = e }
+in-thread t (suc (suc (suc (suc zero)))) i h g e = record { name = slot (ofThread Field.Badge t); valid = h; here = e }
 in-thread t (suc (suc (suc (suc (suc zero))))) i h g e =
-    record { name = slot (ofThread message t); valid = h; here = e }
+    record { name = slot (ofThread Field.Message t); valid = h; here = e }
 in-thread t (suc (suc (suc (suc (suc (suc zero)))))) i h g e = record { name = link (next t); valid = h; here = e }
 in-thread t (suc (suc (suc (suc (suc (suc (suc zero))))))) i h g e =
     record { name = link (prev t); valid = h; here = e }
 in-thread t (suc (suc (suc (suc (suc (suc (suc (suc zero)))))))) i h g e =
-    record { name = slot (ofThread owes t); valid = h; here = e }
+    record { name = slot (ofThread Field.Owes t); valid = h; here = e }
 in-thread t (suc (suc (suc (suc (suc (suc (suc (suc (suc zero))))))))) i h g e =
-    record { name = slot (ofThread note t); valid = h; here = e }
+    record { name = slot (ofThread Field.Note t); valid = h; here = e }
 in-thread t (suc (suc (suc (suc (suc (suc (suc (suc (suc (suc k)))))))))) i h g e = absurd (omega arith)
 
 in-queue : (q k i : ℕ) → q ≤ 319 → k < 2 → 2560 + 2 * q + k ≡ i → Named i

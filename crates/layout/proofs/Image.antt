@@ -14,7 +14,8 @@ use Rattle.machine.specs.State.{State, freshState, absentThread, missingEndpoin
 use Rattle.machine.specs.Sound.{Ranges, Queues}
 use Rattle.machine.proofs.Lists.{mem?}
 use Rattle.summary.specs.Levels.{wordOf, topOf, bits}
-use Rattle.layout.specs.Addresses.{Field, place, priority, ticks, outcome, badge, message, owes, note, Part}
+use Rattle.layout.specs.declared.Field.{Field}
+use Rattle.layout.specs.Addresses.{Part}
 use Rattle.layout.specs.Addresses.{status, aborting, aborted, owner, cursor, end, ofThread, ofEndpoint, ofLine}
 use Rattle.layout.specs.Addresses.{summary, top, running, unused, next, prev, head, tail, Name, slot, link, Valid}
 use Rattle.layout.specs.Addresses.{address, at, linkAt, nameOf, word}
@@ -148,14 +149,14 @@ unfolding topOf
 top-none = bits-none 8 (λ w. not (eqb (wordOf (λ p. false) w) 0)) (λ w. rw (word-none w))
 
 fresh-thread : (f : Field) → threadWord absentThread f ≡ 0
-fresh-thread place = refl
-fresh-thread priority = refl
-fresh-thread ticks = refl
-fresh-thread outcome = refl
-fresh-thread badge = refl
-fresh-thread message = refl
-fresh-thread owes = refl
-fresh-thread note = refl
+fresh-thread Field.Place = refl
+fresh-thread Field.Priority = refl
+fresh-thread Field.Ticks = refl
+fresh-thread Field.Outcome = refl
+fresh-thread Field.Badge = refl
+fresh-thread Field.Message = refl
+fresh-thread Field.Owes = refl
+fresh-thread Field.Note = refl
 
 fresh-endpoint : (p : Part) → endpointWord missingEndpoint p ≡ 0
 fresh-endpoint status = refl

@@ -8,7 +8,8 @@ use Rattle.machine.specs.Lists.{pick}
 use Rattle.machine.specs.State.{State, Thread, Place, absent, able, sending, receiving, waiting, Debt, nothing, owns}
 use Rattle.machine.specs.State.{noted, Abort, live, closing, Endpoint, Line, quiet, pending, awaited, absentThread}
 use Rattle.machine.specs.State.{missingEndpoint}
-use Rattle.layout.specs.Addresses.{Field, place, priority, ticks, outcome, badge, message, owes, note, Part}
+use Rattle.layout.specs.declared.Field.{Field}
+use Rattle.layout.specs.Addresses.{Part}
 use Rattle.layout.specs.Addresses.{status, aborting, aborted, owner, cursor, end, ofThread, ofEndpoint, ofLine}
 use Rattle.layout.specs.Addresses.{running, next, head, at, linkAt, word}
 
@@ -62,12 +63,12 @@ abbrev pub presentThread : Place → (Field → ℕ) → Thread
 presentThread p w =
     record {
       place = p;
-      priority = within 255 (w priority);
-      ticks = ticksOf (w ticks);
-      outcome = outcomeIn p (w outcome);
-      badge = storedIn p (outcomeIn p (w outcome)) (w badge);
-      message = storedIn p (outcomeIn p (w outcome)) (w message);
-      debt = debtOf (w owes) (w note);
+      priority = within 255 (w Field.Priority);
+      ticks = ticksOf (w Field.Ticks);
+      outcome = outcomeIn p (w Field.Outcome);
+      badge = storedIn p (outcomeIn p (w Field.Outcome)) (w Field.Badge);
+      message = storedIn p (outcomeIn p (w Field.Outcome)) (w Field.Message);
+      debt = debtOf (w Field.Owes) (w Field.Note);
     }
 
 abbrev pub threadAt : Place → (Field → ℕ) → Thread
@@ -78,7 +79,7 @@ threadAt (receiving e) w = presentThread (receiving e) w
 threadAt (waiting l) w = presentThread (waiting l) w
 
 unfoldable pub threadFrom : (Field → ℕ) → Thread
-threadFrom w = threadAt (placeOf (w place)) w
+threadFrom w = threadAt (placeOf (w Field.Place)) w
 
 -- The threads of a queue from a link on, by their next words, n at most.
 unfoldable pub walk : List ℕ → ℕ → ℕ → List ℕ

@@ -8,6 +8,7 @@ ghost use Rattle.store.specs.Steps.{Shown, Does, Tells};
 ghost use Rattle.store.specs.Store.{IsThread, IsEndpoint, Any};
 ghost use Rattle.queues.specs.Queues.{Loose, Stands, StandsAt, Chooses, Comes, Waits, Blocks};
 ghost use Rattle.queues.specs.Queues.{leaveLevel, passingAt, highestLink};
+use layout::Field;
 use summary::Level;
 
 // Thread t, in no queue, joins the tail of its level's.
@@ -15,7 +16,7 @@ pub fn enqueue(tables: &mut [u32], t: usize)
     requires { ⌜ Shown (now tables) (Loose t) ⌝ }
     ensures { λ _. ⌜ Does (now (tables .entry)) (now (tables .exit)) (Loose t) (enqueueing t) ⌝ }
 {
-    let p = store::priority(tables, t);
+    let p = store::thread(tables, Field::Priority, t);
     links::push_tail(tables, p as usize, t);
     store::mark_occupied(tables, p);
 }
@@ -37,7 +38,7 @@ pub fn unqueue(tables: &mut [u32], t: usize)
     requires { ⌜ Shown (now tables) (Stands t) ⌝ }
     ensures { λ _. ⌜ Does (now (tables .entry)) (now (tables .exit)) (Stands t) (unqueueing t) ⌝ }
 {
-    let p = store::priority(tables, t);
+    let p = store::thread(tables, Field::Priority, t);
     leave_level(tables, p, t);
 }
 
@@ -101,7 +102,7 @@ fn displace(tables: &mut [u32], t: usize)
     requires { ⌜ Shown (now tables) (Loose t) ⌝ }
     ensures { λ _. ⌜ Does (now (tables .entry)) (now (tables .exit)) (Loose t) (chooseFor (some t)) ⌝ }
 {
-    let p = store::priority(tables, t);
+    let p = store::thread(tables, Field::Priority, t);
     let level = highest_level(tables);
     if p + 1 < level {
         stand_down(tables, t);

@@ -4,72 +4,16 @@ ghost use mathlib.Core.Path.{_≡_};
 ghost use Prim.Native.Nat.{_≤_};
 ghost use lib.ListN.{length};
 ghost use Rattle.layout.specs.Addresses.{at, linkAt, word, next, prev, head, tail};
-ghost use Rattle.layout.specs.Addresses.{ofThread, place, priority, ticks, outcome, badge, message, owes, note};
-ghost use Rattle.layout.specs.Addresses.{ofEndpoint, status, aborting, aborted, owner, cursor, end};
+ghost use Rattle.layout.specs.Addresses.{ofThread, ofEndpoint, status, aborting, aborted, owner, cursor, end};
 ghost use Rattle.layout.specs.Addresses.{ofLine, summary, top, running, unused};
+use layout::Field;
 
-// The place of thread t.
-pub fn place(tables: &[u32], t: usize) -> usize
+// A word of thread t.
+pub fn thread(tables: &[u32], f: Field, t: usize) -> usize
     requires { ⌜ (length (now tables) ≡ 4096) × (t ≤ 255) ⌝ }
-    ensures { λ r. ⌜ r ≡ word (now (tables .entry)) (at (ofThread place t)) ⌝ }
+    ensures { λ r. ⌜ r ≡ word (now (tables .entry)) (at (ofThread f t)) ⌝ }
 {
-    words::get(tables, words::place_at(t)) as usize
-}
-
-// The priority of thread t.
-pub fn priority(tables: &[u32], t: usize) -> usize
-    requires { ⌜ (length (now tables) ≡ 4096) × (t ≤ 255) ⌝ }
-    ensures { λ r. ⌜ r ≡ word (now (tables .entry)) (at (ofThread priority t)) ⌝ }
-{
-    words::get(tables, words::priority_at(t)) as usize
-}
-
-// The ticks of thread t.
-pub fn ticks(tables: &[u32], t: usize) -> usize
-    requires { ⌜ (length (now tables) ≡ 4096) × (t ≤ 255) ⌝ }
-    ensures { λ r. ⌜ r ≡ word (now (tables .entry)) (at (ofThread ticks t)) ⌝ }
-{
-    words::get(tables, words::ticks_at(t)) as usize
-}
-
-// The outcome of thread t.
-pub fn outcome(tables: &[u32], t: usize) -> usize
-    requires { ⌜ (length (now tables) ≡ 4096) × (t ≤ 255) ⌝ }
-    ensures { λ r. ⌜ r ≡ word (now (tables .entry)) (at (ofThread outcome t)) ⌝ }
-{
-    words::get(tables, words::outcome_at(t)) as usize
-}
-
-// The badge of thread t.
-pub fn badge(tables: &[u32], t: usize) -> usize
-    requires { ⌜ (length (now tables) ≡ 4096) × (t ≤ 255) ⌝ }
-    ensures { λ r. ⌜ r ≡ word (now (tables .entry)) (at (ofThread badge t)) ⌝ }
-{
-    words::get(tables, words::badge_at(t)) as usize
-}
-
-// The message of thread t.
-pub fn message(tables: &[u32], t: usize) -> usize
-    requires { ⌜ (length (now tables) ≡ 4096) × (t ≤ 255) ⌝ }
-    ensures { λ r. ⌜ r ≡ word (now (tables .entry)) (at (ofThread message t)) ⌝ }
-{
-    words::get(tables, words::message_at(t)) as usize
-}
-
-// What thread t owes.
-pub fn owes(tables: &[u32], t: usize) -> usize
-    requires { ⌜ (length (now tables) ≡ 4096) × (t ≤ 255) ⌝ }
-    ensures { λ r. ⌜ r ≡ word (now (tables .entry)) (at (ofThread owes t)) ⌝ }
-{
-    words::get(tables, words::owes_at(t)) as usize
-}
-
-// The badge of thread t's note.
-pub fn note(tables: &[u32], t: usize) -> usize
-    requires { ⌜ (length (now tables) ≡ 4096) × (t ≤ 255) ⌝ }
-    ensures { λ r. ⌜ r ≡ word (now (tables .entry)) (at (ofThread note t)) ⌝ }
-{
-    words::get(tables, words::note_at(t)) as usize
+    words::get(tables, words::thread_at(f, t)) as usize
 }
 
 // The status of endpoint e.

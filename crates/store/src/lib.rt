@@ -8,74 +8,18 @@ ghost use Rattle.store.specs.Steps.{Shown, Does, Tells};
 ghost use Rattle.store.specs.Store.{IsThread, IsEndpoint, IsLine, Any, HasAbort};
 ghost use Rattle.store.specs.Store.{prioritising, ticking, creating, clearing};
 ghost use Rattle.store.specs.Store.{Places, Owes, Runs, Lines, Stands, Aborts, Owners, Looks};
-ghost use Rattle.store.specs.Readings.{placeIn, priorityIn, ticksIn, outcomeIn, badgeIn, messageIn};
-ghost use Rattle.store.specs.Readings.{owesIn, noteIn, statusIn, abortingIn, abortedIn, ownerIn, cursorIn};
-ghost use Rattle.store.specs.Readings.{endIn, lineIn, runningIn};
+ghost use Rattle.store.specs.Readings.{threadIn, statusIn, abortingIn, abortedIn, ownerIn, cursorIn, endIn};
+ghost use Rattle.store.specs.Readings.{lineIn, runningIn};
 ghost use Rattle.store.specs.Marks.{Loads, MarksIn, Writes};
+use layout::Field;
 use summary::Summary;
 
-// Where thread t is, as a number.
-pub fn place(tables: &[u32], t: usize) -> u32
+// A word of thread t.
+pub fn thread(tables: &[u32], f: Field, t: usize) -> u32
     requires { ⌜ Shown (now tables) (IsThread t) ⌝ }
-    ensures { λ r. ⌜ Tells (now (tables .entry)) (IsThread t) r (placeIn t) ⌝ }
+    ensures { λ r. ⌜ Tells (now (tables .entry)) (IsThread t) r (threadIn f t) ⌝ }
 {
-    words::get(tables, words::place_at(t))
-}
-
-// The priority of thread t.
-pub fn priority(tables: &[u32], t: usize) -> u32
-    requires { ⌜ Shown (now tables) (IsThread t) ⌝ }
-    ensures { λ r. ⌜ Tells (now (tables .entry)) (IsThread t) r (priorityIn t) ⌝ }
-{
-    words::get(tables, words::priority_at(t))
-}
-
-// The ticks left to thread t.
-pub fn ticks(tables: &[u32], t: usize) -> u32
-    requires { ⌜ Shown (now tables) (IsThread t) ⌝ }
-    ensures { λ r. ⌜ Tells (now (tables .entry)) (IsThread t) r (ticksIn t) ⌝ }
-{
-    words::get(tables, words::ticks_at(t))
-}
-
-// The outcome of thread t's last wait.
-pub fn outcome(tables: &[u32], t: usize) -> u32
-    requires { ⌜ Shown (now tables) (IsThread t) ⌝ }
-    ensures { λ r. ⌜ Tells (now (tables .entry)) (IsThread t) r (outcomeIn t) ⌝ }
-{
-    words::get(tables, words::outcome_at(t))
-}
-
-// The badge that thread t stores.
-pub fn badge(tables: &[u32], t: usize) -> u32
-    requires { ⌜ Shown (now tables) (IsThread t) ⌝ }
-    ensures { λ r. ⌜ Tells (now (tables .entry)) (IsThread t) r (badgeIn t) ⌝ }
-{
-    words::get(tables, words::badge_at(t))
-}
-
-// The message that thread t stores.
-pub fn message(tables: &[u32], t: usize) -> u32
-    requires { ⌜ Shown (now tables) (IsThread t) ⌝ }
-    ensures { λ r. ⌜ Tells (now (tables .entry)) (IsThread t) r (messageIn t) ⌝ }
-{
-    words::get(tables, words::message_at(t))
-}
-
-// What thread t has to do with aborts, as a number.
-pub fn owes(tables: &[u32], t: usize) -> u32
-    requires { ⌜ Shown (now tables) (IsThread t) ⌝ }
-    ensures { λ r. ⌜ Tells (now (tables .entry)) (IsThread t) r (owesIn t) ⌝ }
-{
-    words::get(tables, words::owes_at(t))
-}
-
-// The badge of thread t's note.
-pub fn note(tables: &[u32], t: usize) -> u32
-    requires { ⌜ Shown (now tables) (IsThread t) ⌝ }
-    ensures { λ r. ⌜ Tells (now (tables .entry)) (IsThread t) r (noteIn t) ⌝ }
-{
-    words::get(tables, words::note_at(t))
+    words::get(tables, words::thread_at(f, t))
 }
 
 // The status of endpoint e, as a number.
@@ -147,10 +91,10 @@ pub fn set_place(tables: &mut [u32], t: usize, place: u32, outcome: u32, badge: 
     requires { ⌜ Shown (now tables) (IsThread t) ⌝ }
     ensures { λ _. ⌜ Places (now (tables .entry)) t place outcome badge message (now (tables .exit)) ⌝ }
 {
-    words::put(tables, words::place_at(t), place);
-    words::put(tables, words::outcome_at(t), outcome);
-    words::put(tables, words::badge_at(t), badge);
-    words::put(tables, words::message_at(t), message);
+    words::put(tables, words::thread_at(Field::Place, t), place);
+    words::put(tables, words::thread_at(Field::Outcome, t), outcome);
+    words::put(tables, words::thread_at(Field::Badge, t), badge);
+    words::put(tables, words::thread_at(Field::Message, t), message);
 }
 
 // Thread t has priority p.
@@ -158,7 +102,7 @@ pub fn set_priority(tables: &mut [u32], t: usize, p: u32)
     requires { ⌜ Shown (now tables) (IsThread t) ⌝ }
     ensures { λ _. ⌜ Does (now (tables .entry)) (now (tables .exit)) (IsThread t) (prioritising t p) ⌝ }
 {
-    words::put(tables, words::priority_at(t), p);
+    words::put(tables, words::thread_at(Field::Priority, t), p);
 }
 
 // Thread t has n ticks left.
@@ -166,7 +110,7 @@ pub fn set_ticks(tables: &mut [u32], t: usize, n: u32)
     requires { ⌜ Shown (now tables) (IsThread t) ⌝ }
     ensures { λ _. ⌜ Does (now (tables .entry)) (now (tables .exit)) (IsThread t) (ticking t n) ⌝ }
 {
-    words::put(tables, words::ticks_at(t), n);
+    words::put(tables, words::thread_at(Field::Ticks, t), n);
 }
 
 // What thread t has to do with aborts, and the badge of its note.
@@ -174,8 +118,8 @@ pub fn set_owes(tables: &mut [u32], t: usize, code: u32, badge: u32)
     requires { ⌜ Shown (now tables) (IsThread t) ⌝ }
     ensures { λ _. ⌜ Owes (now (tables .entry)) t code badge (now (tables .exit)) ⌝ }
 {
-    words::put(tables, words::owes_at(t), code);
-    words::put(tables, words::note_at(t), badge);
+    words::put(tables, words::thread_at(Field::Owes, t), code);
+    words::put(tables, words::thread_at(Field::Note, t), badge);
 }
 
 // Thread t is new: able, of priority p, with all its ticks.

@@ -16,7 +16,8 @@ use Rattle.layout.specs.Words.{statusCode}
 use Rattle.layout.specs.Shows.{Shows}
 use Rattle.store.specs.Steps.{Shown, Does, Tells}
 use Rattle.store.specs.Store.{IsThread, IsEndpoint}
-use Rattle.store.specs.Readings.{statusIn, badgeIn, messageIn}
+use Rattle.layout.specs.declared.Field.{Field}
+use Rattle.store.specs.Readings.{threadIn, statusIn}
 use Rattle.queues.specs.Queues.{Chooses, Comes, Waits}
 use Rattle.debts.specs.Debts.{Debtor, firstSender}
 use Rattle.results.specs.Results.{Calling, Performs, Accepts, answerOf}
@@ -56,7 +57,7 @@ module _ {u e : ℕ} where
     taken-asked S = shown-next wakes (λ s M h. chooses s h) S
 
     pub taken :
-        {o : List ℕ} {a : Answer} {b x : ℕ} → Tells m (IsThread u) b (badgeIn u) → Tells m (IsThread u) x (messageIn u)
+        {o : List ℕ} {a : Answer} {b x : ℕ} → Tells m (IsThread u) b (threadIn Field.Badge u) → Tells m (IsThread u) x (threadIn Field.Message u)
         → Accepts n (answerOf 0 0 b x) a Chooses o → Performs m o a (Takes u e) (takingFrom e u)
     taken {b = b} {x = x} B X A =
         record {

@@ -10,6 +10,7 @@ ghost use Rattle.debts.specs.Debts.{Alike};
 ghost use Rattle.results.specs.Results.{Asked, Calling, Performs};
 ghost use Rattle.transfers.specs.Transfers.{Dropped, Takes, FirstAt, Suspends, firing, handing, taking};
 ghost use Rattle.transfers.specs.Transfers.{takingFrom};
+use layout::Field;
 use machine::Answer;
 
 // The running thread t blocks at a place: code 1.
@@ -71,7 +72,7 @@ fn first_at(tables: &[u32], e: usize, place: u32) -> u32
     if link == 0 {
         return 0;
     }
-    let at = store::place(tables, (link - 1) as usize);
+    let at = store::thread(tables, Field::Place, (link - 1) as usize);
     if at != place {
         return 0;
     }
@@ -119,8 +120,8 @@ fn take_from(tables: &mut [u32], e: usize, u: usize) -> Answer
     requires { ⌜ Shown (now tables) (Takes u e) ⌝ }
     ensures { λ r. ⌜ Performs (now (tables .entry)) (now (tables .exit)) r (Takes u e) (takingFrom e u) ⌝ }
 {
-    let badge = store::badge(tables, u);
-    let message = store::message(tables, u);
+    let badge = store::thread(tables, Field::Badge, u);
+    let message = store::thread(tables, Field::Message, u);
     queues::wake_from(tables, e, u, 1, 0, 0);
     let answer = Answer {
         code: 0,

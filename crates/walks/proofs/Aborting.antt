@@ -8,7 +8,8 @@ use native.Mathlib.Omega.{arith}
 use lib.Dec.{eqb, ltb}
 use borrow.Author.Tests.{le-leb, lt-leb, ne-eqb}
 use Rattle.machine.specs.Lists.{pick}
-use Rattle.layout.specs.Addresses.{place, owes, aborting, aborted, owner, cursor, end, head, linkAt, word}
+use Rattle.layout.specs.declared.Field.{Field}
+use Rattle.layout.specs.Addresses.{aborting, aborted, owner, cursor, end, head, linkAt, word}
 use Rattle.layout.specs.Tests.{same}
 use Rattle.checks.specs.Checks.{threadIn, endpointIn, kindOf, bannedOf, ownerTest, abortTest, statusTest}
 
@@ -50,7 +51,7 @@ module _ (m : List ℕ) (e : ℕ) where
   owner-far (suc t) h = rw (lt-leb t 255 (omega arith))
 
   pub owner-owes :
-      (o : ℕ) {w : ℕ} → (o ≡ 0 → ⊥) → o ≤ 256 → w ≡ threadIn m owes (o - 1) → eqb w (e + 1) ≡ ownerTest o m e
+      (o : ℕ) {w : ℕ} → (o ≡ 0 → ⊥) → o ≤ 256 → w ≡ threadIn m Field.Owes (o - 1) → eqb w (e + 1) ≡ ownerTest o m e
   unfolding ownerTest
   owner-owes zero n h f = absurd (n refl)
   owner-owes (suc t) n h f =
@@ -91,7 +92,7 @@ module _ (m : List ℕ) (e : ℕ) where
   kind-far zero h = absurd (omega arith)
   kind-far (suc t) h = rw (lt-leb t 255 (omega arith))
 
-  pub kind-first : (y : ℕ) {p : ℕ} → (y ≡ 0 → ⊥) → y ≤ 256 → p ≡ threadIn m place (y - 1) → p ≡ kindOf y m e
+  pub kind-first : (y : ℕ) {p : ℕ} → (y ≡ 0 → ⊥) → y ≤ 256 → p ≡ threadIn m Field.Place (y - 1) → p ≡ kindOf y m e
   unfolding kindOf
   kind-first zero n h f = absurd (n refl)
   kind-first (suc t) n h f = let q : suc t - 1 ≡ t = omega arith in rw (le-leb t 255 (omega arith)) (rw q at f)

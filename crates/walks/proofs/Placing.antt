@@ -5,12 +5,13 @@ use mathlib.Core.List.{List}
 use mathlib.Core.Path.{_≡_}
 use native.Mathlib.Numerals.{add-one}
 use lib.Dec.{eqb, leb, ltb}
-use Rattle.layout.specs.Addresses.{place, running, at, next, prev, linkAt, word}
+use Rattle.layout.specs.declared.Field.{Field}
+use Rattle.layout.specs.Addresses.{running, at, next, prev, linkAt, word}
 use Rattle.checks.specs.Checks.{threadIn, metBelow, queuedTest, placedTest}
 use Rattle.walks.proofs.Aborting.{beq-same}
 
 pub placed-is :
-    (m : List ℕ) (t : ℕ) {b : Bool} {p r n v : ℕ} → b ≡ metBelow 320 m t → p ≡ threadIn m place t
+    (m : List ℕ) (t : ℕ) {b : Bool} {p r n v : ℕ} → b ≡ metBelow 320 m t → p ≡ threadIn m Field.Place t
     → r ≡ word m (at running) → n ≡ word m (linkAt (next t)) → v ≡ word m (linkAt (prev t))
     → (Bool·beq b ((eqb p 1 && not (eqb r (t + 1))) || (leb 2 p && ltb p 130)) && (b || (eqb n 0 && eqb v 0)))
     ≡ placedTest m t

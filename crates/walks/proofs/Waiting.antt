@@ -8,7 +8,8 @@ use native.Mathlib.Omega.{arith}
 use lib.Dec.{eqb, leb}
 use lib.ListN.{length}
 use borrow.Author.Tests.{eq-eqb, ne-eqb, le-leb, lt-leb}
-use Rattle.layout.specs.Addresses.{word, linkAt, head, tail, next, prev, place, badge, status, aborting, cursor, end}
+use Rattle.layout.specs.declared.Field.{Field}
+use Rattle.layout.specs.Addresses.{word, linkAt, head, tail, next, prev, status, aborting, cursor, end}
 use Rattle.checks.specs.Checks.{Phase, ahead, inside, past, enter, leave, allowed, complete, threadIn, endpointIn}
 use Rattle.checks.specs.Checks.{kindOf, bannedOf, waitersFrom, waitersTest, statusTest, abortTest, endpointTest}
 use Rattle.checks.specs.Checks.{metFrom, metBelow, met}
@@ -47,8 +48,8 @@ pub record WaitersAt (m : List ℕ) (e k c d b : ℕ) (before after : List ℕ) 
 -- Thread t is met behind link x, in phase f, as it should be.
 abbrev met-well : List ℕ → ℕ → ℕ → ℕ → Phase → ℕ → ℕ → Bool
 met-well m k c b f x t =
-    leb t 255 && eqb (word m (linkAt (prev t))) x && eqb (threadIn m place t) k
-    && allowed (enter f c (suc t)) b (threadIn m badge t)
+    leb t 255 && eqb (word m (linkAt (prev t))) x && eqb (threadIn m Field.Place t) k
+    && allowed (enter f c (suc t)) b (threadIn m Field.Badge t)
 
 module _ (m : List ℕ) (q k c d b : ℕ) where
   -- One turn more makes no difference where the walk comes to its end.
@@ -84,8 +85,8 @@ module _ (m : List ℕ) (q k c d b : ℕ) where
   -- The thread of link y, behind link x and in phase f, is as it should be.
   abbrev pub Stands : Phase → ℕ → ℕ → Bool → Type 0
   Stands f x y r =
-      r ≡ (eqb (word m (linkAt (prev (y - 1)))) x && eqb (threadIn m place (y - 1)) k
-      && allowed f b (threadIn m badge (y - 1)))
+      r ≡ (eqb (word m (linkAt (prev (y - 1)))) x && eqb (threadIn m Field.Place (y - 1)) k
+      && allowed f b (threadIn m Field.Badge (y - 1)))
 
   waiters-not :
       (left y : ℕ) (f : Phase) (x : ℕ) {h : Phase} {r : Bool} → 0 < left → (y ≡ 0 → ⊥) → y ≤ 256

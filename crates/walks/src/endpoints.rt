@@ -10,6 +10,7 @@ ghost use Rattle.checks.specs.Checks.{statusTest, endpointTest, met, metBelow};
 ghost use Rattle.walks.specs.Steps.{phaseOf, standsBehind, waitersAs, kindFits};
 ghost use Rattle.walks.specs.Marks.{marksOf, Walk, Walks};
 use crate::phases::Phase;
+use layout::Field;
 
 // An absent endpoint is empty; an absent or closing one has no abort.
 fn status(tables: &[u32], e: usize) -> bool
@@ -39,7 +40,7 @@ fn owner(tables: &[u32], e: usize) -> bool
     if 256 < owner {
         return false;
     }
-    reads::owes(tables, owner - 1) == e + 1
+    reads::thread(tables, Field::Owes, owner - 1) == e + 1
 }
 
 // No abort, or one of a badge in range.
@@ -72,7 +73,7 @@ fn kind(tables: &[u32], e: usize) -> usize
     if 256 < y {
         return 0;
     }
-    reads::place(tables, y - 1)
+    reads::thread(tables, Field::Place, y - 1)
 }
 
 // The badge that may not stand outside the marks, 2^28 where there is none.
@@ -92,8 +93,8 @@ fn stands(tables: &[u32], k: usize, b: usize, x: usize, t: usize, f: Phase) -> b
     ensures { λ r. ⌜ r ≡ standsBehind (now (tables .entry)) k b (phaseOf f) x t ⌝ }
 {
     let prev = reads::prev(tables, t);
-    let place = reads::place(tables, t);
-    let badge = reads::badge(tables, t);
+    let place = reads::thread(tables, Field::Place, t);
+    let badge = reads::thread(tables, Field::Badge, t);
     (prev == x) & (place == k) & crate::phases::allowed(f, b, badge)
 }
 

@@ -5,8 +5,8 @@ use Rattle.threads.proofs.Creating.{create-refused, enqueue-asked, crea
 use Rattle.threads.proofs.create_thread.Statement.{statement}
 use Rattle.threads.proofs.create_thread.Tie as tie
 
-place-requires : tie.Need-place-requires
-place-requires c κs = search needs
+thread-requires : tie.Need-thread-requires
+thread-requires c κs = search needs
 
 plain-requires : tie.Need-plain-requires
 plain-requires c κs = search needs
@@ -21,7 +21,10 @@ new-thread-requires : tie.Need-new-thread-requires
 new-thread-requires c κs = search needs
 
 enqueue-requires : tie.Need-enqueue-requires
-enqueue-requires c κs = search enqueue-asked
+enqueue-requires c κs =
+    let d = c .before .before .before .before .before .before in
+    enqueue-asked _ (d .thread .ensures) (c .before .before .before .before .before .if1 .left)
+    (c .before .before .before .new-thread .ensures) (d .before .before .before .pre)
 
 done-requires : tie.Need-done-requires
 done-requires c κs = search create-chooses
@@ -36,7 +39,7 @@ pub create-thread-spec : {M : Type 1} → statement M
 create-thread-spec =
     tie.close
     (tie.spec
-    place-requires
+    thread-requires
     plain-requires
     same-length
     returns

@@ -13,11 +13,11 @@ returns c = rw (← c .before .owner .ensures) (owner-none _ _ _ (c .if1 .taken)
 returns-2 : tie.Need-returns-2
 returns-2 c = rw (← c .before .before .owner .ensures) (owner-far _ _ _ (c .if2 .taken))
 
-sub-owes : tie.Need-sub-owes
-sub-owes c = search needs
+sub-thread : tie.Need-sub-thread
+sub-thread c = search needs
 
-owes-requires : tie.Need-owes-requires
-owes-requires c κs = search needs
+thread-requires : tie.Need-thread-requires
+thread-requires c κs = search needs
 
 add-result : tie.Need-add-result
 add-result c = search needs
@@ -25,9 +25,9 @@ add-result c = search needs
 returns-3 : tie.Need-returns-3
 returns-3 c =
     rw (← c .before .before .before .owner .ensures)
-    (owner-owes _ _ _ (c .before .before .if1 .left) (c .before .if2 .left) (c .owes .ensures))
+    (owner-owes _ _ _ (c .before .before .if1 .left) (c .before .if2 .left) (c .thread .ensures))
 
 pub owner-spec : {M : Type 1} → statement M
 owner-spec =
     tie.close
-    (tie.spec owner-requires returns returns-2 sub-owes owes-requires add-result returns-3)
+    (tie.spec owner-requires returns returns-2 sub-thread thread-requires add-result returns-3)
