@@ -16,9 +16,12 @@ use Rattle.blocks.proofs.Ticks.{with-ticks}
 
 pub loaded :
     {m : List ℕ} {t : ℕ} (b : Block) → Tells m (IsThread t) (b .place) (threadIn Field.Place t)
-    → Tells m (IsThread t) (b .priority) (threadIn Field.Priority t) → Tells m (IsThread t) (b .ticks) (threadIn Field.Ticks t)
-    → Tells m (IsThread t) (b .outcome) (threadIn Field.Outcome t) → Tells m (IsThread t) (b .badge) (threadIn Field.Badge t)
-    → Tells m (IsThread t) (b .message) (threadIn Field.Message t) → Tells m (IsThread t) (b .owes) (threadIn Field.Owes t)
+    → Tells m (IsThread t) (b .priority) (threadIn Field.Priority t)
+    → Tells m (IsThread t) (b .ticks) (threadIn Field.Ticks t)
+    → Tells m (IsThread t) (b .outcome) (threadIn Field.Outcome t)
+    → Tells m (IsThread t) (b .badge) (threadIn Field.Badge t)
+    → Tells m (IsThread t) (b .message) (threadIn Field.Message t)
+    → Tells m (IsThread t) (b .owes) (threadIn Field.Owes t)
     → Tells m (IsThread t) (b .note) (threadIn Field.Note t) → Loads m t b
 loaded b P Q T O B X D N =
     record {

@@ -13,7 +13,8 @@ use Rattle.machine.specs.Endpoints.{ownerOf}
 use Rattle.machine.specs.Sound.{Stores}
 use Rattle.machine.proofs.Lists.{Same, same, other, same?}
 use Rattle.layout.specs.declared.Field.{Field}
-use Rattle.layout.specs.Addresses.{owner, ofThread}
+use Rattle.layout.specs.declared.Part.{Part}
+use Rattle.layout.specs.Addresses.{ofThread}
 use Rattle.layout.specs.Addresses.{ofEndpoint, ofLine, at, word}
 use Rattle.layout.specs.Words.{linkOf, placeCode, debtCode, noteCode, lineCode, threadWord}
 use Rattle.layout.specs.Decode.{placeOf, threadFrom}
@@ -31,18 +32,21 @@ use Rattle.checks.proofs.Reading.{Reads}
 
 abbrev Zeros : (Field → ℕ) → Type 0
 Zeros w =
-    ((((((w Field.Priority ≡ 0) × (w Field.Ticks ≡ 0)) × (w Field.Outcome ≡ 0)) × (w Field.Badge ≡ 0)) × (w Field.Message ≡ 0)) × (w Field.Owes ≡ 0))
+    ((((((w Field.Priority ≡ 0) × (w Field.Ticks ≡ 0)) × (w Field.Outcome ≡ 0)) × (w Field.Badge ≡ 0))
+    × (w Field.Message ≡ 0)) × (w Field.Owes ≡ 0))
     × (w Field.Note ≡ 0)
 
 abbrev Counted : (Field → ℕ) → Type 0
 Counted w =
-    (((((w Field.Place ≤ 161) × (w Field.Priority ≤ 255)) × ((1 ≤ w Field.Ticks) × (w Field.Ticks ≤ 5))) × (w Field.Outcome ≤ 5))
+    (((((w Field.Place ≤ 161) × (w Field.Priority ≤ 255)) × ((1 ≤ w Field.Ticks) × (w Field.Ticks ≤ 5)))
+    × (w Field.Outcome ≤ 5))
     × (w Field.Badge < 2 ^ 28)) × (w Field.Message < 2 ^ 28)
 
 abbrev Kept : (Field → ℕ) → Type 0
 Kept w =
     ((w Field.Place ≡ 1) ⊎ (w Field.Outcome ≡ 0))
-    × (((w Field.Outcome ≡ 2) ⊎ ((2 ≤ w Field.Place) × (w Field.Place < 66))) ⊎ ((w Field.Badge ≡ 0) × (w Field.Message ≡ 0)))
+    × (((w Field.Outcome ≡ 2) ⊎ ((2 ≤ w Field.Place) × (w Field.Place < 66)))
+    ⊎ ((w Field.Badge ≡ 0) × (w Field.Message ≡ 0)))
 
 abbrev OnLine : List ℕ → ℕ → ℕ → Type 0
 OnLine m t w = (w < 130) ⊎ (word m (at (ofLine (w - 130))) ≡ suc (suc t))
@@ -50,7 +54,7 @@ OnLine m t w = (w < 130) ⊎ (word m (at (ofLine (w - 130))) ≡ suc (suc t))
 abbrev Owing : List ℕ → ℕ → ℕ → ℕ → Type 0
 Owing m t n zero = n ≡ 0
 Owing m t n (suc w) =
-    (w < 64 → (n ≡ 0) × (endpointIn m owner w ≡ suc t)) × ((w < 64 → ⊥) → (w < 128) × (n < 2 ^ 28))
+    (w < 64 → (n ≡ 0) × (endpointIn m Part.Owner w ≡ suc t)) × ((w < 64 → ⊥) → (w < 128) × (n < 2 ^ 28))
 
 module _ (m : List ℕ) (t : ℕ) where
   tells-absent : Tells (absentTest m t) (Zeros (λ f. threadIn m f t))
@@ -234,7 +238,8 @@ block-words m t h e = go (same? (threadIn m Field.Place t) 0) (tells-words m t .
 
     go : Same (w Field.Place) 0
         → ((w Field.Place ≡ 0 → Zeros w)
-        × ((w Field.Place ≡ 0 → ⊥) → ((Counted w × Kept w) × OnLine m t (w Field.Place)) × Owing m t (w Field.Note) (w Field.Owes)))
+        × ((w Field.Place ≡ 0 → ⊥) → ((Counted w × Kept w) × OnLine m t (w Field.Place))
+        × Owing m t (w Field.Note) (w Field.Owes)))
         → Same-words w
     go (same i _) r = absent-words t w i (r .0 i)
     go (other n _) r =
@@ -336,18 +341,19 @@ module _ (m : List ℕ) (s : State) (R : Reads m s) (t : ℕ) (h : t ≤ 255) wh
   owes-of : Owing m t (threadIn m Field.Note t) (threadIn m Field.Owes t) → Owes s t
   owes-of o e i =
       let small : e ≤ 63 = subst DebtSmall i (X .debt-small) in
-      let code : threadIn m Field.Owes t ≡ suc e = (here Field.Owes ∙ ap debtCode i) ∙ (let z : 1 + e ≡ suc e = omega arith in z) in
+      let code : threadIn m Field.Owes t ≡ suc e
+      = (here Field.Owes ∙ ap debtCode i) ∙ (let z : 1 + e ≡ suc e = omega arith in z) in
       let k = subst (Owing m t (threadIn m Field.Note t)) code o .0 (omega arith) .1 in
       tells-some (ownerOf (s .endpoints e .abort)) t .holds
       (tells-eqb (linkOf (ownerOf (s .endpoints e .abort))) (suc t) .back
-      (sym (R .slots (ofEndpoint owner e) small) ∙ k))
+      (sym (R .slots (ofEndpoint Part.Owner e) small) ∙ k))
 
   owing : Owes s t → (d : Debt) → s .threads t .debt ≡ d → DebtSmall d → Owing m t (noteCode d) (debtCode d)
   owing O nothing i g = refl
   owing O (owns e) i g =
       let z : 1 + e ≡ suc e = omega arith in
       subst (Owing m t 0) (sym z)
-      (λ _. (refl, R .slots (ofEndpoint owner e) g ∙ ap linkOf (O e i)), λ n. absurd (n (omega arith)))
+      (λ _. (refl, R .slots (ofEndpoint Part.Owner e) g ∙ ap linkOf (O e i)), λ n. absurd (n (omega arith)))
   owing O (noted e b) i g =
       let z : 65 + e ≡ suc (64 + e) = omega arith in
       subst (Owing m t b) (sym z) (λ k. absurd (omega arith), λ _. (omega arith, g .1))
@@ -381,7 +387,10 @@ module _ (m : List ℕ) (s : State) (R : Reads m s) (t : ℕ) (h : t ≤ 255) wh
         λ z. (
           (
             (
-              (((zero-word z Field.Priority, zero-word z Field.Ticks), zero-word z Field.Outcome), zero-word z Field.Badge),
+              (
+                ((zero-word z Field.Priority, zero-word z Field.Ticks), zero-word z Field.Outcome),
+                zero-word z Field.Badge,
+              ),
               zero-word z Field.Message,
             ),
             zero-word z Field.Owes,

@@ -69,7 +69,8 @@ pub waiters-split :
     (m : List ℕ) (q k c d b n y : ℕ) (f : Phase) (x : ℕ)
     → waitersFrom n y f m q k c d b x
     ≡ chainFrom n y m q x
-    && (every (λ t. eqb (threadIn m Field.Place t) k) (metFrom n y m) && phased f c d b (threadIn m Field.Badge) (metFrom n y m))
+    && (every (λ t. eqb (threadIn m Field.Place t) k) (metFrom n y m)
+    && phased f c d b (threadIn m Field.Badge) (metFrom n y m))
 unfolding waitersFrom chainFrom metFrom phased
 waiters-split m q k c d b zero y f x = refl
 waiters-split m q k c d b (suc n) zero f x = refl

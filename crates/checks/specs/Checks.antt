@@ -8,7 +8,8 @@ use Rattle.machine.specs.Lists.{pick}
 use Rattle.summary.specs.Levels.{wordOf, topOf}
 use Rattle.layout.specs.declared.Field.{Field}
 use Rattle.layout.specs.Addresses.{ofThread}
-use Rattle.layout.specs.Addresses.{Part, status, aborting, aborted, owner, cursor, end, ofEndpoint}
+use Rattle.layout.specs.declared.Part.{Part}
+use Rattle.layout.specs.Addresses.{ofEndpoint}
 use Rattle.layout.specs.Addresses.{ofLine, summary, top, running, unused, next, prev, head, at, linkAt, word}
 use Rattle.layout.specs.Addresses.{afterAt, beforeAt}
 use Rattle.layout.specs.Tests.{all, member, same}
@@ -34,7 +35,8 @@ unfoldable pub numbersTest : List ℕ → ℕ → Bool
 numbersTest m t =
     leb (threadIn m Field.Place t) 161 && leb (threadIn m Field.Priority t) 255
     && (leb 1 (threadIn m Field.Ticks t) && leb (threadIn m Field.Ticks t) 5)
-    && leb (threadIn m Field.Outcome t) 5 && ltb (threadIn m Field.Badge t) (2 ^ 28) && ltb (threadIn m Field.Message t) (2 ^ 28)
+    && leb (threadIn m Field.Outcome t) 5 && ltb (threadIn m Field.Badge t) (2 ^ 28)
+    && ltb (threadIn m Field.Message t) (2 ^ 28)
 
 -- A blocked thread's outcome is 0, and badge and message stand only where a thread stores them.
 unfoldable pub storedTest : List ℕ → ℕ → Bool
@@ -52,7 +54,7 @@ waitsTest m t =
 unfoldable pub owesTest : ℕ → List ℕ → ℕ → Bool
 owesTest zero m t = eqb (threadIn m Field.Note t) 0
 owesTest (suc w) m t =
-    pick (ltb w 64) (eqb (threadIn m Field.Note t) 0 && eqb (endpointIn m owner w) (suc t))
+    pick (ltb w 64) (eqb (threadIn m Field.Note t) 0 && eqb (endpointIn m Part.Owner w) (suc t))
     (ltb w 128 && ltb (threadIn m Field.Note t) (2 ^ 28))
 
 unfoldable pub presentTest : List ℕ → ℕ → Bool
@@ -126,14 +128,14 @@ kindOf zero m e = 2 + e
 kindOf (suc t) m e = pick (leb t 255) (threadIn m Field.Place t) 0
 
 unfoldable pub bannedOf : List ℕ → ℕ → ℕ → ℕ
-bannedOf m e k = pick (eqb (endpointIn m aborting e) 1 && eqb k (2 + e)) (endpointIn m aborted e) (2 ^ 28)
+bannedOf m e k = pick (eqb (endpointIn m Part.Aborting e) 1 && eqb k (2 + e)) (endpointIn m Part.Aborted e) (2 ^ 28)
 
 unfoldable pub waitersTest : List ℕ → ℕ → Bool
 waitersTest m e =
     (eqb (kindOf (word m (linkAt (head (256 + e)))) m e) (2 + e)
-    || (eqb (kindOf (word m (linkAt (head (256 + e)))) m e) (66 + e) && eqb (endpointIn m cursor e) 0))
+    || (eqb (kindOf (word m (linkAt (head (256 + e)))) m e) (66 + e) && eqb (endpointIn m Part.Cursor e) 0))
     && waitersFrom 257 (word m (afterAt (256 + e) 0)) ahead m (256 + e)
-    (kindOf (word m (linkAt (head (256 + e)))) m e) (endpointIn m cursor e) (endpointIn m end e)
+    (kindOf (word m (linkAt (head (256 + e)))) m e) (endpointIn m Part.Cursor e) (endpointIn m Part.End e)
     (bannedOf m e (kindOf (word m (linkAt (head (256 + e)))) m e)) 0
 
 -- An owner owes: it names the endpoint.
@@ -144,23 +146,23 @@ ownerTest (suc t) m e = leb t 255 && eqb (threadIn m Field.Owes t) (suc e)
 -- No abort, or one of a badge in range.
 unfoldable pub abortTest : ℕ → List ℕ → ℕ → Bool
 abortTest zero m e =
-    eqb (endpointIn m aborted e) 0 && eqb (endpointIn m owner e) 0 && eqb (endpointIn m cursor e) 0
-    && eqb (endpointIn m end e) 0
+    eqb (endpointIn m Part.Aborted e) 0 && eqb (endpointIn m Part.Owner e) 0 && eqb (endpointIn m Part.Cursor e) 0
+    && eqb (endpointIn m Part.End e) 0
 abortTest (suc zero) m e =
-    ltb (endpointIn m aborted e) (2 ^ 28) && ownerTest (endpointIn m owner e) m e
-    && same (eqb (endpointIn m cursor e) 0) (eqb (endpointIn m end e) 0)
+    ltb (endpointIn m Part.Aborted e) (2 ^ 28) && ownerTest (endpointIn m Part.Owner e) m e
+    && same (eqb (endpointIn m Part.Cursor e) 0) (eqb (endpointIn m Part.End e) 0)
 abortTest (suc (suc n)) m e = false
 
 -- An absent endpoint is empty; an absent or closing one has no abort.
 unfoldable pub statusTest : ℕ → List ℕ → ℕ → Bool
-statusTest zero m e = eqb (word m (linkAt (head (256 + e)))) 0 && eqb (endpointIn m aborting e) 0
+statusTest zero m e = eqb (word m (linkAt (head (256 + e)))) 0 && eqb (endpointIn m Part.Aborting e) 0
 statusTest (suc zero) m e = true
-statusTest (suc (suc zero)) m e = eqb (endpointIn m aborting e) 0
+statusTest (suc (suc zero)) m e = eqb (endpointIn m Part.Aborting e) 0
 statusTest (suc (suc (suc n))) m e = false
 
 unfoldable pub endpointTest : List ℕ → ℕ → Bool
 endpointTest m e =
-    statusTest (endpointIn m status e) m e && abortTest (endpointIn m aborting e) m e && waitersTest m e
+    statusTest (endpointIn m Part.Status e) m e && abortTest (endpointIn m Part.Aborting e) m e && waitersTest m e
 
 -- Lines, summary, running thread, unused words
 

@@ -15,11 +15,12 @@ use Rattle.layout.specs.Words.{debtCode, noteCode, abortCode, badgeCode}
 use Rattle.store.specs.Steps.{Tells}
 use Rattle.store.specs.Store.{IsThread, IsEndpoint}
 use Rattle.layout.specs.declared.Field.{Field}
-use Rattle.store.specs.Readings.{threadIn, abortingIn, abortedIn}
+use Rattle.layout.specs.declared.Part.{Part}
+use Rattle.store.specs.Readings.{endpointIn, threadIn}
 use Rattle.debts.specs.Debts.{Says, Calls, underIn, notedIn, ownsIn}
 
 -- The badge under abort.
-module _ {m : List ℕ} {e r : ℕ} (b : ℕ) (T : Tells m (IsEndpoint e) r (abortingIn e)) where
+module _ {m : List ℕ} {e r : ℕ} (b : ℕ) (T : Tells m (IsEndpoint e) r (endpointIn Part.Aborting e)) where
   pub under-none : r ≡ 0 → Says m (IsEndpoint e) false (underIn e b)
   under-none z = record { says = λ s M h. go (s .endpoints e .abort) (T .tells s M h) }
     where
@@ -28,7 +29,8 @@ module _ {m : List ℕ} {e r : ℕ} (b : ℕ) (T : Tells m (IsEndpoint e) r (abo
       go (some a) k = absurd (omega arith)
 
   pub under-some :
-      {c : ℕ} → (r ≡ 0 → ⊥) → Tells m (IsEndpoint e) c (abortedIn e) → Says m (IsEndpoint e) (eqb c b) (underIn e b)
+      {c : ℕ} → (r ≡ 0 → ⊥) → Tells m (IsEndpoint e) c (endpointIn Part.Aborted e)
+      → Says m (IsEndpoint e) (eqb c b) (underIn e b)
   under-some {c} z U = record { says = λ s M h. go (s .endpoints e .abort) (T .tells s M h) (U .tells s M h) }
     where
       go : (x : Option Abort) → r ≡ abortCode x → c ≡ badgeCode x → eqb c b ≡ underAbort b x
@@ -46,7 +48,8 @@ module _ {m : List ℕ} {t r : ℕ} (e b : ℕ) (T : Tells m (IsThread t) r (thr
       go (noted f c) k = rw (ne-eqb f e (λ j. z (omega arith)))
 
   pub note-some :
-      {c : ℕ} → r ≡ 65 + e → Tells m (IsThread t) c (threadIn Field.Note t) → Says m (Calls t e) (eqb c b) (notedIn t e b)
+      {c : ℕ} → r ≡ 65 + e → Tells m (IsThread t) c (threadIn Field.Note t)
+      → Says m (Calls t e) (eqb c b) (notedIn t e b)
   note-some {c} z U =
       record {
         says = λ s M C.

@@ -8,6 +8,7 @@ ghost use Rattle.store.specs.Store.{IsEndpoint};
 ghost use Rattle.debts.specs.Debts.{Says, Debtor, Calls, underIn, notedIn, ownsIn, Joins, Endable, noting, Ends};
 ghost use Rattle.debts.specs.Debts.{Alike, Begins, firstSender, lastSender, First, cursorWithout, endWithout};
 use layout::Field;
+use layout::Part;
 
 // Thread t's ownership or note goes.
 pub fn drop_debt(tables: &mut [u32], t: usize)
@@ -31,11 +32,11 @@ pub fn under_abort(tables: &[u32], e: usize, badge: u32) -> bool
     requires { ⌜ Shown (now tables) (IsEndpoint e) ⌝ }
     ensures { λ r. ⌜ Says (now (tables .entry)) (IsEndpoint e) r (underIn e badge) ⌝ }
 {
-    let here = store::aborting(tables, e);
+    let here = store::endpoint(tables, Part::Aborting, e);
     if here == 0 {
         return false;
     }
-    let aborted = store::aborted(tables, e);
+    let aborted = store::endpoint(tables, Part::Aborted, e);
     aborted == badge
 }
 
@@ -83,7 +84,7 @@ pub fn join(tables: &mut [u32], t: usize, e: usize)
     requires { ⌜ Shown (now tables) (Joins t e) ⌝ }
     ensures { λ _. ⌜ Does (now (tables .entry)) (now (tables .exit)) (Joins t e) (join t e) ⌝ }
 {
-    let owner = store::owner(tables, e);
+    let owner = store::endpoint(tables, Part::Owner, e);
     if owner != 0 {
         return;
     }
@@ -96,11 +97,11 @@ fn note_owner(tables: &mut [u32], e: usize)
     requires { ⌜ Shown (now tables) (Endable e) ⌝ }
     ensures { λ _. ⌜ Does (now (tables .entry)) (now (tables .exit)) (Endable e) (noting e) ⌝ }
 {
-    let owner = store::owner(tables, e);
+    let owner = store::endpoint(tables, Part::Owner, e);
     if owner == 0 {
         return;
     }
-    let badge = store::aborted(tables, e);
+    let badge = store::endpoint(tables, Part::Aborted, e);
     store::set_owes(tables, (owner - 1) as usize, (65 + e) as u32, badge);
 }
 
@@ -159,7 +160,7 @@ fn next_cursor(tables: &[u32], e: usize, w: usize) -> u32
     requires { ⌜ Shown (now tables) (First w e) ⌝ }
     ensures { λ r. ⌜ Tells (now (tables .entry)) (First w e) r (cursorWithout w e) ⌝ }
 {
-    let end = store::end(tables, e);
+    let end = store::endpoint(tables, Part::End, e);
     let link = (w + 1) as u32;
     if end == link {
         return 0;
@@ -172,7 +173,7 @@ fn next_end(tables: &[u32], e: usize, w: usize) -> u32
     requires { ⌜ Shown (now tables) (First w e) ⌝ }
     ensures { λ r. ⌜ Tells (now (tables .entry)) (First w e) r (endWithout w e) ⌝ }
 {
-    let end = store::end(tables, e);
+    let end = store::endpoint(tables, Part::End, e);
     let link = (w + 1) as u32;
     if end == link {
         return 0;
@@ -187,7 +188,7 @@ pub fn keep_look(tables: &mut [u32], e: usize, w: usize)
 {
     let cursor = next_cursor(tables, e, w);
     let end = next_end(tables, e, w);
-    let badge = store::aborted(tables, e);
-    let owner = store::owner(tables, e);
+    let badge = store::endpoint(tables, Part::Aborted, e);
+    let owner = store::endpoint(tables, Part::Owner, e);
     store::set_abort(tables, e, 1, badge, owner, cursor, end);
 }

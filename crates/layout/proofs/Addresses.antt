@@ -11,8 +11,8 @@ use lib.ListN.{length, set}
 use lib.Seq.{getD-set-same, getD-set-other}
 use borrow.Author.Tests.{lt-ltb, le-ltb, ltb-true, ltb-false}
 use Rattle.layout.specs.declared.Field.{Field}
-use Rattle.layout.specs.Addresses.{Part}
-use Rattle.layout.specs.Addresses.{status, aborting, aborted, owner, cursor, end, Slot, ofThread, ofEndpoint}
+use Rattle.layout.specs.declared.Part.{Part}
+use Rattle.layout.specs.Addresses.{Slot, ofThread, ofEndpoint}
 use Rattle.layout.specs.Addresses.{ofLine, summary, top, running, unused, Link, next, prev, head, tail, Name}
 use Rattle.layout.specs.Addresses.{slot, link, ValidSlot, ValidLink, Valid, column, offset, at, linkAt, address}
 use Rattle.layout.specs.Addresses.{inThread, inQueue, inEndpoint, nameOf, word}
@@ -52,13 +52,12 @@ column-small Field.Owes = omega arith
 column-small Field.Note = omega arith
 
 offset-small : (p : Part) → offset p < 6
-unfolding offset
-offset-small status = omega arith
-offset-small aborting = omega arith
-offset-small aborted = omega arith
-offset-small owner = omega arith
-offset-small cursor = omega arith
-offset-small end = omega arith
+offset-small Part.Status = omega arith
+offset-small Part.Aborting = omega arith
+offset-small Part.Aborted = omega arith
+offset-small Part.Owner = omega arith
+offset-small Part.Cursor = omega arith
+offset-small Part.End = omega arith
 
 field-name : (f : Field) (t : ℕ) → inThread t (column f) ≡ slot (ofThread f t)
 unfolding inThread
@@ -72,13 +71,13 @@ field-name Field.Owes t = refl
 field-name Field.Note t = refl
 
 part-name : (p : Part) (e : ℕ) → inEndpoint e (offset p) ≡ slot (ofEndpoint p e)
-unfolding inEndpoint offset
-part-name status e = refl
-part-name aborting e = refl
-part-name aborted e = refl
-part-name owner e = refl
-part-name cursor e = refl
-part-name end e = refl
+unfolding inEndpoint
+part-name Part.Status e = refl
+part-name Part.Aborting e = refl
+part-name Part.Aborted e = refl
+part-name Part.Owner e = refl
+part-name Part.Cursor e = refl
+part-name Part.End e = refl
 
 -- An address from 3584 on has the name that its range says.
 module _ (i : ℕ) where
@@ -205,14 +204,15 @@ in-queue q (suc zero) i h g e = record { name = link (tail q); valid = h; here =
 in-queue q (suc (suc k)) i h g e = absurd (omega arith)
 
 in-endpoint : (n k i : ℕ) → n ≤ 63 → k < 6 → 3200 + 6 * n + k ≡ i → Named i
-unfolding at offset
-in-endpoint n zero i h g e = record { name = slot (ofEndpoint status n); valid = h; here = e }
-in-endpoint n (suc zero) i h g e = record { name = slot (ofEndpoint aborting n); valid = h; here = e }
-in-endpoint n (suc (suc zero)) i h g e = record { name = slot (ofEndpoint aborted n); valid = h; here = e }
-in-endpoint n (suc (suc (suc zero))) i h g e = record { name = slot (ofEndpoint owner n); valid = h; here = e }
-in-endpoint n (suc (suc (suc (suc zero)))) i h g e = record { name = slot (ofEndpoint cursor n); valid = h; here = e }
+unfolding at
+in-endpoint n zero i h g e = record { name = slot (ofEndpoint Part.Status n); valid = h; here = e }
+in-endpoint n (suc zero) i h g e = record { name = slot (ofEndpoint Part.Aborting n); valid = h; here = e }
+in-endpoint n (suc (suc zero)) i h g e = record { name = slot (ofEndpoint Part.Aborted n); valid = h; here = e }
+in-endpoint n (suc (suc (suc zero))) i h g e = record { name = slot (ofEndpoint Part.Owner n); valid = h; here = e }
+in-endpoint n (suc (suc (suc (suc zero)))) i h g e =
+    record { name = slot (ofEndpoint Part.Cursor n); valid = h; here = e }
 in-endpoint n (suc (suc (suc (suc (suc zero))))) i h g e =
-    record { name = slot (ofEndpoint end n); valid = h; here = e }
+    record { name = slot (ofEndpoint Part.End n); valid = h; here = e }
 in-endpoint n (suc (suc (suc (suc (suc (suc k)))))) i h g e = absurd (omega arith)
 
 -- Whether a number is below a bound.

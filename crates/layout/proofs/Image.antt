@@ -15,8 +15,8 @@ use Rattle.machine.specs.Sound.{Ranges, Queues}
 use Rattle.machine.proofs.Lists.{mem?}
 use Rattle.summary.specs.Levels.{wordOf, topOf, bits}
 use Rattle.layout.specs.declared.Field.{Field}
-use Rattle.layout.specs.Addresses.{Part}
-use Rattle.layout.specs.Addresses.{status, aborting, aborted, owner, cursor, end, ofThread, ofEndpoint, ofLine}
+use Rattle.layout.specs.declared.Part.{Part}
+use Rattle.layout.specs.Addresses.{ofThread, ofEndpoint, ofLine}
 use Rattle.layout.specs.Addresses.{summary, top, running, unused, next, prev, head, tail, Name, slot, link, Valid}
 use Rattle.layout.specs.Addresses.{address, at, linkAt, nameOf, word}
 use Rattle.layout.specs.Words.{firstOf, lastOf, threadWord, endpointWord, afterIn, beforeIn, queuesOf, queueOf}
@@ -159,12 +159,12 @@ fresh-thread Field.Owes = refl
 fresh-thread Field.Note = refl
 
 fresh-endpoint : (p : Part) → endpointWord missingEndpoint p ≡ 0
-fresh-endpoint status = refl
-fresh-endpoint aborting = refl
-fresh-endpoint aborted = refl
-fresh-endpoint owner = refl
-fresh-endpoint cursor = refl
-fresh-endpoint end = refl
+fresh-endpoint Part.Status = refl
+fresh-endpoint Part.Aborting = refl
+fresh-endpoint Part.Aborted = refl
+fresh-endpoint Part.Owner = refl
+fresh-endpoint Part.Cursor = refl
+fresh-endpoint Part.End = refl
 
 fresh-queues : (q : ℕ) → queuesOf freshState q ≡ []
 unfolding queuesOf

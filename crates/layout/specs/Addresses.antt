@@ -6,16 +6,7 @@ use lib.Dec.{ltb}
 use lib.ListN.{getD}
 use Rattle.machine.specs.Lists.{pick}
 use Rattle.layout.specs.declared.Field.{Field}
-
--- The words of an endpoint that are no links.
-pub data Part : Type 0 where
-  status : Part
-  -- whether an abort stands there; its badge, its owner and the first and last of those that it has still to look at
-  aborting : Part
-  aborted : Part
-  owner : Part
-  cursor : Part
-  end : Part
+use Rattle.layout.specs.declared.Part.{Part}
 
 -- A word that is no link.
 pub data Slot : Type 0 where
@@ -71,13 +62,13 @@ column Field.Message = 5
 column Field.Owes = 8
 column Field.Note = 9
 
-unfoldable pub offset : Part → ℕ
-offset status = 0
-offset aborting = 1
-offset aborted = 2
-offset owner = 3
-offset cursor = 4
-offset end = 5
+abbrev pub offset : Part → ℕ
+offset Part.Status = 0
+offset Part.Aborting = 1
+offset Part.Aborted = 2
+offset Part.Owner = 3
+offset Part.Cursor = 4
+offset Part.End = 5
 
 unfoldable pub at : Slot → ℕ
 at (ofThread f t) = 10 * t + column f
@@ -102,7 +93,8 @@ address (link k) = linkAt k
 unfoldable pub inThread : ℕ → ℕ → Name
 inThread t k =
     getD
-    (slot (ofThread Field.Place t) ∷ slot (ofThread Field.Priority t) ∷ slot (ofThread Field.Ticks t) ∷ slot (ofThread Field.Outcome t)
+    (slot (ofThread Field.Place t) ∷ slot (ofThread Field.Priority t) ∷ slot (ofThread Field.Ticks t)
+    ∷ slot (ofThread Field.Outcome t)
     ∷ slot (ofThread Field.Badge t) ∷ slot (ofThread Field.Message t) ∷ link (next t) ∷ link (prev t)
     ∷ slot (ofThread Field.Owes t) ∷ slot (ofThread Field.Note t) ∷ []) k (slot top)
 
@@ -112,8 +104,8 @@ inQueue q k = getD (link (head q) ∷ link (tail q) ∷ []) k (slot top)
 unfoldable pub inEndpoint : ℕ → ℕ → Name
 inEndpoint e k =
     getD
-    (slot (ofEndpoint status e) ∷ slot (ofEndpoint aborting e) ∷ slot (ofEndpoint aborted e)
-    ∷ slot (ofEndpoint owner e) ∷ slot (ofEndpoint cursor e) ∷ slot (ofEndpoint end e) ∷ []) k (slot top)
+    (slot (ofEndpoint Part.Status e) ∷ slot (ofEndpoint Part.Aborting e) ∷ slot (ofEndpoint Part.Aborted e)
+    ∷ slot (ofEndpoint Part.Owner e) ∷ slot (ofEndpoint Part.Cursor e) ∷ slot (ofEndpoint Part.End e) ∷ []) k (slot top)
 
 unfoldable pub nameOf : ℕ → Name
 nameOf i =

@@ -9,6 +9,7 @@ ghost use Rattle.store.specs.Store.{IsThread, IsEndpoint, Any};
 ghost use Rattle.queues.specs.Queues.{Loose, Stands, StandsAt, Chooses, Comes, Waits, Blocks};
 ghost use Rattle.queues.specs.Queues.{leaveLevel, passingAt, highestLink};
 use layout::Field;
+use layout::Part;
 use summary::Level;
 
 // Thread t, in no queue, joins the tail of its level's.
@@ -137,8 +138,8 @@ fn pass_marks(tables: &mut [u32], t: usize, e: usize)
     ensures { λ _. ⌜ Does (now (tables .entry)) (now (tables .exit)) (Waits t e) (passingAt t e) ⌝ }
 {
     let link = (t + 1) as u32;
-    let cursor = store::cursor(tables, e);
-    let end = store::end(tables, e);
+    let cursor = store::endpoint(tables, Part::Cursor, e);
+    let end = store::endpoint(tables, Part::End, e);
     if cursor == link {
         if end == link {
             store::set_marks(tables, e, 0, 0);

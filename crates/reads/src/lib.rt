@@ -4,9 +4,9 @@ ghost use mathlib.Core.Path.{_≡_};
 ghost use Prim.Native.Nat.{_≤_};
 ghost use lib.ListN.{length};
 ghost use Rattle.layout.specs.Addresses.{at, linkAt, word, next, prev, head, tail};
-ghost use Rattle.layout.specs.Addresses.{ofThread, ofEndpoint, status, aborting, aborted, owner, cursor, end};
-ghost use Rattle.layout.specs.Addresses.{ofLine, summary, top, running, unused};
+ghost use Rattle.layout.specs.Addresses.{ofThread, ofEndpoint, ofLine, summary, top, running, unused};
 use layout::Field;
+use layout::Part;
 
 // A word of thread t.
 pub fn thread(tables: &[u32], f: Field, t: usize) -> usize
@@ -16,52 +16,12 @@ pub fn thread(tables: &[u32], f: Field, t: usize) -> usize
     words::get(tables, words::thread_at(f, t)) as usize
 }
 
-// The status of endpoint e.
-pub fn status(tables: &[u32], e: usize) -> usize
+// A word of endpoint e.
+pub fn endpoint(tables: &[u32], p: Part, e: usize) -> usize
     requires { ⌜ (length (now tables) ≡ 4096) × (e ≤ 63) ⌝ }
-    ensures { λ r. ⌜ r ≡ word (now (tables .entry)) (at (ofEndpoint status e)) ⌝ }
+    ensures { λ r. ⌜ r ≡ word (now (tables .entry)) (at (ofEndpoint p e)) ⌝ }
 {
-    words::get(tables, words::status_at(e)) as usize
-}
-
-// Whether an abort stands at endpoint e.
-pub fn aborting(tables: &[u32], e: usize) -> usize
-    requires { ⌜ (length (now tables) ≡ 4096) × (e ≤ 63) ⌝ }
-    ensures { λ r. ⌜ r ≡ word (now (tables .entry)) (at (ofEndpoint aborting e)) ⌝ }
-{
-    words::get(tables, words::aborting_at(e)) as usize
-}
-
-// The badge of the abort at endpoint e.
-pub fn aborted(tables: &[u32], e: usize) -> usize
-    requires { ⌜ (length (now tables) ≡ 4096) × (e ≤ 63) ⌝ }
-    ensures { λ r. ⌜ r ≡ word (now (tables .entry)) (at (ofEndpoint aborted e)) ⌝ }
-{
-    words::get(tables, words::aborted_at(e)) as usize
-}
-
-// The link to the owner of the abort at endpoint e.
-pub fn owner(tables: &[u32], e: usize) -> usize
-    requires { ⌜ (length (now tables) ≡ 4096) × (e ≤ 63) ⌝ }
-    ensures { λ r. ⌜ r ≡ word (now (tables .entry)) (at (ofEndpoint owner e)) ⌝ }
-{
-    words::get(tables, words::owner_at(e)) as usize
-}
-
-// The link to the first that the abort at endpoint e has still to look at.
-pub fn cursor(tables: &[u32], e: usize) -> usize
-    requires { ⌜ (length (now tables) ≡ 4096) × (e ≤ 63) ⌝ }
-    ensures { λ r. ⌜ r ≡ word (now (tables .entry)) (at (ofEndpoint cursor e)) ⌝ }
-{
-    words::get(tables, words::cursor_at(e)) as usize
-}
-
-// The link to the last that the abort at endpoint e has still to look at.
-pub fn end(tables: &[u32], e: usize) -> usize
-    requires { ⌜ (length (now tables) ≡ 4096) × (e ≤ 63) ⌝ }
-    ensures { λ r. ⌜ r ≡ word (now (tables .entry)) (at (ofEndpoint end e)) ⌝ }
-{
-    words::get(tables, words::end_at(e)) as usize
+    words::get(tables, words::endpoint_at(p, e)) as usize
 }
 
 // Line l.

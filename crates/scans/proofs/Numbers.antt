@@ -8,7 +8,8 @@ use native.Mathlib.Omega.{arith}
 use lib.Dec.{eqb, leb, ltb}
 use borrow.Author.Tests.{lt-ltb, le-ltb, eq-eqb, ne-eqb, leb-true}
 use Rattle.layout.specs.declared.Field.{Field}
-use Rattle.layout.specs.Addresses.{owner, ofLine, at, word}
+use Rattle.layout.specs.declared.Part.{Part}
+use Rattle.layout.specs.Addresses.{ofLine, at, word}
 use Rattle.checks.specs.Checks.{threadIn, endpointIn, numbersTest, storedTest, waitsTest, owesTest, absentTest}
 use Rattle.checks.specs.Checks.{presentTest, blockTest}
 
@@ -36,7 +37,7 @@ module _ (m : List ℕ) (t : ℕ) {n : ℕ} (noted : n ≡ threadIn m Field.Note
   owes-zero (suc w) h = absurd (omega arith)
 
   owes-owner :
-      (w : ℕ) {o : ℕ} → (w ≡ 0 → ⊥) → w ≤ 64 → o ≡ endpointIn m owner (w - 1)
+      (w : ℕ) {o : ℕ} → (w ≡ 0 → ⊥) → w ≤ 64 → o ≡ endpointIn m Part.Owner (w - 1)
       → (eqb n 0 && eqb o (t + 1)) ≡ owesTest w m t
   unfolding owesTest
   owes-owner zero z h e = absurd (z refl)
@@ -54,7 +55,7 @@ module _ (m : List ℕ) (t : ℕ) {n : ℕ} (noted : n ≡ threadIn m Field.Note
     owing-nothing h = rw (← is) (owes-zero w h)
 
     pub owing-abort :
-        {o : ℕ} → (w ≡ 0 → ⊥) → w ≤ 64 → o ≡ endpointIn m owner (w - 1)
+        {o : ℕ} → (w ≡ 0 → ⊥) → w ≤ 64 → o ≡ endpointIn m Part.Owner (w - 1)
         → (eqb n 0 && eqb o (t + 1)) ≡ owesTest (threadIn m Field.Owes t) m t
     owing-abort z h e = rw (← is) (owes-owner w z h e)
 

@@ -8,6 +8,7 @@ ghost use Rattle.layout.specs.Tests.{all};
 ghost use Rattle.checks.specs.Checks.{threadIn, absentTest, numbersTest, storedTest, waitsTest, owesTest};
 ghost use Rattle.checks.specs.Checks.{presentTest, blockTest};
 use layout::Field;
+use layout::Part;
 
 // An absent thread's words are 0.
 fn absent(tables: &[u32], t: usize) -> bool
@@ -72,7 +73,7 @@ fn owing(tables: &[u32], t: usize) -> bool
         return note == 0;
     }
     if owes <= 64 {
-        return (note == 0) & (reads::owner(tables, owes - 1) == t + 1);
+        return (note == 0) & (reads::endpoint(tables, Part::Owner, owes - 1) == t + 1);
     }
     (owes <= 128) & (note < 0x1000_0000)
 }

@@ -36,8 +36,10 @@ Block t m n w = Row (blockRow t) (OffBlock t) m n w
 
 -- A word for each field, where eight are right.
 fields :
-    (w : Field → ℕ) (x : Thread) → w Field.Place ≡ placeCode (x .place) → w Field.Priority ≡ x .priority → w Field.Ticks ≡ x .ticks
-    → w Field.Outcome ≡ x .outcome → w Field.Badge ≡ x .badge → w Field.Message ≡ x .message → w Field.Owes ≡ debtCode (x .debt)
+    (w : Field → ℕ) (x : Thread) → w Field.Place ≡ placeCode (x .place) → w Field.Priority ≡ x .priority
+    → w Field.Ticks ≡ x .ticks
+    → w Field.Outcome ≡ x .outcome → w Field.Badge ≡ x .badge → w Field.Message ≡ x .message
+    → w Field.Owes ≡ debtCode (x .debt)
     → w Field.Note ≡ noteCode (x .debt) → (f : Field) → w f ≡ threadWord x f
 fields w x a b c d e f g h Field.Place = a
 fields w x a b c d e f g h Field.Priority = b
@@ -92,7 +94,8 @@ module _ (t : ℕ) (small : t ≤ 255) where
 
 module _ (t : ℕ) {m n₁ : List ℕ} {i₁ : ℕ} where
   pub priority-does :
-      (p : ℕ) → Address i₁ (at (ofThread Field.Priority t)) → n₁ ≡ set m i₁ p → Does m n₁ (IsThread t) (prioritising t p)
+      (p : ℕ) → Address i₁ (at (ofThread Field.Priority t)) → n₁ ≡ set m i₁ p
+      → Does m n₁ (IsThread t) (prioritising t p)
   priority-does p a₁ e₁ =
       record {
         shows = λ s M h.

@@ -8,10 +8,10 @@ ghost use Rattle.store.specs.Steps.{Shown, Does, Tells};
 ghost use Rattle.store.specs.Store.{IsThread, IsEndpoint, IsLine, Any, HasAbort};
 ghost use Rattle.store.specs.Store.{prioritising, ticking, creating, clearing};
 ghost use Rattle.store.specs.Store.{Places, Owes, Runs, Lines, Stands, Aborts, Owners, Looks};
-ghost use Rattle.store.specs.Readings.{threadIn, statusIn, abortingIn, abortedIn, ownerIn, cursorIn, endIn};
-ghost use Rattle.store.specs.Readings.{lineIn, runningIn};
+ghost use Rattle.store.specs.Readings.{threadIn, endpointIn, lineIn, runningIn};
 ghost use Rattle.store.specs.Marks.{Loads, MarksIn, Writes};
 use layout::Field;
+use layout::Part;
 use summary::Summary;
 
 // A word of thread t.
@@ -22,52 +22,12 @@ pub fn thread(tables: &[u32], f: Field, t: usize) -> u32
     words::get(tables, words::thread_at(f, t))
 }
 
-// The status of endpoint e, as a number.
-pub fn status(tables: &[u32], e: usize) -> u32
+// A word of endpoint e.
+pub fn endpoint(tables: &[u32], p: Part, e: usize) -> u32
     requires { ⌜ Shown (now tables) (IsEndpoint e) ⌝ }
-    ensures { λ r. ⌜ Tells (now (tables .entry)) (IsEndpoint e) r (statusIn e) ⌝ }
+    ensures { λ r. ⌜ Tells (now (tables .entry)) (IsEndpoint e) r (endpointIn p e) ⌝ }
 {
-    words::get(tables, words::status_at(e))
-}
-
-// 1 if an abort stands at endpoint e, otherwise 0.
-pub fn aborting(tables: &[u32], e: usize) -> u32
-    requires { ⌜ Shown (now tables) (IsEndpoint e) ⌝ }
-    ensures { λ r. ⌜ Tells (now (tables .entry)) (IsEndpoint e) r (abortingIn e) ⌝ }
-{
-    words::get(tables, words::aborting_at(e))
-}
-
-// The badge of the abort at endpoint e.
-pub fn aborted(tables: &[u32], e: usize) -> u32
-    requires { ⌜ Shown (now tables) (IsEndpoint e) ⌝ }
-    ensures { λ r. ⌜ Tells (now (tables .entry)) (IsEndpoint e) r (abortedIn e) ⌝ }
-{
-    words::get(tables, words::aborted_at(e))
-}
-
-// The link to the owner of the abort at endpoint e.
-pub fn owner(tables: &[u32], e: usize) -> u32
-    requires { ⌜ Shown (now tables) (IsEndpoint e) ⌝ }
-    ensures { λ r. ⌜ Tells (now (tables .entry)) (IsEndpoint e) r (ownerIn e) ⌝ }
-{
-    words::get(tables, words::owner_at(e))
-}
-
-// The link to the first waiter that the abort at endpoint e has to look at.
-pub fn cursor(tables: &[u32], e: usize) -> u32
-    requires { ⌜ Shown (now tables) (IsEndpoint e) ⌝ }
-    ensures { λ r. ⌜ Tells (now (tables .entry)) (IsEndpoint e) r (cursorIn e) ⌝ }
-{
-    words::get(tables, words::cursor_at(e))
-}
-
-// The link to the last waiter that the abort at endpoint e has to look at.
-pub fn end(tables: &[u32], e: usize) -> u32
-    requires { ⌜ Shown (now tables) (IsEndpoint e) ⌝ }
-    ensures { λ r. ⌜ Tells (now (tables .entry)) (IsEndpoint e) r (endIn e) ⌝ }
-{
-    words::get(tables, words::end_at(e))
+    words::get(tables, words::endpoint_at(p, e))
 }
 
 // What line l holds, as a number.
@@ -165,7 +125,7 @@ pub fn set_status(tables: &mut [u32], e: usize, code: u32)
     requires { ⌜ Shown (now tables) (IsEndpoint e) ⌝ }
     ensures { λ _. ⌜ Stands (now (tables .entry)) e code (now (tables .exit)) ⌝ }
 {
-    words::put(tables, words::status_at(e), code);
+    words::put(tables, words::endpoint_at(Part::Status, e), code);
 }
 
 // The abort at endpoint e: whether one stands, its badge and owner, and the first and the last waiter to look at.
@@ -181,11 +141,11 @@ pub fn set_abort(
     requires { ⌜ Shown (now tables) (IsEndpoint e) ⌝ }
     ensures { λ _. ⌜ Aborts (now (tables .entry)) e here badge owner cursor end (now (tables .exit)) ⌝ }
 {
-    words::put(tables, words::aborting_at(e), here);
-    words::put(tables, words::aborted_at(e), badge);
-    words::put(tables, words::owner_at(e), owner);
-    words::put(tables, words::cursor_at(e), cursor);
-    words::put(tables, words::end_at(e), end);
+    words::put(tables, words::endpoint_at(Part::Aborting, e), here);
+    words::put(tables, words::endpoint_at(Part::Aborted, e), badge);
+    words::put(tables, words::endpoint_at(Part::Owner, e), owner);
+    words::put(tables, words::endpoint_at(Part::Cursor, e), cursor);
+    words::put(tables, words::endpoint_at(Part::End, e), end);
 }
 
 // The owner of the abort that stands at endpoint e, none for link 0.
@@ -193,7 +153,7 @@ pub fn set_owner(tables: &mut [u32], e: usize, link: u32)
     requires { ⌜ Shown (now tables) (HasAbort e) ⌝ }
     ensures { λ _. ⌜ Owners (now (tables .entry)) e link (now (tables .exit)) ⌝ }
 {
-    words::put(tables, words::owner_at(e), link);
+    words::put(tables, words::endpoint_at(Part::Owner, e), link);
 }
 
 // The abort at endpoint e looks at the waiters from a cursor to an end mark, both 0 for none.
@@ -201,8 +161,8 @@ pub fn set_marks(tables: &mut [u32], e: usize, cursor: u32, end: u32)
     requires { ⌜ Shown (now tables) (IsEndpoint e) ⌝ }
     ensures { λ _. ⌜ Looks (now (tables .entry)) e cursor end (now (tables .exit)) ⌝ }
 {
-    words::put(tables, words::cursor_at(e), cursor);
-    words::put(tables, words::end_at(e), end);
+    words::put(tables, words::endpoint_at(Part::Cursor, e), cursor);
+    words::put(tables, words::endpoint_at(Part::End, e), end);
 }
 
 // The summary that stands in the tables.

@@ -11,6 +11,7 @@ ghost use Rattle.results.specs.Results.{Asked, Calling, Performs};
 ghost use Rattle.transfers.specs.Transfers.{Dropped, Takes, FirstAt, Suspends, firing, handing, taking};
 ghost use Rattle.transfers.specs.Transfers.{takingFrom};
 use layout::Field;
+use layout::Part;
 use machine::Answer;
 
 // The running thread t blocks at a place: code 1.
@@ -28,7 +29,7 @@ pub fn create_endpoint(tables: &mut [u32], e: usize) -> Answer
     requires { ⌜ Shown (now tables) (Asked (e ≤ 63)) ⌝ }
     ensures { λ r. ⌜ Performs (now (tables .entry)) (now (tables .exit)) r (Asked (e ≤ 63)) (createEndpoint e) ⌝ }
 {
-    let status = store::status(tables, e);
+    let status = store::endpoint(tables, Part::Status, e);
     if status != 0 {
         return results::plain(24);
     }
@@ -100,7 +101,7 @@ pub fn send(tables: &mut [u32], t: usize, e: usize, badge: u32, message: u32) ->
     ensures { λ r. ⌜ Performs (now (tables .entry)) (now (tables .exit)) r
         (Calling t ((e ≤ 63) × (badge < 2 ^ 28) × (message < 2 ^ 28))) (sending t e badge message) ⌝ }
 {
-    let status = store::status(tables, e);
+    let status = store::endpoint(tables, Part::Status, e);
     if status == 0 {
         return results::plain(23);
     }
@@ -150,7 +151,7 @@ pub fn receive(tables: &mut [u32], t: usize, e: usize) -> Answer
     requires { ⌜ Shown (now tables) (Calling t (e ≤ 63)) ⌝ }
     ensures { λ r. ⌜ Performs (now (tables .entry)) (now (tables .exit)) r (Calling t (e ≤ 63)) (receiving t e) ⌝ }
 {
-    let status = store::status(tables, e);
+    let status = store::endpoint(tables, Part::Status, e);
     if status == 0 {
         return results::plain(23);
     }

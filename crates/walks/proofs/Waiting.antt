@@ -9,7 +9,8 @@ use lib.Dec.{eqb, leb}
 use lib.ListN.{length}
 use borrow.Author.Tests.{eq-eqb, ne-eqb, le-leb, lt-leb}
 use Rattle.layout.specs.declared.Field.{Field}
-use Rattle.layout.specs.Addresses.{word, linkAt, head, tail, next, prev, status, aborting, cursor, end}
+use Rattle.layout.specs.declared.Part.{Part}
+use Rattle.layout.specs.Addresses.{word, linkAt, head, tail, next, prev}
 use Rattle.checks.specs.Checks.{Phase, ahead, inside, past, enter, leave, allowed, complete, threadIn, endpointIn}
 use Rattle.checks.specs.Checks.{kindOf, bannedOf, waitersFrom, waitersTest, statusTest, abortTest, endpointTest}
 use Rattle.checks.specs.Checks.{metFrom, metBelow, met}
@@ -114,7 +115,7 @@ module _ (m : List ℕ) (q k c d b : ℕ) where
 
 module _ (m : List ℕ) (e k : ℕ) where
   pub waiters-holds :
-      (s : List ℕ) {c d b y : ℕ} → length s ≡ 256 → c ≡ endpointIn m cursor e → d ≡ endpointIn m end e
+      (s : List ℕ) {c d b y : ℕ} → length s ≡ 256 → c ≡ endpointIn m Part.Cursor e → d ≡ endpointIn m Part.End e
       → b ≡ bannedOf m e k → y ≡ word m (linkAt (head (256 + e))) → WaitersAt m e k c d b s s ahead 0 y 257
   waiters-holds s {c} {d} {b} {y} h i j l o =
       rw (i, j, l, o) (record { few = omega arith; kept = h; same = refl; passed = passed-none _ _ })
@@ -122,7 +123,7 @@ module _ (m : List ℕ) (e k : ℕ) where
   waiters-met : waitersAs m e k ≡ true → metFrom 257 (word m (linkAt (head (256 + e)))) m ≡ met m (256 + e)
   unfolding met
   waiters-met h =
-      waiters-short m (256 + e) k (endpointIn m cursor e) (endpointIn m end e) (bannedOf m e k) 256
+      waiters-short m (256 + e) k (endpointIn m Part.Cursor e) (endpointIn m Part.End e) (bannedOf m e k) 256
       (word m (linkAt (head (256 + e)))) ahead 0 h
 
   module _
@@ -179,17 +180,18 @@ module _ (m : List ℕ) (e : ℕ) {k : ℕ} (kind : k ≡ kindOf (word m (linkAt
   -- What is tried before the walk.
   abbrev pub first-tests : Bool
   first-tests =
-      statusTest (endpointIn m status e) m e && abortTest (endpointIn m aborting e) m e && kindFits m e k
+      statusTest (endpointIn m Part.Status e) m e && abortTest (endpointIn m Part.Aborting e) m e && kindFits m e k
 
   endpoint-is : endpointTest m e ≡ (first-tests && waitersAs m e k)
   unfolding endpointTest waitersTest
   endpoint-is = rw (← kind)
-      (and-assoc (statusTest (endpointIn m status e) m e && abortTest (endpointIn m aborting e) m e) (kindFits m e k)
+      (and-assoc (statusTest (endpointIn m Part.Status e) m e && abortTest (endpointIn m Part.Aborting e) m e)
+      (kindFits m e k)
       (waitersAs m e k))
 
   module _
-      {s a n : Bool} (is-status : s ≡ statusTest (endpointIn m status e) m e)
-      (is-abort : a ≡ abortTest (endpointIn m aborting e) m e) (fits : n ≡ kindFits m e k)
+      {s a n : Bool} (is-status : s ≡ statusTest (endpointIn m Part.Status e) m e)
+      (is-abort : a ≡ abortTest (endpointIn m Part.Aborting e) m e) (fits : n ≡ kindFits m e k)
     where
       tests-are : first-tests ≡ (s && a && n)
       tests-are = rw (is-status, is-abort, fits)

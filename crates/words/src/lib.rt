@@ -3,11 +3,11 @@
 ghost use mathlib.Core.Path.{_≡_};
 ghost use Prim.Native.Nat.{_≤_, _<_};
 ghost use lib.ListN.{length, set};
-ghost use Rattle.layout.specs.Addresses.{column, at, linkAt, word, afterAt, beforeAt, ofThread, ofEndpoint, ofLine};
-ghost use Rattle.layout.specs.Addresses.{summary, top, running, unused, next, prev, head, tail};
-ghost use Rattle.layout.specs.Addresses.{status, aborting, aborted, owner, cursor, end};
+ghost use Rattle.layout.specs.Addresses.{column, offset, at, linkAt, word, afterAt, beforeAt, ofThread, ofEndpoint};
+ghost use Rattle.layout.specs.Addresses.{ofLine, summary, top, running, unused, next, prev, head, tail};
 ghost use Rattle.words.specs.Access.{Address};
 use layout::Field;
+use layout::Part;
 
 // The word at an address.
 pub fn get(tables: &[u32], i: usize) -> u32
@@ -49,52 +49,26 @@ pub fn thread_at(f: Field, t: usize) -> usize
     10 * t + column_of(f)
 }
 
-// The status word of endpoint e.
-pub fn status_at(e: usize) -> usize
-    requires { ⌜ e ≤ 63 ⌝ }
-    ensures { λ r. ⌜ Address r (at (ofEndpoint status e)) ⌝ }
+// The place of a word in its endpoint's six.
+fn offset_of(p: Part) -> usize
+    ensures { λ r. ⌜ (r ≡ offset p) × (r < 6) ⌝ }
 {
-    3200 + 6 * e
+    match p {
+        Part::Status => 0,
+        Part::Aborting => 1,
+        Part::Aborted => 2,
+        Part::Owner => 3,
+        Part::Cursor => 4,
+        Part::End => 5,
+    }
 }
 
-// The aborting word of endpoint e.
-pub fn aborting_at(e: usize) -> usize
+// A word of endpoint e.
+pub fn endpoint_at(p: Part, e: usize) -> usize
     requires { ⌜ e ≤ 63 ⌝ }
-    ensures { λ r. ⌜ Address r (at (ofEndpoint aborting e)) ⌝ }
+    ensures { λ r. ⌜ Address r (at (ofEndpoint p e)) ⌝ }
 {
-    3201 + 6 * e
-}
-
-// The aborted word of endpoint e.
-pub fn aborted_at(e: usize) -> usize
-    requires { ⌜ e ≤ 63 ⌝ }
-    ensures { λ r. ⌜ Address r (at (ofEndpoint aborted e)) ⌝ }
-{
-    3202 + 6 * e
-}
-
-// The owner word of endpoint e.
-pub fn owner_at(e: usize) -> usize
-    requires { ⌜ e ≤ 63 ⌝ }
-    ensures { λ r. ⌜ Address r (at (ofEndpoint owner e)) ⌝ }
-{
-    3203 + 6 * e
-}
-
-// The cursor word of endpoint e.
-pub fn cursor_at(e: usize) -> usize
-    requires { ⌜ e ≤ 63 ⌝ }
-    ensures { λ r. ⌜ Address r (at (ofEndpoint cursor e)) ⌝ }
-{
-    3204 + 6 * e
-}
-
-// The end word of endpoint e.
-pub fn end_at(e: usize) -> usize
-    requires { ⌜ e ≤ 63 ⌝ }
-    ensures { λ r. ⌜ Address r (at (ofEndpoint end e)) ⌝ }
-{
-    3205 + 6 * e
+    3200 + 6 * e + offset_of(p)
 }
 
 // Line l.

@@ -11,11 +11,11 @@ next-cursor-requires c κs = search needs
 next-end-requires : tie.Need-next-end-requires
 next-end-requires c κs = search needs
 
-aborted-requires : tie.Need-aborted-requires
-aborted-requires c κs = search needs
+endpoint-requires : tie.Need-endpoint-requires
+endpoint-requires c κs = search needs
 
-owner-requires : tie.Need-owner-requires
-owner-requires c κs = search needs
+endpoint-requires-2 : tie.Need-endpoint-requires-2
+endpoint-requires-2 c κs = search needs
 
 set-abort-requires : tie.Need-set-abort-requires
 set-abort-requires c κs = search needs
@@ -24,7 +24,11 @@ same-length : tie.Need-same-length
 same-length c = search needs
 
 returns : tie.Need-returns
-returns c = search keeps depth 9
+returns c =
+    let d = c .before .before .before .before in
+    keeps (d .before .before .before .before .before .before .next-cursor .ensures)
+    (d .before .before .before .before .next-end .ensures) (d .before .before .endpoint .ensures)
+    (d .endpoint2 .ensures) (c .before .before .set-abort .ensures)
 
 pub keep-look-spec : {M : Type 1} → statement M
 keep-look-spec =
@@ -32,8 +36,8 @@ keep-look-spec =
     (tie.spec
     next-cursor-requires
     next-end-requires
-    aborted-requires
-    owner-requires
+    endpoint-requires
+    endpoint-requires-2
     set-abort-requires
     same-length
     returns)

@@ -14,11 +14,11 @@ returns : tie.Need-returns
 returns c =
     owing-nothing _ _ (c .before .thread2 .ensures) (c .before .before .thread .ensures) (c .if1 .taken)
 
-sub-owner : tie.Need-sub-owner
-sub-owner c = search needs
+sub-endpoint : tie.Need-sub-endpoint
+sub-endpoint c = search needs
 
-owner-requires : tie.Need-owner-requires
-owner-requires c κs = search needs
+endpoint-requires : tie.Need-endpoint-requires
+endpoint-requires c κs = search needs
 
 add-result : tie.Need-add-result
 add-result c = search needs
@@ -26,7 +26,7 @@ add-result c = search needs
 returns-2 : tie.Need-returns-2
 returns-2 c =
     owing-abort _ _ (c .before .before .before .thread2 .ensures) (c .before .before .before .before .thread .ensures)
-    (c .before .before .if1 .left) (c .before .if2 .taken) (c .owner .ensures)
+    (c .before .before .if1 .left) (c .before .if2 .taken) (c .endpoint .ensures)
 
 returns-3 : tie.Need-returns-3
 returns-3 c =
@@ -40,8 +40,8 @@ owing-spec =
     thread-requires
     thread-requires-2
     returns
-    sub-owner
-    owner-requires
+    sub-endpoint
+    endpoint-requires
     add-result
     returns-2
     returns-3)
