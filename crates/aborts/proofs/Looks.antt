@@ -15,7 +15,9 @@ use Rattle.layout.specs.Words.{firstOf}
 use Rattle.layout.specs.Shows.{Shows}
 use Rattle.store.specs.Steps.{Shown, Does, Tells}
 use Rattle.store.specs.Store.{IsThread, IsEndpoint}
-use Rattle.store.specs.Readings.{badgeIn, cursorIn}
+use Rattle.layout.specs.declared.Field.{Field}
+use Rattle.layout.specs.declared.Part.{Part}
+use Rattle.store.specs.Readings.{endpointIn, threadIn}
 use Rattle.queues.specs.Queues.{Waits}
 use Rattle.debts.specs.Debts.{Says, underIn, First}
 use Rattle.results.proofs.Ends.{shown-for}
@@ -44,7 +46,8 @@ module _ {m : List ℕ} {e w : ℕ} where
   pub first-asked : Shown m (Cursor e w) → Shown m (First w e)
   first-asked S = shown-for S (λ s C. cursor-first C)
 
-  module _ {b : ℕ} {u : Bool} (B : Tells m (IsThread w) b (badgeIn w)) (U : Says m (IsEndpoint e) u (underIn e b)) where
+  module _ {b : ℕ} {u : Bool} (B : Tells m (IsThread w) b (threadIn Field.Badge w))
+      (U : Says m (IsEndpoint e) u (underIn e b)) where
     says-hit : (s : State) → Shows m s → Cursor e w s → u ≡ underAbort (s .threads w .badge) (s .endpoints e .abort)
     says-hit s M C =
         U .says s M (cursor-first C .endpoint)
@@ -160,7 +163,7 @@ module _ {m₀ m : List ℕ} {e a n : ℕ} (L : Left m₀ m e a n) where
       looks-end (omega arith)
       (λ s M h. subst (λ (k : ℕ). looked e k s ≡ record { state = s; looks = [] }) (sym z) (looks-zero e s))
 
-  module _ {r : ℕ} (T : Tells m (IsEndpoint e) r (cursorIn e)) where
+  module _ {r : ℕ} (T : Tells m (IsEndpoint e) r (endpointIn Part.Cursor e)) where
     pub looks-out : r ≡ 0 → Looks m₀ e a (a - n) m
     looks-out z =
         looks-end refl

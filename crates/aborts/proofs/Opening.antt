@@ -22,7 +22,8 @@ use Rattle.layout.specs.Words.{statusCode, abortCode}
 use Rattle.layout.specs.Shows.{Shows}
 use Rattle.store.specs.Steps.{Shown, Does, Tells}
 use Rattle.store.specs.Store.{IsThread, IsEndpoint, owing, Owes}
-use Rattle.store.specs.Readings.{statusIn, abortingIn}
+use Rattle.layout.specs.declared.Part.{Part}
+use Rattle.store.specs.Readings.{endpointIn}
 use Rattle.queues.specs.Queues.{Chooses}
 use Rattle.debts.specs.Debts.{Says, Calls, Joins, underIn, notedIn}
 use Rattle.results.specs.Results.{Calling, Performs, Accepts}
@@ -99,7 +100,7 @@ module _ {t e b : ℕ} {s : State} (W : Owing t e b s) where
           }
 
 module _ {m : List ℕ} {t e b : ℕ} where
-  module _ {r : ℕ} (T : Tells m (IsEndpoint e) r (abortingIn e)) (z : r ≡ 0) where
+  module _ {r : ℕ} (T : Tells m (IsEndpoint e) r (endpointIn Part.Aborting e)) (z : r ≡ 0) where
     bare-at : (s : State) → Shows m s → Owing t e b s → Bare t e s
     bare-at s M W =
         owing-bare W (no-abort (s .endpoints e .abort) (T .tells s M (W .opened .endpoint)) z)
@@ -159,14 +160,15 @@ module _ {m : List ℕ} {t e b : ℕ} where
           }
 
       pub opens-other :
-          {n : List ℕ} {x : Answer} {r : ℕ} (a : ℕ) → Tells m (IsEndpoint e) r (abortingIn e) → (r ≡ 0 → ⊥)
+          {n : List ℕ} {x : Answer} {r : ℕ} (a : ℕ) → Tells m (IsEndpoint e) r (endpointIn Part.Aborting e)
+          → (r ≡ 0 → ⊥)
           → Performs m n x (Clear t e) (workOther t e a b) → Performs m n x (Owing t e b) (abortOpen t e a b)
       unfolding abortOpen abortFrom underBadge
       opens-other {r = r} a T n F =
           performs-as (performs-for F (λ s M W. owing-clear W (other-badge s M W)))
           (λ s M W. go s (T .tells s M (W .opened .endpoint)) (other-badge s M W))
         where
-          go : (s : State) → r ≡ abortingIn e s → underAbort b (s .endpoints e .abort) ≡ false
+          go : (s : State) → r ≡ endpointIn Part.Aborting e s → underAbort b (s .endpoints e .abort) ≡ false
               → workOther t e a b s ≡ abortOpen t e a b s
           go s i h = case (s .endpoints e .abort) i h
             where
@@ -226,7 +228,7 @@ module _ {m : List ℕ} {t e a b : ℕ} where
   pub note-asked : Shown m (Calling t (Numbers e a b)) → Shown m (IsThread t)
   note-asked S = shown-for S (λ s C. running-thread (sound-mid (C .sound)) (C .runs))
 
-  module _ {r : ℕ} (T : Tells m (IsEndpoint e) r (statusIn e)) where
+  module _ {r : ℕ} (T : Tells m (IsEndpoint e) r (endpointIn Part.Status e)) where
     pub refused-missing :
         {x : Answer} → r ≡ 0 → x ≡ plain 23 → Performs m m x (Calling t (Numbers e a b)) (unnoted t e a b)
     unfolding abortAt

@@ -19,7 +19,8 @@ use Rattle.machine.proofs.Aborting.{running-present, begin-status}
 use Rattle.layout.specs.Shows.{Shows}
 use Rattle.store.specs.Steps.{Shown, Does, Tells}
 use Rattle.store.specs.Store.{IsEndpoint}
-use Rattle.store.specs.Readings.{cursorIn}
+use Rattle.layout.specs.declared.Part.{Part}
+use Rattle.store.specs.Readings.{endpointIn}
 use Rattle.queues.specs.Queues.{Chooses}
 use Rattle.debts.specs.Debts.{Debtor, Endable, Ends, Begins}
 use Rattle.results.specs.Results.{Performs, Accepts}
@@ -107,7 +108,7 @@ module _ {m n : List ℕ} {t e : ℕ} (D : Does m n (Debtor t) (dropDebt t)) whe
         }
 
 -- The call's own abort, with nothing or something left.
-module _ {m : List ℕ} {e r : ℕ} (T : Tells m (IsEndpoint e) r (cursorIn e)) where
+module _ {m : List ℕ} {e r : ℕ} (T : Tells m (IsEndpoint e) r (endpointIn Part.Cursor e)) where
   pub own-broken :
       {n : List ℕ} {t k : ℕ} {a b : Answer} → (r ≡ 0 → ⊥) → a ≡ counted 2 k → Accepts m a b Chooses n
       → Continues m k b (Open t e) (ending t e) n
@@ -317,11 +318,12 @@ module _ {m n : List ℕ} {t e a k : ℕ} (L : Looks m e a k n) where
         holds = clear-looked a (S .holds);
       }
 
-  module _ {r : ℕ} (T : Tells n (IsEndpoint e) r (cursorIn e)) where
+  module _ {r : ℕ} (T : Tells n (IsEndpoint e) r (endpointIn Part.Cursor e)) where
     -- The cursor's link tells what is left after the looks.
     tells-looked :
         (s : State) → Shows m s → Clear t e s
-        → (Shows n (looked e a s .state)) × (r ≡ cursorIn e (looked e a s .state)) × (k ≡ length (looked e a s .looks))
+        → (Shows n (looked e a s .state)) × (r ≡ endpointIn Part.Cursor e (looked e a s .state))
+        × (k ≡ length (looked e a s .looks))
     tells-looked s M C =
         let N = L .shows s M (open-within (C .opened)) in
         (N, T .tells (looked e a s .state) N (C .opened .endpoint), L .counts s M (open-within (C .opened)))

@@ -8,6 +8,8 @@ ghost use Rattle.store.specs.Steps.{Shown, Does};
 ghost use Rattle.results.specs.Results.{Calling, Performs};
 ghost use Rattle.aborts.specs.Aborts.{Cursor, Within, Open, Clear, Bare, Owing, Joining, Looks};
 ghost use Rattle.aborts.specs.Aborts.{Continues, ending, beginning, joining, unnoted};
+use layout::Field;
+use layout::Part;
 use machine::Answer;
 
 // The status of a live endpoint: one whose abort ends is live as before.
@@ -18,7 +20,7 @@ fn look(tables: &mut [u32], e: usize, w: usize)
     requires { ⌜ Shown (now tables) (Cursor e w) ⌝ }
     ensures { λ _. ⌜ Does (now (tables .entry)) (now (tables .exit)) (Cursor e w) (look e w) ⌝ }
 {
-    let badge = store::badge(tables, w);
+    let badge = store::thread(tables, Field::Badge, w);
     let hit = debts::under_abort(tables, e, badge);
     if hit {
         queues::wake_from(tables, e, w, 3, 0, 0);
@@ -34,7 +36,7 @@ fn look_up_to(tables: &mut [u32], e: usize, allowance: u32) -> u32
 {
     let mut left = allowance;
     while 0 < left {
-        let cursor = store::cursor(tables, e);
+        let cursor = store::endpoint(tables, Part::Cursor, e);
         if cursor == 0 {
             return allowance - left;
         }
@@ -50,7 +52,7 @@ fn end_own(tables: &mut [u32], t: usize, e: usize, count: u32) -> Answer
     requires { ⌜ Shown (now tables) (Open t e) ⌝ }
     ensures { λ r. ⌜ Continues (now (tables .entry)) count r (Open t e) (ending t e) (now (tables .exit)) ⌝ }
 {
-    let cursor = store::cursor(tables, e);
+    let cursor = store::endpoint(tables, Part::Cursor, e);
     if cursor != 0 {
         return results::accept(tables, results::counted(2, count));
     }
@@ -112,7 +114,7 @@ fn work_other(tables: &mut [u32], t: usize, e: usize, allowance: u32, badge: u32
         (workOther t e allowance badge) ⌝ }
 {
     let n = look_up_to(tables, e, allowance);
-    let pending = store::cursor(tables, e);
+    let pending = store::endpoint(tables, Part::Cursor, e);
     if pending != 0 {
         return results::accept(tables, results::counted(2, n));
     }
@@ -136,7 +138,7 @@ fn abort_open(tables: &mut [u32], t: usize, e: usize, allowance: u32, badge: u32
     ensures { λ r. ⌜ Performs (now (tables .entry)) (now (tables .exit)) r (Owing t e badge)
         (abortOpen t e allowance badge) ⌝ }
 {
-    let here = store::aborting(tables, e);
+    let here = store::endpoint(tables, Part::Aborting, e);
     if here == 0 {
         return begin_own(tables, t, e, allowance, badge, 0);
     }
@@ -153,7 +155,7 @@ fn abort_at(tables: &mut [u32], t: usize, e: usize, allowance: u32, badge: u32) 
     ensures { λ r. ⌜ Performs (now (tables .entry)) (now (tables .exit)) r
         (Calling t ((e ≤ 63) × (allowance ≤ 65535) × (badge < 2 ^ 28))) (unnoted t e allowance badge) ⌝ }
 {
-    let status = store::status(tables, e);
+    let status = store::endpoint(tables, Part::Status, e);
     if status == 0 {
         return results::plain(23);
     }

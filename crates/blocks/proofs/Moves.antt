@@ -7,18 +7,22 @@ use Rattle.machine.specs.State.{State, Thread, setThread, withTicks}
 use Rattle.layout.specs.Shows.{Shows}
 use Rattle.store.specs.Steps.{Shown, Does, Tells}
 use Rattle.store.specs.Store.{IsThread, placing, prioritising, ticking, Places, Owes}
-use Rattle.store.specs.Readings.{placeIn, priorityIn, ticksIn, outcomeIn, badgeIn, messageIn, owesIn, noteIn}
+use Rattle.layout.specs.declared.Field.{Field}
+use Rattle.store.specs.Readings.{threadIn}
 use Rattle.store.proofs.Composed.{still, remade}
 use Rattle.blocks.specs.declared.Block.{Block}
 use Rattle.blocks.specs.Blocks.{refilled, tickedBlock, blockOf, Loads, IsBlock, Stores}
 use Rattle.blocks.proofs.Ticks.{with-ticks}
 
 pub loaded :
-    {m : List ℕ} {t : ℕ} (b : Block) → Tells m (IsThread t) (b .place) (placeIn t)
-    → Tells m (IsThread t) (b .priority) (priorityIn t) → Tells m (IsThread t) (b .ticks) (ticksIn t)
-    → Tells m (IsThread t) (b .outcome) (outcomeIn t) → Tells m (IsThread t) (b .badge) (badgeIn t)
-    → Tells m (IsThread t) (b .message) (messageIn t) → Tells m (IsThread t) (b .owes) (owesIn t)
-    → Tells m (IsThread t) (b .note) (noteIn t) → Loads m t b
+    {m : List ℕ} {t : ℕ} (b : Block) → Tells m (IsThread t) (b .place) (threadIn Field.Place t)
+    → Tells m (IsThread t) (b .priority) (threadIn Field.Priority t)
+    → Tells m (IsThread t) (b .ticks) (threadIn Field.Ticks t)
+    → Tells m (IsThread t) (b .outcome) (threadIn Field.Outcome t)
+    → Tells m (IsThread t) (b .badge) (threadIn Field.Badge t)
+    → Tells m (IsThread t) (b .message) (threadIn Field.Message t)
+    → Tells m (IsThread t) (b .owes) (threadIn Field.Owes t)
+    → Tells m (IsThread t) (b .note) (threadIn Field.Note t) → Loads m t b
 loaded b P Q T O B X D N =
     record {
       loads = λ s M h i.
@@ -64,7 +68,7 @@ stored {t} {m} {n₁} {n₂} {n₃} {n₄} b P Q T D =
 
 -- The block of a thread, after a tick, is that of the thread with the ticks that are left.
 module _ {t : ℕ} {m : List ℕ} {b : Block} (L : Loads m t b) where
-  pub ticks-told : Tells m (IsThread t) (b .ticks) (ticksIn t)
+  pub ticks-told : Tells m (IsThread t) (b .ticks) (threadIn Field.Ticks t)
   ticks-told = record { tells = λ s M h. ap (λ (y : Block). y .ticks) (L .loads s M h) }
 
   abbrev left : ℕ

@@ -4,6 +4,7 @@ ghost use mathlib.Core.Path.{_≡_};
 ghost use Rattle.store.specs.Steps.{Shown};
 ghost use Rattle.store.specs.Store.{IsThread};
 ghost use Rattle.blocks.specs.Blocks.{tickedBlock, Loads, IsBlock, Stores};
+use layout::Field;
 
 pub struct Block {
     pub place: u32,
@@ -54,14 +55,14 @@ pub fn load(tables: &[u32], t: usize) -> Block
     requires { ⌜ Shown (now tables) (IsThread t) ⌝ }
     ensures { λ r. ⌜ Loads (now (tables .entry)) t r ⌝ }
 {
-    let place = store::place(tables, t);
-    let priority = store::priority(tables, t);
-    let ticks = store::ticks(tables, t);
-    let outcome = store::outcome(tables, t);
-    let badge = store::badge(tables, t);
-    let message = store::message(tables, t);
-    let owes = store::owes(tables, t);
-    let note = store::note(tables, t);
+    let place = store::thread(tables, Field::Place, t);
+    let priority = store::thread(tables, Field::Priority, t);
+    let ticks = store::thread(tables, Field::Ticks, t);
+    let outcome = store::thread(tables, Field::Outcome, t);
+    let badge = store::thread(tables, Field::Badge, t);
+    let message = store::thread(tables, Field::Message, t);
+    let owes = store::thread(tables, Field::Owes, t);
+    let note = store::thread(tables, Field::Note, t);
     Block {
         place: place,
         priority: priority,

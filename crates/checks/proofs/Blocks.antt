@@ -12,7 +12,9 @@ use Rattle.machine.specs.State.{noted, awaited, absentThread}
 use Rattle.machine.specs.Endpoints.{ownerOf}
 use Rattle.machine.specs.Sound.{Stores}
 use Rattle.machine.proofs.Lists.{Same, same, other, same?}
-use Rattle.layout.specs.Addresses.{Field, place, priority, ticks, outcome, badge, message, owes, note, owner, ofThread}
+use Rattle.layout.specs.declared.Field.{Field}
+use Rattle.layout.specs.declared.Part.{Part}
+use Rattle.layout.specs.Addresses.{ofThread}
 use Rattle.layout.specs.Addresses.{ofEndpoint, ofLine, at, word}
 use Rattle.layout.specs.Words.{linkOf, placeCode, debtCode, noteCode, lineCode, threadWord}
 use Rattle.layout.specs.Decode.{placeOf, threadFrom}
@@ -30,18 +32,21 @@ use Rattle.checks.proofs.Reading.{Reads}
 
 abbrev Zeros : (Field → ℕ) → Type 0
 Zeros w =
-    ((((((w priority ≡ 0) × (w ticks ≡ 0)) × (w outcome ≡ 0)) × (w badge ≡ 0)) × (w message ≡ 0)) × (w owes ≡ 0))
-    × (w note ≡ 0)
+    ((((((w Field.Priority ≡ 0) × (w Field.Ticks ≡ 0)) × (w Field.Outcome ≡ 0)) × (w Field.Badge ≡ 0))
+    × (w Field.Message ≡ 0)) × (w Field.Owes ≡ 0))
+    × (w Field.Note ≡ 0)
 
 abbrev Counted : (Field → ℕ) → Type 0
 Counted w =
-    (((((w place ≤ 161) × (w priority ≤ 255)) × ((1 ≤ w ticks) × (w ticks ≤ 5))) × (w outcome ≤ 5))
-    × (w badge < 2 ^ 28)) × (w message < 2 ^ 28)
+    (((((w Field.Place ≤ 161) × (w Field.Priority ≤ 255)) × ((1 ≤ w Field.Ticks) × (w Field.Ticks ≤ 5)))
+    × (w Field.Outcome ≤ 5))
+    × (w Field.Badge < 2 ^ 28)) × (w Field.Message < 2 ^ 28)
 
 abbrev Kept : (Field → ℕ) → Type 0
 Kept w =
-    ((w place ≡ 1) ⊎ (w outcome ≡ 0))
-    × (((w outcome ≡ 2) ⊎ ((2 ≤ w place) × (w place < 66))) ⊎ ((w badge ≡ 0) × (w message ≡ 0)))
+    ((w Field.Place ≡ 1) ⊎ (w Field.Outcome ≡ 0))
+    × (((w Field.Outcome ≡ 2) ⊎ ((2 ≤ w Field.Place) × (w Field.Place < 66)))
+    ⊎ ((w Field.Badge ≡ 0) × (w Field.Message ≡ 0)))
 
 abbrev OnLine : List ℕ → ℕ → ℕ → Type 0
 OnLine m t w = (w < 130) ⊎ (word m (at (ofLine (w - 130))) ≡ suc (suc t))
@@ -49,7 +54,7 @@ OnLine m t w = (w < 130) ⊎ (word m (at (ofLine (w - 130))) ≡ suc (suc t))
 abbrev Owing : List ℕ → ℕ → ℕ → ℕ → Type 0
 Owing m t n zero = n ≡ 0
 Owing m t n (suc w) =
-    (w < 64 → (n ≡ 0) × (endpointIn m owner w ≡ suc t)) × ((w < 64 → ⊥) → (w < 128) × (n < 2 ^ 28))
+    (w < 64 → (n ≡ 0) × (endpointIn m Part.Owner w ≡ suc t)) × ((w < 64 → ⊥) → (w < 128) × (n < 2 ^ 28))
 
 module _ (m : List ℕ) (t : ℕ) where
   tells-absent : Tells (absentTest m t) (Zeros (λ f. threadIn m f t))
@@ -71,11 +76,11 @@ module _ (m : List ℕ) (t : ℕ) where
       (tells-or (tells-or (tells-eqb _ 2) (tells-and (tells-leb 2 _) (tells-ltb _ 66)))
       (tells-and (tells-eqb _ 0) (tells-eqb _ 0)))
 
-  tells-waits : Tells (waitsTest m t) (OnLine m t (threadIn m place t))
+  tells-waits : Tells (waitsTest m t) (OnLine m t (threadIn m Field.Place t))
   unfolding waitsTest
   tells-waits = tells-or (tells-ltb _ 130) (tells-eqb _ (suc (suc t)))
 
-  tells-owes : (w : ℕ) → Tells (owesTest w m t) (Owing m t (threadIn m note t) w)
+  tells-owes : (w : ℕ) → Tells (owesTest w m t) (Owing m t (threadIn m Field.Note t) w)
   unfolding owesTest
   tells-owes zero = tells-eqb _ 0
   tells-owes (suc w) =
@@ -84,14 +89,14 @@ module _ (m : List ℕ) (t : ℕ) where
 
   tells-words :
       Tells (blockTest m t)
-      ((threadIn m place t ≡ 0 → Zeros (λ f. threadIn m f t))
-      × ((threadIn m place t ≡ 0 → ⊥)
-      → ((Counted (λ f. threadIn m f t) × Kept (λ f. threadIn m f t)) × OnLine m t (threadIn m place t))
-      × Owing m t (threadIn m note t) (threadIn m owes t)))
+      ((threadIn m Field.Place t ≡ 0 → Zeros (λ f. threadIn m f t))
+      × ((threadIn m Field.Place t ≡ 0 → ⊥)
+      → ((Counted (λ f. threadIn m f t) × Kept (λ f. threadIn m f t)) × OnLine m t (threadIn m Field.Place t))
+      × Owing m t (threadIn m Field.Note t) (threadIn m Field.Owes t)))
   unfolding blockTest presentTest
   tells-words =
       tells-pick (tells-eqb _ 0) tells-absent
-      (tells-and (tells-and (tells-and tells-numbers tells-stored) tells-waits) (tells-owes (threadIn m owes t)))
+      (tells-and (tells-and (tells-and tells-numbers tells-stored) tells-waits) (tells-owes (threadIn m Field.Owes t)))
 
 -- Each code in range is that of a place, and of a debt with its note.
 
@@ -146,49 +151,49 @@ same-words :
 same-words t x w X e f =
     ap (λ (v : Thread). threadWord v f) (ap threadFrom (sym (fun-ext e)) ∙ thread-back t x X) ∙ e f
 
-absent-words : (t : ℕ) (w : Field → ℕ) → w place ≡ 0 → Zeros w → Same-words w
+absent-words : (t : ℕ) (w : Field → ℕ) → w Field.Place ≡ 0 → Zeros w → Same-words w
 absent-words t w e z = same-words t absentThread w (absent-neat t) go
   where
     go : (f : Field) → threadWord absentThread f ≡ w f
-    go place = sym e
-    go priority = omega arith
-    go ticks = omega arith
-    go outcome = omega arith
-    go badge = omega arith
-    go message = omega arith
-    go owes = omega arith
-    go note = omega arith
+    go Field.Place = sym e
+    go Field.Priority = omega arith
+    go Field.Ticks = omega arith
+    go Field.Outcome = omega arith
+    go Field.Badge = omega arith
+    go Field.Message = omega arith
+    go Field.Owes = omega arith
+    go Field.Note = omega arith
 
 module _
     (t : ℕ) (h : t ≤ 255) (w : Field → ℕ) (c : Counted w) (k : Kept w)
-    (p : Place) (ps : PlaceSmall p) (pe : placeCode p ≡ w place) (n : w place ≡ 0 → ⊥)
-    (d : Debt) (ds : DebtSmall d) (de : debtCode d ≡ w owes) (ne : noteCode d ≡ w note)
+    (p : Place) (ps : PlaceSmall p) (pe : placeCode p ≡ w Field.Place) (n : w Field.Place ≡ 0 → ⊥)
+    (d : Debt) (ds : DebtSmall d) (de : debtCode d ≡ w Field.Owes) (ne : noteCode d ≡ w Field.Note)
   where
     abbrev present : Thread
     present =
         record {
           place = p;
-          priority = w priority;
-          ticks = w ticks;
-          outcome = w outcome;
-          badge = w badge;
-          message = w message;
+          priority = w Field.Priority;
+          ticks = w Field.Ticks;
+          outcome = w Field.Outcome;
+          badge = w Field.Badge;
+          message = w Field.Message;
           debt = d;
         }
 
-    kept-outcome : (p ≡ able → ⊥) → w outcome ≡ 0
+    kept-outcome : (p ≡ able → ⊥) → w Field.Outcome ≡ 0
     kept-outcome a = ⊎-elim (λ e. absurd (a (same-place p able ps tt (pe ∙ e)))) (λ e. e) (k .0)
 
-    kept-store : (Stores p (w outcome) → ⊥) → (w badge ≡ 0) × (w message ≡ 0)
+    kept-store : (Stores p (w Field.Outcome) → ⊥) → (w Field.Badge ≡ 0) × (w Field.Message ≡ 0)
     kept-store a = ⊎-elim (λ r. absurd (a (⊎-elim two between r))) (λ e. e) (k .1)
       where
-        two : w outcome ≡ 2 → Stores p (w outcome)
+        two : w Field.Outcome ≡ 2 → Stores p (w Field.Outcome)
         two o =
-            ⊎-elim (λ e. subst (λ (q : Place). Stores q (w outcome)) (sym (same-place p able ps tt (pe ∙ e))) o)
+            ⊎-elim (λ e. subst (λ (q : Place). Stores q (w Field.Outcome)) (sym (same-place p able ps tt (pe ∙ e))) o)
             (λ e. absurd (omega arith)) (k .0)
 
-        between : (2 ≤ w place) × (w place < 66) → Stores p (w outcome)
-        between r = stores-sender p (w outcome) ps (omega arith) (omega arith)
+        between : (2 ≤ w Field.Place) × (w Field.Place < 66) → Stores p (w Field.Outcome)
+        between r = stores-sender p (w Field.Outcome) ps (omega arith) (omega arith)
 
     present-neat : NeatThread t present
     present-neat =
@@ -215,31 +220,32 @@ module _
     present-words = same-words t present w present-neat go
       where
         go : (f : Field) → threadWord present f ≡ w f
-        go place = pe
-        go priority = refl
-        go ticks = refl
-        go outcome = refl
-        go badge = refl
-        go message = refl
-        go owes = de
-        go note = ne
+        go Field.Place = pe
+        go Field.Priority = refl
+        go Field.Ticks = refl
+        go Field.Outcome = refl
+        go Field.Badge = refl
+        go Field.Message = refl
+        go Field.Owes = de
+        go Field.Note = ne
 
 -- Where the test passes, the words are those of the thread read off them.
 pub block-words : (m : List ℕ) (t : ℕ) → t ≤ 255 → blockTest m t ≡ true → Same-words (λ f. threadIn m f t)
-block-words m t h e = go (same? (threadIn m place t) 0) (tells-words m t .holds e)
+block-words m t h e = go (same? (threadIn m Field.Place t) 0) (tells-words m t .holds e)
   where
     w : Field → ℕ
     w f = threadIn m f t
 
-    go : Same (w place) 0
-        → ((w place ≡ 0 → Zeros w)
-        × ((w place ≡ 0 → ⊥) → ((Counted w × Kept w) × OnLine m t (w place)) × Owing m t (w note) (w owes)))
+    go : Same (w Field.Place) 0
+        → ((w Field.Place ≡ 0 → Zeros w)
+        × ((w Field.Place ≡ 0 → ⊥) → ((Counted w × Kept w) × OnLine m t (w Field.Place))
+        × Owing m t (w Field.Note) (w Field.Owes)))
         → Same-words w
     go (same i _) r = absent-words t w i (r .0 i)
     go (other n _) r =
         let f = r .1 n in
-        let p = place-coded (w place) (f .0 .0 .0 .0 .0 .0 .0 .0) in
-        let d = debt-coded m t (w note) (w owes) (f .1) in
+        let p = place-coded (w Field.Place) (f .0 .0 .0 .0 .0 .0 .0 .0) in
+        let d = debt-coded m t (w Field.Note) (w Field.Owes) (f .1) in
         present-words t h w (f .0 .0 .0) (f .0 .0 .1) (p .0) (p .1) (p .2) n (d .0) (d .1) (d .2) (d .3)
 
 -- What is left of the test
@@ -265,56 +271,56 @@ module _ (m : List ℕ) (s : State) (R : Reads m s) (t : ℕ) (h : t ≤ 255) wh
   here : (f : Field) → threadIn m f t ≡ threadWord (s .threads t) f
   here f = R .slots (ofThread f t) h
 
-  is-absent : threadIn m place t ≡ 0 → s .threads t .place ≡ absent
-  is-absent e = same-place (s .threads t .place) absent (X .place-small) tt (sym (here place) ∙ e)
+  is-absent : threadIn m Field.Place t ≡ 0 → s .threads t .place ≡ absent
+  is-absent e = same-place (s .threads t .place) absent (X .place-small) tt (sym (here Field.Place) ∙ e)
 
-  zero-word : threadIn m place t ≡ 0 → (f : Field) → threadIn m f t ≡ threadWord absentThread f
+  zero-word : threadIn m Field.Place t ≡ 0 → (f : Field) → threadIn m f t ≡ threadWord absentThread f
   zero-word e f = here f ∙ ap (λ (x : Thread). threadWord x f) (X .unused (is-absent e))
 
-  has-numbers : (threadIn m place t ≡ 0 → ⊥) → Counted (λ f. threadIn m f t)
+  has-numbers : (threadIn m Field.Place t ≡ 0 → ⊥) → Counted (λ f. threadIn m f t)
   has-numbers n =
-      let N = X .numbers (λ e. n (here place ∙ ap placeCode e)) in (
+      let N = X .numbers (λ e. n (here Field.Place ∙ ap placeCode e)) in (
         (
           (
             (
               (
-                subst (λ (v : ℕ). v ≤ 161) (sym (here place)) (code-small (s .threads t .place) (X .place-small)),
-                omega (arith, here priority, N .priority),
+                subst (λ (v : ℕ). v ≤ 161) (sym (here Field.Place)) (code-small (s .threads t .place) (X .place-small)),
+                omega (arith, here Field.Priority, N .priority),
               ),
-              (omega (arith, here ticks, N .ticks-least), omega (arith, here ticks, N .ticks-most)),
+              (omega (arith, here Field.Ticks, N .ticks-least), omega (arith, here Field.Ticks, N .ticks-most)),
             ),
-            omega (arith, here outcome, N .outcome),
+            omega (arith, here Field.Outcome, N .outcome),
           ),
-          omega (arith, here badge, N .badge),
+          omega (arith, here Field.Badge, N .badge),
         ),
-        omega (arith, here message, N .message),
+        omega (arith, here Field.Message, N .message),
       )
 
   none-stored :
-      ((threadIn m outcome t ≡ 2) ⊎ ((2 ≤ threadIn m place t) × (threadIn m place t < 66)) → ⊥)
-      → (threadIn m badge t ≡ 0) × (threadIn m message t ≡ 0)
+      ((threadIn m Field.Outcome t ≡ 2) ⊎ ((2 ≤ threadIn m Field.Place t) × (threadIn m Field.Place t < 66)) → ⊥)
+      → (threadIn m Field.Badge t ≡ 0) × (threadIn m Field.Message t ≡ 0)
   none-stored n =
-      let r = X .stored (λ z. n (⊎-elim (λ e. inl (here outcome ∙ e))
-      (λ r. inr (omega (arith, here place, r .0), omega (arith, here place, r .1)))
+      let r = X .stored (λ z. n (⊎-elim (λ e. inl (here Field.Outcome ∙ e))
+      (λ r. inr (omega (arith, here Field.Place, r .0), omega (arith, here Field.Place, r .1)))
       (stores-code (s .threads t .place) (s .threads t .outcome) (X .place-small) z))) in
-      (here badge ∙ r .0, here message ∙ r .1)
+      (here Field.Badge ∙ r .0, here Field.Message ∙ r .1)
 
   has-kept : Kept (λ f. threadIn m f t)
   has-kept = (
-    ⊎-elim inl (λ n. inr (here outcome ∙ X .blocked (λ e. n (here place ∙ ap placeCode e))))
-        (told (tells-eqb (threadIn m place t) 1)),
+    ⊎-elim inl (λ n. inr (here Field.Outcome ∙ X .blocked (λ e. n (here Field.Place ∙ ap placeCode e))))
+        (told (tells-eqb (threadIn m Field.Place t) 1)),
     ⊎-elim inl (λ n. inr (none-stored n))
         (told
-        (tells-or (tells-eqb (threadIn m outcome t) 2)
-        (tells-and (tells-leb 2 (threadIn m place t)) (tells-ltb (threadIn m place t) 66)))),
+        (tells-or (tells-eqb (threadIn m Field.Outcome t) 2)
+        (tells-and (tells-leb 2 (threadIn m Field.Place t)) (tells-ltb (threadIn m Field.Place t) 66)))),
   )
 
   -- The line that the thread waits on.
 
-  waits-of : OnLine m t (threadIn m place t) → Waits s t
+  waits-of : OnLine m t (threadIn m Field.Place t) → Waits s t
   waits-of o l e =
-      let code : threadIn m place t ≡ 130 + l = here place ∙ ap placeCode e in
-      let back : threadIn m place t - 130 ≡ l = omega arith in
+      let code : threadIn m Field.Place t ≡ 130 + l = here Field.Place ∙ ap placeCode e in
+      let back : threadIn m Field.Place t - 130 ≡ l = omega arith in
       ⊎-elim (λ z. absurd (omega arith))
       (λ k. tells-awaited (s .lines l) t .holds
       (tells-eqb (lineCode (s .lines l)) (suc (suc t)) .back
@@ -332,21 +338,22 @@ module _ (m : List ℕ) (s : State) (R : Reads m s) (t : ℕ) (h : t ≤ 255) wh
 
   -- The abort that it owns.
 
-  owes-of : Owing m t (threadIn m note t) (threadIn m owes t) → Owes s t
+  owes-of : Owing m t (threadIn m Field.Note t) (threadIn m Field.Owes t) → Owes s t
   owes-of o e i =
       let small : e ≤ 63 = subst DebtSmall i (X .debt-small) in
-      let code : threadIn m owes t ≡ suc e = (here owes ∙ ap debtCode i) ∙ (let z : 1 + e ≡ suc e = omega arith in z) in
-      let k = subst (Owing m t (threadIn m note t)) code o .0 (omega arith) .1 in
+      let code : threadIn m Field.Owes t ≡ suc e
+      = (here Field.Owes ∙ ap debtCode i) ∙ (let z : 1 + e ≡ suc e = omega arith in z) in
+      let k = subst (Owing m t (threadIn m Field.Note t)) code o .0 (omega arith) .1 in
       tells-some (ownerOf (s .endpoints e .abort)) t .holds
       (tells-eqb (linkOf (ownerOf (s .endpoints e .abort))) (suc t) .back
-      (sym (R .slots (ofEndpoint owner e) small) ∙ k))
+      (sym (R .slots (ofEndpoint Part.Owner e) small) ∙ k))
 
   owing : Owes s t → (d : Debt) → s .threads t .debt ≡ d → DebtSmall d → Owing m t (noteCode d) (debtCode d)
   owing O nothing i g = refl
   owing O (owns e) i g =
       let z : 1 + e ≡ suc e = omega arith in
       subst (Owing m t 0) (sym z)
-      (λ _. (refl, R .slots (ofEndpoint owner e) g ∙ ap linkOf (O e i)), λ n. absurd (n (omega arith)))
+      (λ _. (refl, R .slots (ofEndpoint Part.Owner e) g ∙ ap linkOf (O e i)), λ n. absurd (n (omega arith)))
   owing O (noted e b) i g =
       let z : 65 + e ≡ suc (64 + e) = omega arith in
       subst (Owing m t b) (sym z) (λ k. absurd (omega arith), λ _. (omega arith, g .1))
@@ -355,43 +362,46 @@ module _ (m : List ℕ) (s : State) (R : Reads m s) (t : ℕ) (h : t ≤ 255) wh
   pub tells-block : Tells (blockTest m t) (Waits s t × Owes s t)
   tells-block = tells-map from to (tells-words m t)
     where
-      absent-owes : threadIn m place t ≡ 0 → Owes s t
+      absent-owes : threadIn m Field.Place t ≡ 0 → Owes s t
       absent-owes z e i =
-          absurd (omega (arith, sym (zero-word z owes) ∙ here owes ∙ ap debtCode i))
+          absurd (omega (arith, sym (zero-word z Field.Owes) ∙ here Field.Owes ∙ ap debtCode i))
 
-      absent-waits : threadIn m place t ≡ 0 → Waits s t
-      absent-waits z l e = absurd (omega (arith, sym z ∙ here place ∙ ap placeCode e))
+      absent-waits : threadIn m Field.Place t ≡ 0 → Waits s t
+      absent-waits z l e = absurd (omega (arith, sym z ∙ here Field.Place ∙ ap placeCode e))
 
-      from : (threadIn m place t ≡ 0 → Zeros (λ f. threadIn m f t))
-          × ((threadIn m place t ≡ 0 → ⊥)
-          → ((Counted (λ f. threadIn m f t) × Kept (λ f. threadIn m f t)) × OnLine m t (threadIn m place t))
-          × Owing m t (threadIn m note t) (threadIn m owes t))
+      from : (threadIn m Field.Place t ≡ 0 → Zeros (λ f. threadIn m f t))
+          × ((threadIn m Field.Place t ≡ 0 → ⊥)
+          → ((Counted (λ f. threadIn m f t) × Kept (λ f. threadIn m f t)) × OnLine m t (threadIn m Field.Place t))
+          × Owing m t (threadIn m Field.Note t) (threadIn m Field.Owes t))
           → Waits s t × Owes s t
       from r =
           ⊎-elim (λ z. (absent-waits z, absent-owes z)) (λ n. (waits-of (r .1 n .0 .1), owes-of (r .1 n .1)))
-          (told (tells-eqb (threadIn m place t) 0))
+          (told (tells-eqb (threadIn m Field.Place t) 0))
 
       to : Waits s t × Owes s t
-          → (threadIn m place t ≡ 0 → Zeros (λ f. threadIn m f t))
-          × ((threadIn m place t ≡ 0 → ⊥)
-          → ((Counted (λ f. threadIn m f t) × Kept (λ f. threadIn m f t)) × OnLine m t (threadIn m place t))
-          × Owing m t (threadIn m note t) (threadIn m owes t))
+          → (threadIn m Field.Place t ≡ 0 → Zeros (λ f. threadIn m f t))
+          × ((threadIn m Field.Place t ≡ 0 → ⊥)
+          → ((Counted (λ f. threadIn m f t) × Kept (λ f. threadIn m f t)) × OnLine m t (threadIn m Field.Place t))
+          × Owing m t (threadIn m Field.Note t) (threadIn m Field.Owes t))
       to r = (
         λ z. (
           (
             (
-              (((zero-word z priority, zero-word z ticks), zero-word z outcome), zero-word z badge),
-              zero-word z message,
+              (
+                ((zero-word z Field.Priority, zero-word z Field.Ticks), zero-word z Field.Outcome),
+                zero-word z Field.Badge,
+              ),
+              zero-word z Field.Message,
             ),
-            zero-word z owes,
+            zero-word z Field.Owes,
           ),
-          zero-word z note,
+          zero-word z Field.Note,
         ),
         λ n. (
           (
             (has-numbers n, has-kept),
-            subst (OnLine m t) (sym (here place)) (on-line (r .0) (s .threads t .place) refl (X .place-small)),
+            subst (OnLine m t) (sym (here Field.Place)) (on-line (r .0) (s .threads t .place) refl (X .place-small)),
           ),
-          rw (here note, here owes) (owing (r .1) (s .threads t .debt) refl (X .debt-small)),
+          rw (here Field.Note, here Field.Owes) (owing (r .1) (s .threads t .debt) refl (X .debt-small)),
         ),
       )

@@ -10,7 +10,9 @@ use native.Mathlib.Omega.{arith}
 use borrow.Author.Tests.{le-leb}
 use Rattle.machine.specs.State.{State, owns, Abort, Status, missing, live, closing, Endpoint, missingEndpoint}
 use Rattle.machine.specs.Endpoints.{ownerOf, pendingOf}
-use Rattle.layout.specs.Addresses.{Part, status, aborting, aborted, owner, cursor, end, owes, badge, ofThread}
+use Rattle.layout.specs.declared.Field.{Field}
+use Rattle.layout.specs.declared.Part.{Part}
+use Rattle.layout.specs.Addresses.{ofThread}
 use Rattle.layout.specs.Addresses.{ofEndpoint, head, linkAt, word}
 use Rattle.layout.specs.Words.{linkOf, firstOf, lastOf, debtCode, statusCode, abortCode, badgeCode, endpointWord}
 use Rattle.layout.specs.Shows.{Chain}
@@ -29,21 +31,21 @@ use Rattle.checks.proofs.Reading.{Reads, end-joined}
 
 abbrev Owned : List ℕ → ℕ → ℕ → Type 0
 Owned m e zero = Unit {0}
-Owned m e (suc t) = (t ≤ 255) × (threadIn m owes t ≡ suc e)
+Owned m e (suc t) = (t ≤ 255) × (threadIn m Field.Owes t ≡ suc e)
 
 abbrev Aborting : List ℕ → ℕ → ℕ → Type 0
 Aborting m e zero =
-    (((endpointIn m aborted e ≡ 0) × (endpointIn m owner e ≡ 0)) × (endpointIn m cursor e ≡ 0))
-    × (endpointIn m end e ≡ 0)
+    (((endpointIn m Part.Aborted e ≡ 0) × (endpointIn m Part.Owner e ≡ 0)) × (endpointIn m Part.Cursor e ≡ 0))
+    × (endpointIn m Part.End e ≡ 0)
 Aborting m e (suc zero) =
-    ((endpointIn m aborted e < 2 ^ 28) × Owned m e (endpointIn m owner e))
-    × ((endpointIn m cursor e ≡ 0) ↔ (endpointIn m end e ≡ 0))
+    ((endpointIn m Part.Aborted e < 2 ^ 28) × Owned m e (endpointIn m Part.Owner e))
+    × ((endpointIn m Part.Cursor e ≡ 0) ↔ (endpointIn m Part.End e ≡ 0))
 Aborting m e (suc (suc n)) = ⊥
 
 abbrev Standing : List ℕ → ℕ → ℕ → Type 0
-Standing m e zero = (word m (linkAt (head (256 + e))) ≡ 0) × (endpointIn m aborting e ≡ 0)
+Standing m e zero = (word m (linkAt (head (256 + e))) ≡ 0) × (endpointIn m Part.Aborting e ≡ 0)
 Standing m e (suc zero) = Unit {0}
-Standing m e (suc (suc zero)) = endpointIn m aborting e ≡ 0
+Standing m e (suc (suc zero)) = endpointIn m Part.Aborting e ≡ 0
 Standing m e (suc (suc (suc n))) = ⊥
 
 module _ (m : List ℕ) (e : ℕ) where
@@ -57,7 +59,7 @@ module _ (m : List ℕ) (e : ℕ) where
   tells-aborting zero =
       tells-and (tells-and (tells-and (tells-eqb _ 0) (tells-eqb _ 0)) (tells-eqb _ 0)) (tells-eqb _ 0)
   tells-aborting (suc zero) =
-      tells-and (tells-and (tells-ltb _ (2 ^ 28)) (tells-owner (endpointIn m owner e)))
+      tells-and (tells-and (tells-ltb _ (2 ^ 28)) (tells-owner (endpointIn m Part.Owner e)))
       (tells-agree (tells-eqb _ 0) (tells-eqb _ 0))
   tells-aborting (suc (suc n)) = tells-false (λ z. z)
 
@@ -95,11 +97,11 @@ marked-end {c} {part = part} M h =
 -- The abort's words, and the endpoint's with its queue, read and written again, are the same.
 
 record Same-abort (w : Part → ℕ) (o : Option Abort) : Type 0 where
-  stands : abortCode o ≡ w aborting
-  under : badgeCode o ≡ w aborted
-  owned : linkOf (ownerOf o) ≡ w owner
-  starts : firstOf (pendingOf o) ≡ w cursor
-  ends : lastOf 0 (pendingOf o) ≡ w end
+  stands : abortCode o ≡ w Part.Aborting
+  under : badgeCode o ≡ w Part.Aborted
+  owned : linkOf (ownerOf o) ≡ w Part.Owner
+  starts : firstOf (pendingOf o) ≡ w Part.Cursor
+  ends : lastOf 0 (pendingOf o) ≡ w Part.End
 
 pub record Same-end (w : Part → ℕ) (l : List ℕ) (x : Endpoint) : Type 0 where
   pub words : (p : Part) → endpointWord x p ≡ w p
@@ -107,7 +109,7 @@ pub record Same-end (w : Part → ℕ) (l : List ℕ) (x : Endpoint) : Type 0 wh
 
 module _ (m : List ℕ) (e : ℕ) where
   no-abort :
-      endpointIn m aborting e ≡ 0 → Aborting m e (endpointIn m aborting e)
+      endpointIn m Part.Aborting e ≡ 0 → Aborting m e (endpointIn m Part.Aborting e)
       → Same-abort (λ p. endpointIn m p e) none
   no-abort z a =
       let h = subst (Aborting m e) z a in
@@ -124,57 +126,58 @@ module _ (m : List ℕ) (e : ℕ) where
   owner-small (suc t) o = omega (arith, o .0)
 
   module _ (l : List ℕ) (b : ℕ) (g : ℕ → ℕ)
-      (M : Marked (endpointIn m cursor e) (endpointIn m end e) b g l
-      (between (endpointIn m cursor e) (endpointIn m end e) l)) where
+      (M : Marked (endpointIn m Part.Cursor e) (endpointIn m Part.End e) b g l
+      (between (endpointIn m Part.Cursor e) (endpointIn m Part.End e) l)) where
     some-abort :
-        (n : ℕ) → endpointIn m aborting e ≡ n → Aborting m e n
+        (n : ℕ) → endpointIn m Part.Aborting e ≡ n → Aborting m e n
         → Same-abort (λ p. endpointIn m p e) (abortAt n (λ p. endpointIn m p e) l)
     unfolding abortAt
     some-abort zero z a = no-abort z (subst (Aborting m e) (sym z) a)
     some-abort (suc zero) z a =
         record {
           stands = sym z;
-          under = within-same (2 ^ 28 - 1) (endpointIn m aborted e) (omega (arith, a .0 .0));
-          owned = linked-again (endpointIn m owner e) (owner-small (endpointIn m owner e) (a .0 .1));
+          under = within-same (2 ^ 28 - 1) (endpointIn m Part.Aborted e) (omega (arith, a .0 .0));
+          owned = linked-again (endpointIn m Part.Owner e) (owner-small (endpointIn m Part.Owner e) (a .0 .1));
           starts = M .first;
           ends = marked-end M (a .1);
         }
     some-abort (suc (suc n)) z a = absurd a
 
     end-read :
-        (x : Endpoint) → statusCode (x .status) ≡ endpointIn m status e
+        (x : Endpoint) → statusCode (x .status) ≡ endpointIn m Part.Status e
         → Same-abort (λ p. endpointIn m p e) (x .abort) → x .waiters ≡ l → Same-end (λ p. endpointIn m p e) l x
     end-read x st a q = record { words = go; queue = q }
       where
         go : (p : Part) → endpointWord x p ≡ endpointIn m p e
-        go status = st
-        go aborting = a .stands
-        go aborted = a .under
-        go owner = a .owned
-        go cursor = a .starts
-        go end = a .ends
+        go Part.Status = st
+        go Part.Aborting = a .stands
+        go Part.Aborted = a .under
+        go Part.Owner = a .owned
+        go Part.Cursor = a .starts
+        go Part.End = a .ends
 
     end-at :
-        (n : ℕ) → endpointIn m status e ≡ n → Standing m e n → Aborting m e (endpointIn m aborting e)
+        (n : ℕ) → endpointIn m Part.Status e ≡ n → Standing m e n → Aborting m e (endpointIn m Part.Aborting e)
         → Chain m (256 + e) 0 l 0 → Same-end (λ p. endpointIn m p e) l (endpointAt n (λ p. endpointIn m p e) l)
     end-at zero z t a c =
         end-read missingEndpoint (sym z) (no-abort (t .1) a)
         (sym (first-zero l (sym (chain-first m (256 + e) 0 l c) ∙ t .0)))
     end-at (suc zero) z t a c =
-        end-read (endpointAt 1 (λ p. endpointIn m p e) l) (sym z) (some-abort (endpointIn m aborting e) refl a) refl
+        end-read (endpointAt 1 (λ p. endpointIn m p e) l) (sym z) (some-abort (endpointIn m Part.Aborting e) refl a)
+        refl
     end-at (suc (suc zero)) z t a c =
         end-read (endpointAt 2 (λ p. endpointIn m p e) l) (sym z) (no-abort t a) refl
     end-at (suc (suc (suc n))) z t a c = absurd t
 
     -- Where the tests pass, the words are those of the endpoint read off them, and its queue is the one walked.
     pub end-words :
-        statusTest (endpointIn m status e) m e ≡ true → abortTest (endpointIn m aborting e) m e ≡ true
+        statusTest (endpointIn m Part.Status e) m e ≡ true → abortTest (endpointIn m Part.Aborting e) m e ≡ true
         → Chain m (256 + e) 0 l 0
         → Same-end (λ p. endpointIn m p e) l (endpointFrom (λ p. endpointIn m p e) l)
     unfolding endpointFrom
     end-words st a =
-        end-at (endpointIn m status e) refl (tells-status m e (endpointIn m status e) .holds st)
-        (tells-aborting m e (endpointIn m aborting e) .holds a)
+        end-at (endpointIn m Part.Status e) refl (tells-status m e (endpointIn m Part.Status e) .holds st)
+        (tells-aborting m e (endpointIn m Part.Aborting e) .holds a)
 
 -- What is left of the tests
 
@@ -189,11 +192,11 @@ module _ (m : List ℕ) (s : State) (R : Reads m s) (e : ℕ) (h : e ≤ 63) whe
   here : (p : Part) → endpointIn m p e ≡ endpointWord (s .endpoints e) p
   here p = R .slots (ofEndpoint p e) h
 
-  has-status : Standing m e (endpointIn m status e)
-  has-status = rw (here status) (go (s .endpoints e .status) refl)
+  has-status : Standing m e (endpointIn m Part.Status e)
+  has-status = rw (here Part.Status) (go (s .endpoints e .status) refl)
     where
-      no-abort-there : (s .endpoints e .status ≡ live → ⊥) → endpointIn m aborting e ≡ 0
-      no-abort-there n = here aborting ∙ ap abortCode (X .no-abort n)
+      no-abort-there : (s .endpoints e .status ≡ live → ⊥) → endpointIn m Part.Aborting e ≡ 0
+      no-abort-there n = here Part.Aborting ∙ ap abortCode (X .no-abort n)
 
       go : (z : Status) → s .endpoints e .status ≡ z → Standing m e (statusCode z)
       go missing i = (
@@ -210,40 +213,40 @@ module _ (m : List ℕ) (s : State) (R : Reads m s) (e : ℕ) (h : e ≤ 63) whe
   owns-there t o =
       tells-owns (s .threads t .debt) e h .holds
       (tells-eqb (debtCode (s .threads t .debt)) (1 + e) .back
-      (sym (R .slots (ofThread owes t) (o .0)) ∙ o .1 ∙ sym one-more))
+      (sym (R .slots (ofThread Field.Owes t) (o .0)) ∙ o .1 ∙ sym one-more))
 
   owned-there : Paired s e → (o : Option ℕ) → ownerOf (s .endpoints e .abort) ≡ o → Owned m e (linkOf o)
   owned-there P none i = tt
   owned-there P (some t) i =
       let small = X .neat .owner t i in
-      (small, R .slots (ofThread owes t) small ∙ ap debtCode (P t i) ∙ one-more)
+      (small, R .slots (ofThread Field.Owes t) small ∙ ap debtCode (P t i) ∙ one-more)
 
   from-aborting : (o : Option Abort) → s .endpoints e .abort ≡ o → Aborting m e (abortCode o) → Paired s e
   from-aborting none i a t k = none-some (ap ownerOf (sym i) ∙ k)
   from-aborting (some b) i a t k =
-      owns-there t (subst (Owned m e) (here owner ∙ ap linkOf k) (a .0 .1))
+      owns-there t (subst (Owned m e) (here Part.Owner ∙ ap linkOf k) (a .0 .1))
 
   to-aborting : Paired s e → (o : Option Abort) → s .endpoints e .abort ≡ o → Aborting m e (abortCode o)
   to-aborting P none i = (
     (
-      (here aborted ∙ ap badgeCode i, here owner ∙ ap (λ (o : Option Abort). linkOf (ownerOf o)) i),
-      here cursor ∙ ap (λ (o : Option Abort). firstOf (pendingOf o)) i,
+      (here Part.Aborted ∙ ap badgeCode i, here Part.Owner ∙ ap (λ (o : Option Abort). linkOf (ownerOf o)) i),
+      here Part.Cursor ∙ ap (λ (o : Option Abort). firstOf (pendingOf o)) i,
     ),
-    here end ∙ ap (λ (o : Option Abort). lastOf 0 (pendingOf o)) i,
+    here Part.End ∙ ap (λ (o : Option Abort). lastOf 0 (pendingOf o)) i,
   )
   to-aborting P (some b) i = (
     (
-      omega (arith, here aborted, X .neat .badge),
-      subst (Owned m e) (sym (here owner)) (owned-there P (ownerOf (s .endpoints e .abort)) refl),
+      omega (arith, here Part.Aborted, X .neat .badge),
+      subst (Owned m e) (sym (here Part.Owner)) (owned-there P (ownerOf (s .endpoints e .abort)) refl),
     ),
-    rw (here cursor, here end) (both-none (pendingOf (s .endpoints e .abort))),
+    rw (here Part.Cursor, here Part.End) (both-none (pendingOf (s .endpoints e .abort))),
   )
 
-  pub tells-paired : Tells (abortTest (endpointIn m aborting e) m e) (Paired s e)
+  pub tells-paired : Tells (abortTest (endpointIn m Part.Aborting e) m e) (Paired s e)
   tells-paired =
-      rw (here aborting) (tells-map (from-aborting (s .endpoints e .abort) refl)
+      rw (here Part.Aborting) (tells-map (from-aborting (s .endpoints e .abort) refl)
       (λ P. to-aborting P (s .endpoints e .abort) refl)
       (tells-aborting m e (abortCode (s .endpoints e .abort))))
 
-  pub status-passes : statusTest (endpointIn m status e) m e ≡ true
-  status-passes = tells-status m e (endpointIn m status e) .back has-status
+  pub status-passes : statusTest (endpointIn m Part.Status e) m e ≡ true
+  status-passes = tells-status m e (endpointIn m Part.Status e) .back has-status

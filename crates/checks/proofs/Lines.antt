@@ -12,7 +12,8 @@ use borrow.Author.Tests.{le-leb}
 use Rattle.machine.specs.State.{State, able, waiting, Line, quiet, pending, awaited}
 use Rattle.machine.specs.Scheduling.{occupied}
 use Rattle.summary.specs.Levels.{wordOf, topOf}
-use Rattle.layout.specs.Addresses.{place, priority, ofThread, ofLine, summary, top, running, unused, at, word}
+use Rattle.layout.specs.declared.Field.{Field}
+use Rattle.layout.specs.Addresses.{ofThread, ofLine, summary, top, running, unused, at, word}
 use Rattle.layout.specs.Words.{linkOf, firstOf, lineCode}
 use Rattle.layout.specs.Decode.{lineOf}
 use Rattle.layout.proofs.Codes.{line-small}
@@ -28,7 +29,7 @@ use Rattle.checks.proofs.Reading.{Reads, level-joined, same-occupied, s
 abbrev Awaited : List ℕ → ℕ → ℕ → Type 0
 Awaited m l zero = Unit {0}
 Awaited m l (suc zero) = Unit {0}
-Awaited m l (suc (suc t)) = (t ≤ 255) × (threadIn m place t ≡ 130 + l)
+Awaited m l (suc (suc t)) = (t ≤ 255) × (threadIn m Field.Place t ≡ 130 + l)
 
 tells-from : (m : List ℕ) (l w : ℕ) → Tells (lineFrom w m l) (Awaited m l w)
 unfolding lineFrom
@@ -66,7 +67,7 @@ tells-line m s R l h = rw (R .slots (ofLine l) h) (go (s .lines l) refl)
     go (awaited u) i =
         let small = R .neat .line-small l u i in
         let seat = tells-seat m s R u (waiting l) small h in
-        let code = tells-eqb (threadIn m place u) (130 + l) in
+        let code = tells-eqb (threadIn m Field.Place u) (130 + l) in
         tells-map
         (λ k t e.
         let v : t ≡ u = (let z : awaited t ≡ awaited u = sym e ∙ i in cc) in
@@ -95,7 +96,7 @@ runs-in-range m h = go (word m (at running)) h
     go : (w : ℕ) → runningFrom w m ≡ true → w ≤ 256
     go zero i = omega arith
     go (suc t) i =
-        let r : Tells (runningFrom (suc t) m) (((t ≤ 255) × (threadIn m place t ≡ 1)) × _)
+        let r : Tells (runningFrom (suc t) m) (((t ≤ 255) × (threadIn m Field.Place t ≡ 1)) × _)
         = tells-and (tells-and (tells-leb t 255) (tells-eqb _ 1)) tells-itself in
         omega (arith, r .holds i .0 .0)
 
@@ -121,8 +122,8 @@ module _ (m : List ℕ) (s : State) (R : Reads m s) where
       go none i = tells-below 256 _ _ tells-empty
       go (some t) i =
           let small = R .neat .runs-small t i in
-          let low : (p : ℕ) → Tells (leb p (threadIn m priority t)) (p ≤ s .threads t .priority)
-          = λ p. rw (R .slots (ofThread priority t) small) (tells-leb p (s .threads t .priority)) in
+          let low : (p : ℕ) → Tells (leb p (threadIn m Field.Priority t)) (p ≤ s .threads t .priority)
+          = λ p. rw (R .slots (ofThread Field.Priority t) small) (tells-leb p (s .threads t .priority)) in
           tells-map (λ r. (r .0 .1, r .1)) (λ r. ((small, r .0), r .1))
           (tells-and (tells-and (tells-leb t 255) (tells-seat m s R t able small tt))
           (tells-below 256 _ _ (λ p k. tells-or (low p) (tells-empty p k))))

@@ -9,7 +9,8 @@ use Rattle.machine.specs.Lists.{Mem}
 use Rattle.machine.specs.State.{State, Place, absent, able, sending, receiving, waiting}
 use Rattle.machine.specs.Sound.{Ready, Queued}
 use Rattle.machine.proofs.Lists.{Same, same, other, same?}
-use Rattle.layout.specs.Addresses.{place, ofThread, next, prev, linkAt, word}
+use Rattle.layout.specs.declared.Field.{Field}
+use Rattle.layout.specs.Addresses.{ofThread, next, prev, linkAt, word}
 use Rattle.layout.specs.Words.{placeCode, queuesOf}
 use Rattle.layout.specs.Tests.{member}
 use Rattle.layout.proofs.Codes.{PlaceSmall}
@@ -68,7 +69,7 @@ module _ (m : List ℕ) (s : State) (R : Reads m s) (t : ℕ) (h : t ≤ 255) wh
   tells-belongs =
       tells-map (⊎-elim inl (λ r. inr (from r))) (⊎-elim inl (λ r. inr (to r)))
       (tells-or (tells-and (tells-seat m s R t able h tt) (tells-not (tells-runs m s R t)))
-      (rw (R .slots (ofThread place t) h)
+      (rw (R .slots (ofThread Field.Place t) h)
       (tells-and (tells-leb 2 (placeCode (s .threads t .place))) (tells-ltb (placeCode (s .threads t .place)) 130))))
     where
       from : (2 ≤ placeCode (s .threads t .place)) × (placeCode (s .threads t .place) < 130) → (e : ℕ) × Queued s t e

@@ -13,7 +13,8 @@ use Rattle.machine.specs.State.{State, Place, able}
 use Rattle.machine.specs.Scheduling.{occupied}
 use Rattle.summary.specs.Levels.{wordOf, topOf}
 use Rattle.summary.proofs.Masks.{bits-agree}
-use Rattle.layout.specs.Addresses.{Slot, ValidSlot, place, priority, ofThread, running, head, at, linkAt, word}
+use Rattle.layout.specs.declared.Field.{Field}
+use Rattle.layout.specs.Addresses.{Slot, ValidSlot, ofThread, running, head, at, linkAt, word}
 use Rattle.layout.specs.Words.{placeCode, firstOf, occupiedIn, content, queuesOf}
 use Rattle.layout.specs.Shows.{Chain}
 use Rattle.layout.proofs.Chains.{chain-first}
@@ -64,9 +65,9 @@ module _ (m : List ℕ) (s : State) (R : Reads m s) where
 
   pub tells-seat :
       (t : ℕ) (q : Place) → t ≤ 255 → PlaceSmall q
-      → Tells (eqb (threadIn m place t) (placeCode q)) (s .threads t .place ≡ q)
+      → Tells (eqb (threadIn m Field.Place t) (placeCode q)) (s .threads t .place ≡ q)
   tells-seat t q h g =
-      rw (R .slots (ofThread place t) h) (tells-place (s .threads t .place) q (R .neat .threads t .place-small) g)
+      rw (R .slots (ofThread Field.Place t) h) (tells-place (s .threads t .place) q (R .neat .threads t .place-small) g)
 
   pub tells-runs : (t : ℕ) → Tells (eqb (word m (at running)) (suc t)) (s .runs ≡ some t)
   tells-runs t = rw (R .slots running tt) (tells-some (s .runs) t)
@@ -79,7 +80,7 @@ module _ (m : List ℕ) (s : State) (R : Reads m s) where
   tells-ready p t h =
       tells-and
       (tells-and (tells-seat t able h tt)
-      (rw (R .slots (ofThread priority t) h) (tells-eqb (s .threads t .priority) p)))
+      (rw (R .slots (ofThread Field.Priority t) h) (tells-eqb (s .threads t .priority) p)))
       (tells-not (tells-runs t))
 
   pub tells-level :

@@ -9,7 +9,8 @@ use mathlib.Core.List.{List}
 use native.Mathlib.Omega.{arith}
 use Rattle.machine.specs.Lists.{Mem}
 use Rattle.machine.specs.State.{State, able}
-use Rattle.layout.specs.Addresses.{status, aborting, next, prev, linkAt, word}
+use Rattle.layout.specs.declared.Part.{Part}
+use Rattle.layout.specs.Addresses.{next, prev, linkAt, word}
 use Rattle.layout.proofs.Tests.{Tells, tells-map, tells-and, tells-below}
 use Rattle.checks.specs.Checks.{endpointIn, blockTest, levelTest, statusTest, abortTest, waitersTest}
 use Rattle.checks.specs.Checks.{endpointTest, lineTest, summaryTest, runningTest, unusedTest, placedTest}
@@ -28,7 +29,7 @@ pub record Tried (m : List ℕ) : Type 0 where
   pub levels : (p : ℕ) → p < 256 → levelTest m p ≡ true
   pub ends :
       (e : ℕ) → e < 64
-      → ((statusTest (endpointIn m status e) m e ≡ true) × (abortTest (endpointIn m aborting e) m e ≡ true))
+      → ((statusTest (endpointIn m Part.Status e) m e ≡ true) × (abortTest (endpointIn m Part.Aborting e) m e ≡ true))
       × (waitersTest m e ≡ true)
   pub lines : (l : ℕ) → l < 32 → lineTest m l ≡ true
   pub summary : summaryTest m ≡ true

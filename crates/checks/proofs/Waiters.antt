@@ -12,7 +12,9 @@ use borrow.Author.Tests.{le-leb, eq-eqb, ne-eqb}
 use Rattle.machine.specs.Lists.{pick, Mem, Distinct}
 use Rattle.machine.specs.State.{State, Place, absent, sending, receiving, Abort}
 use Rattle.machine.specs.Endpoints.{pendingOf}
-use Rattle.layout.specs.Addresses.{aborting, aborted, cursor, end, place, badge, ofThread, ofEndpoint, head, linkAt}
+use Rattle.layout.specs.declared.Field.{Field}
+use Rattle.layout.specs.declared.Part.{Part}
+use Rattle.layout.specs.Addresses.{ofThread, ofEndpoint, head, linkAt}
 use Rattle.layout.specs.Addresses.{word, afterAt}
 use Rattle.layout.specs.Words.{firstOf, lastOf, placeCode, abortCode, badgeCode}
 use Rattle.layout.specs.Shows.{Chain}
@@ -37,33 +39,33 @@ bannedIn m e = bannedOf m e (kindIn m e)
 -- What the walk tests of the threads met.
 abbrev threadsTest : List ℕ → ℕ → List ℕ → Bool
 threadsTest m e l =
-    every (λ t. eqb (threadIn m place t) (kindIn m e)) l
-    && phased ahead (endpointIn m cursor e) (endpointIn m end e) (bannedIn m e) (threadIn m badge) l
+    every (λ t. eqb (threadIn m Field.Place t) (kindIn m e)) l
+    && phased ahead (endpointIn m Part.Cursor e) (endpointIn m Part.End e) (bannedIn m e) (threadIn m Field.Badge) l
 
 -- The kind, the threads that are all of it, and the marks.
 abbrev Kind : List ℕ → ℕ → Type 0
-Kind m e = (kindIn m e ≡ 2 + e) ⊎ ((kindIn m e ≡ 66 + e) × (endpointIn m cursor e ≡ 0))
+Kind m e = (kindIn m e ≡ 2 + e) ⊎ ((kindIn m e ≡ 66 + e) × (endpointIn m Part.Cursor e ≡ 0))
 
 abbrev AllOf : List ℕ → ℕ → List ℕ → Type 0
-AllOf m e l = (t : ℕ) → Mem t l → threadIn m place t ≡ kindIn m e
+AllOf m e l = (t : ℕ) → Mem t l → threadIn m Field.Place t ≡ kindIn m e
 
 abbrev pub Marks-in : List ℕ → ℕ → List ℕ → Type 0
 Marks-in m e l =
-    Marked (endpointIn m cursor e) (endpointIn m end e) (bannedIn m e) (threadIn m badge) l
-    (between (endpointIn m cursor e) (endpointIn m end e) l)
+    Marked (endpointIn m Part.Cursor e) (endpointIn m Part.End e) (bannedIn m e) (threadIn m Field.Badge) l
+    (between (endpointIn m Part.Cursor e) (endpointIn m Part.End e) l)
 
 module _ (m : List ℕ) (e : ℕ) where
   tells-threads : (l : List ℕ) → Distinct l → Tells (threadsTest m e l) (AllOf m e l × Marks-in m e l)
   tells-threads l d =
-      tells-and (tells-every _ _ l (λ t k. tells-eqb (threadIn m place t) (kindIn m e)))
-      (tells-marked (endpointIn m cursor e) (endpointIn m end e) (bannedIn m e) (threadIn m badge) l d)
+      tells-and (tells-every _ _ l (λ t k. tells-eqb (threadIn m Field.Place t) (kindIn m e)))
+      (tells-marked (endpointIn m Part.Cursor e) (endpointIn m Part.End e) (bannedIn m e) (threadIn m Field.Badge) l d)
 
   tells-kind :
       Tells
       (waitersTest m e)
       (Kind m e
-      × (waitersFrom 257 (word m (afterAt (256 + e) 0)) ahead m (256 + e) (kindIn m e) (endpointIn m cursor e)
-      (endpointIn m end e) (bannedIn m e) 0 ≡ true))
+      × (waitersFrom 257 (word m (afterAt (256 + e) 0)) ahead m (256 + e) (kindIn m e) (endpointIn m Part.Cursor e)
+      (endpointIn m Part.End e) (bannedIn m e) 0 ≡ true))
   unfolding waitersTest
   tells-kind =
       tells-and (tells-or (tells-eqb _ (2 + e)) (tells-and (tells-eqb _ (66 + e)) (tells-eqb _ 0)))
@@ -75,7 +77,8 @@ module _ (m : List ℕ) (e : ℕ) where
       → Chain m (256 + e) 0 (queueFrom m (256 + e)) 0 × Marks-in m e (queueFrom m (256 + e))
   end-found h =
       let r = walk-found m (256 + e) (threadsTest m e)
-      (sym (waiters-split m (256 + e) (kindIn m e) (endpointIn m cursor e) (endpointIn m end e) (bannedIn m e) 257
+      (sym (waiters-split m (256 + e) (kindIn m e) (endpointIn m Part.Cursor e) (endpointIn m Part.End e)
+      (bannedIn m e) 257
       (word m (afterAt (256 + e) 0)) ahead 0) ∙ tells-kind .holds h .1) in
       let apart = chain-distinct m (256 + e) (queueFrom m (256 + e)) (r .0) in
       (r .0, tells-threads (queueFrom m (256 + e)) apart .holds (r .1) .1)
@@ -96,25 +99,26 @@ NoneOutside s e =
     → Mem t (s .endpoints e .waiters) → s .threads t .badge ≡ a .badge → Mem t (pendingOf (s .endpoints e .abort))
 
 banned-hit :
-    (m : List ℕ) (e : ℕ) → endpointIn m aborting e ≡ 1 → kindIn m e ≡ 2 + e
-    → bannedIn m e ≡ endpointIn m aborted e
+    (m : List ℕ) (e : ℕ) → endpointIn m Part.Aborting e ≡ 1 → kindIn m e ≡ 2 + e
+    → bannedIn m e ≡ endpointIn m Part.Aborted e
 unfolding bannedOf
-banned-hit m e a k = rw (eq-eqb (endpointIn m aborting e) 1 a, eq-eqb (kindIn m e) (2 + e) k)
+banned-hit m e a k = rw (eq-eqb (endpointIn m Part.Aborting e) 1 a, eq-eqb (kindIn m e) (2 + e) k)
 
 banned-miss :
-    (m : List ℕ) (e : ℕ) → ((endpointIn m aborting e ≡ 1) × (kindIn m e ≡ 2 + e) → ⊥) → bannedIn m e ≡ 2 ^ 28
+    (m : List ℕ) (e : ℕ) → ((endpointIn m Part.Aborting e ≡ 1) × (kindIn m e ≡ 2 + e) → ⊥) → bannedIn m e ≡ 2 ^ 28
 unfolding bannedOf
-banned-miss m e n = go (told (tells-eqb (endpointIn m aborting e) 1)) (told (tells-eqb (kindIn m e) (2 + e)))
+banned-miss m e n = go (told (tells-eqb (endpointIn m Part.Aborting e) 1)) (told (tells-eqb (kindIn m e) (2 + e)))
   where
-    go : (endpointIn m aborting e ≡ 1) ⊎ (endpointIn m aborting e ≡ 1 → ⊥)
+    go : (endpointIn m Part.Aborting e ≡ 1) ⊎ (endpointIn m Part.Aborting e ≡ 1 → ⊥)
         → (kindIn m e ≡ 2 + e) ⊎ (kindIn m e ≡ 2 + e → ⊥)
-        → pick (eqb (endpointIn m aborting e) 1 && eqb (kindIn m e) (2 + e)) (endpointIn m aborted e) (2 ^ 28) ≡ 2 ^ 28
+        → pick (eqb (endpointIn m Part.Aborting e) 1 && eqb (kindIn m e) (2 + e)) (endpointIn m Part.Aborted e) (2 ^ 28)
+        ≡ 2 ^ 28
     go (inl a) (inl k) = absurd (n (a, k))
-    go (inl a) (inr k) = rw (eq-eqb (endpointIn m aborting e) 1 a, ne-eqb (kindIn m e) (2 + e) k)
-    go (inr a) k = rw (ne-eqb (endpointIn m aborting e) 1 a)
+    go (inl a) (inr k) = rw (eq-eqb (endpointIn m Part.Aborting e) 1 a, ne-eqb (kindIn m e) (2 + e) k)
+    go (inr a) k = rw (ne-eqb (endpointIn m Part.Aborting e) 1 a)
 
 kind-first :
-    (m : List ℕ) (e code : ℕ) (l : List ℕ) → ((t : ℕ) → Mem t l → (t ≤ 255) × (threadIn m place t ≡ code))
+    (m : List ℕ) (e code : ℕ) (l : List ℕ) → ((t : ℕ) → Mem t l → (t ≤ 255) × (threadIn m Field.Place t ≡ code))
     → (l ≡ [] → 2 + e ≡ code) → kindOf (firstOf l) m e ≡ code
 unfolding kindOf
 kind-first m e code [] f g = g refl
@@ -137,9 +141,9 @@ module _ (m : List ℕ) (s : State) (R : Reads m s) (e : ℕ) (h : e ≤ 63) whe
   apart : Distinct l
   apart = chain-distinct m (256 + e) l (end-joined m s R e h)
 
-  pending-there : between (endpointIn m cursor e) (endpointIn m end e) l ≡ pend
+  pending-there : between (endpointIn m Part.Cursor e) (endpointIn m Part.End e) l ≡ pend
   pending-there =
-      rw (R .slots (ofEndpoint cursor e) h, R .slots (ofEndpoint end e) h)
+      rw (R .slots (ofEndpoint Part.Cursor e) h, R .slots (ofEndpoint Part.End e) h)
       (between-back l pend (R .neat .endpoints e .neat .part) apart)
 
   tells-walk : Tells (waitersTest m e) (Kind m e × (AllOf m e l × Marks-in m e l))
@@ -147,53 +151,59 @@ module _ (m : List ℕ) (s : State) (R : Reads m s) (e : ℕ) (h : e ≤ 63) whe
       tells-map (λ r. (r .0, tells-threads m e l apart .holds (sym walked ∙ r .1)))
       (λ r. (r .0, walked ∙ tells-threads m e l apart .back (r .1))) (tells-kind m e)
     where
-      walked : waitersFrom 257 (word m (afterAt (256 + e) 0)) ahead m (256 + e) (kindIn m e) (endpointIn m cursor e)
-          (endpointIn m end e) (bannedIn m e) 0 ≡ threadsTest m e l
+      walked : waitersFrom 257 (word m (afterAt (256 + e) 0)) ahead m (256 + e) (kindIn m e)
+          (endpointIn m Part.Cursor e)
+          (endpointIn m Part.End e) (bannedIn m e) 0 ≡ threadsTest m e l
       walked =
-          waiters-split m (256 + e) (kindIn m e) (endpointIn m cursor e) (endpointIn m end e) (bannedIn m e) 257
+          waiters-split m (256 + e) (kindIn m e) (endpointIn m Part.Cursor e) (endpointIn m Part.End e)
+          (bannedIn m e) 257
           (word m (afterAt (256 + e) 0)) ahead 0
           ∙ walk-along m (256 + e) l (end-joined m s R e h) small (threadsTest m e)
 
-  at-place : (t : ℕ) (q : Place) → t ≤ 255 → s .threads t .place ≡ q → threadIn m place t ≡ placeCode q
-  at-place t q k i = R .slots (ofThread place t) k ∙ ap placeCode i
+  at-place : (t : ℕ) (q : Place) → t ≤ 255 → s .threads t .place ≡ q → threadIn m Field.Place t ≡ placeCode q
+  at-place t q k i = R .slots (ofThread Field.Place t) k ∙ ap placeCode i
 
   sends : AllOf m e l → kindIn m e ≡ 2 + e → (t : ℕ) → Mem t l → s .threads t .place ≡ sending e
   sends A k t i =
-      tells-seat m s R t (sending e) (small t i) h .holds (tells-eqb (threadIn m place t) (2 + e) .back (A t i ∙ k))
+      tells-seat m s R t (sending e) (small t i) h .holds
+      (tells-eqb (threadIn m Field.Place t) (2 + e) .back (A t i ∙ k))
 
   receives : AllOf m e l → kindIn m e ≡ 66 + e → (t : ℕ) → Mem t l → s .threads t .place ≡ receiving e
   receives A k t i =
-      tells-seat m s R t (receiving e) (small t i) h .holds (tells-eqb (threadIn m place t) (66 + e) .back (A t i ∙ k))
+      tells-seat m s R t (receiving e) (small t i) h .holds
+      (tells-eqb (threadIn m Field.Place t) (66 + e) .back (A t i ∙ k))
 
   -- From the test
 
   alike : Kind m e → AllOf m e l → Alike s e
   alike (inl k) A = inl (sends A k)
-  alike (inr k) A = inr (receives A (k .0), first-zero pend (sym (R .slots (ofEndpoint cursor e) h) ∙ k .1))
+  alike (inr k) A = inr (receives A (k .0), first-zero pend (sym (R .slots (ofEndpoint Part.Cursor e) h) ∙ k .1))
 
   none-outside : Kind m e → AllOf m e l → Marks-in m e l → NoneOutside s e
   none-outside (inr k) A M a t i p u b =
       absurd (omega (arith, sym (ap placeCode p) ∙ ap placeCode (receives A (k .0) t u)))
   none-outside (inl k) A M a t i p u b =
       let banned : bannedIn m e ≡ a .badge
-      = banned-hit m e (R .slots (ofEndpoint aborting e) h ∙ ap abortCode i) k
-      ∙ R .slots (ofEndpoint aborted e) h ∙ ap badgeCode i in
-      subst (Mem t) pending-there (M .outside t u (R .slots (ofThread badge t) (small t u) ∙ b ∙ sym banned))
+      = banned-hit m e (R .slots (ofEndpoint Part.Aborting e) h ∙ ap abortCode i) k
+      ∙ R .slots (ofEndpoint Part.Aborted e) h ∙ ap badgeCode i in
+      subst (Mem t) pending-there (M .outside t u (R .slots (ofThread Field.Badge t) (small t u) ∙ b ∙ sym banned))
 
   -- To the test
 
-  kind-of : (code : ℕ) → ((t : ℕ) → Mem t l → threadIn m place t ≡ code) → (l ≡ [] → 2 + e ≡ code) → kindIn m e ≡ code
+  kind-of : (code : ℕ) → ((t : ℕ) → Mem t l → threadIn m Field.Place t ≡ code) → (l ≡ [] → 2 + e ≡ code)
+      → kindIn m e ≡ code
   kind-of code f g =
       rw (chain-first m (256 + e) 0 l (end-joined m s R e h)) (kind-first m e code l (λ t i. (small t i, f t i)) g)
 
   to-kind : Alike s e → Kind m e × AllOf m e l
   to-kind (inl f) =
-      let there : (t : ℕ) → Mem t l → threadIn m place t ≡ 2 + e = λ t i. at-place t (sending e) (small t i) (f t i) in
+      let there : (t : ℕ) → Mem t l → threadIn m Field.Place t ≡ 2 + e
+      = λ t i. at-place t (sending e) (small t i) (f t i) in
       let k = kind-of (2 + e) there (λ _. refl) in
       (inl k, λ t i. there t i ∙ sym k)
   to-kind (inr f) = go (nobody? l)
     where
-      there : (t : ℕ) → Mem t l → threadIn m place t ≡ 66 + e
+      there : (t : ℕ) → Mem t l → threadIn m Field.Place t ≡ 66 + e
       there t i = at-place t (receiving e) (small t i) (f .0 t i)
 
       go : (l ≡ []) ⊎ (l ≡ [] → ⊥) → Kind m e × AllOf m e l
@@ -203,36 +213,36 @@ module _ (m : List ℕ) (s : State) (R : Reads m s) (e : ℕ) (h : e ≤ 63) whe
       )
       go (inr n) =
           let k = kind-of (66 + e) there (λ z. absurd (n z)) in
-          (inr (k, R .slots (ofEndpoint cursor e) h ∙ ap firstOf (f .1)), λ t i. there t i ∙ sym k)
+          (inr (k, R .slots (ofEndpoint Part.Cursor e) h ∙ ap firstOf (f .1)), λ t i. there t i ∙ sym k)
 
-  badge-small : Kind m e → AllOf m e l → (t : ℕ) → Mem t l → threadIn m badge t < 2 ^ 28
+  badge-small : Kind m e → AllOf m e l → (t : ℕ) → Mem t l → threadIn m Field.Badge t < 2 ^ 28
   badge-small K A t i =
       let n : s .threads t .place ≡ absent → ⊥
       = λ z. ⊎-elim (λ k. omega (arith, at-place t absent (small t i) z, A t i))
       (λ k. omega (arith, at-place t absent (small t i) z, A t i, k .0)) K in
-      omega (arith, R .slots (ofThread badge t) (small t i), R .neat .threads t .numbers n .badge)
+      omega (arith, R .slots (ofThread Field.Badge t) (small t i), R .neat .threads t .numbers n .badge)
 
   to-marks : Kind m e → AllOf m e l → NoneOutside s e → Marks-in m e l
   to-marks K A O =
       record {
-        first = ap firstOf pending-there ∙ sym (R .slots (ofEndpoint cursor e) h);
-        last = λ _. ap (lastOf 0) pending-there ∙ sym (R .slots (ofEndpoint end e) h);
+        first = ap firstOf pending-there ∙ sym (R .slots (ofEndpoint Part.Cursor e) h);
+        last = λ _. ap (lastOf 0) pending-there ∙ sym (R .slots (ofEndpoint Part.End e) h);
         outside = λ t i b.
             subst (Mem t) (sym pending-there)
             (⊎-elim (λ r. under t i b r (s .endpoints e .abort) refl)
             (λ n. absurd (omega (arith, b ∙ banned-miss m e n, badge-small K A t i)))
-            (told (tells-and (tells-eqb (endpointIn m aborting e) 1) (tells-eqb (kindIn m e) (2 + e)))));
+            (told (tells-and (tells-eqb (endpointIn m Part.Aborting e) 1) (tells-eqb (kindIn m e) (2 + e)))));
       }
     where
-      under : (t : ℕ) → Mem t l → threadIn m badge t ≡ bannedIn m e
-          → (endpointIn m aborting e ≡ 1) × (kindIn m e ≡ 2 + e) → (o : Option Abort) → s .endpoints e .abort ≡ o
+      under : (t : ℕ) → Mem t l → threadIn m Field.Badge t ≡ bannedIn m e
+          → (endpointIn m Part.Aborting e ≡ 1) × (kindIn m e ≡ 2 + e) → (o : Option Abort) → s .endpoints e .abort ≡ o
           → Mem t pend
       under t i b r none z =
-          absurd (omega (arith, sym (r .0) ∙ R .slots (ofEndpoint aborting e) h ∙ ap abortCode z))
+          absurd (omega (arith, sym (r .0) ∙ R .slots (ofEndpoint Part.Aborting e) h ∙ ap abortCode z))
       under t i b r (some a) z =
           O a t z (sends A (r .1) t i) i
-          (sym (R .slots (ofThread badge t) (small t i)) ∙ b ∙ banned-hit m e (r .0) (r .1)
-          ∙ R .slots (ofEndpoint aborted e) h ∙ ap badgeCode z)
+          (sym (R .slots (ofThread Field.Badge t) (small t i)) ∙ b ∙ banned-hit m e (r .0) (r .1)
+          ∙ R .slots (ofEndpoint Part.Aborted e) h ∙ ap badgeCode z)
 
   pub tells-waiters : Tells (waitersTest m e) (Alike s e × NoneOutside s e)
   tells-waiters =

@@ -9,7 +9,8 @@ use native.Mathlib.Omega.{arith}
 use lib.Dec.{eqb, leb}
 use lib.ListN.{length}
 use Rattle.machine.specs.Lists.{Mem, Distinct}
-use Rattle.layout.specs.Addresses.{place, badge, next, prev, linkAt, word, afterAt, beforeAt}
+use Rattle.layout.specs.declared.Field.{Field}
+use Rattle.layout.specs.Addresses.{next, prev, linkAt, word, afterAt, beforeAt}
 use Rattle.layout.specs.Shows.{Joined, Chain}
 use Rattle.layout.specs.Decode.{queueFrom}
 use Rattle.layout.proofs.Tests.{Tells, tells-false, tells-map, tells-and, tells-eqb, tells-leb}
@@ -68,17 +69,18 @@ pub waiters-split :
     (m : List ℕ) (q k c d b n y : ℕ) (f : Phase) (x : ℕ)
     → waitersFrom n y f m q k c d b x
     ≡ chainFrom n y m q x
-    && (every (λ t. eqb (threadIn m place t) k) (metFrom n y m) && phased f c d b (threadIn m badge) (metFrom n y m))
+    && (every (λ t. eqb (threadIn m Field.Place t) k) (metFrom n y m)
+    && phased f c d b (threadIn m Field.Badge) (metFrom n y m))
 unfolding waitersFrom chainFrom metFrom phased
 waiters-split m q k c d b zero y f x = refl
 waiters-split m q k c d b (suc n) zero f x = refl
 waiters-split m q k c d b (suc n) (suc t) f x =
     ap (λ (z : Bool).
-    (leb t 255 && eqb (word m (beforeAt q (suc t))) x && eqb (threadIn m place t) k
-    && allowed (enter f c (suc t)) b (threadIn m badge t)) && z)
+    (leb t 255 && eqb (word m (beforeAt q (suc t))) x && eqb (threadIn m Field.Place t) k
+    && allowed (enter f c (suc t)) b (threadIn m Field.Badge t)) && z)
     (waiters-split m q k c d b n (word m (linkAt (next t))) (leave (enter f c (suc t)) d (suc t)) (suc t))
-    ∙ and-sort-three (leb t 255 && eqb (word m (beforeAt q (suc t))) x) (eqb (threadIn m place t) k)
-    (allowed (enter f c (suc t)) b (threadIn m badge t)) _ _ _
+    ∙ and-sort-three (leb t 255 && eqb (word m (beforeAt q (suc t))) x) (eqb (threadIn m Field.Place t) k)
+    (allowed (enter f c (suc t)) b (threadIn m Field.Badge t)) _ _ _
 
 -- A chain from link x of a queue back to the queue, of fewer than n threads.
 pub record Chained (m : List ℕ) (q x n : ℕ) (l : List ℕ) : Type 0 where

@@ -6,8 +6,10 @@ use mathlib.Core.List.{List, [], _∷_}
 use lib.Dec.{eqb, leb, ltb}
 use Rattle.machine.specs.Lists.{pick}
 use Rattle.summary.specs.Levels.{wordOf, topOf}
-use Rattle.layout.specs.Addresses.{Field, place, priority, ticks, outcome, badge, message, owes, note, ofThread}
-use Rattle.layout.specs.Addresses.{Part, status, aborting, aborted, owner, cursor, end, ofEndpoint}
+use Rattle.layout.specs.declared.Field.{Field}
+use Rattle.layout.specs.Addresses.{ofThread}
+use Rattle.layout.specs.declared.Part.{Part}
+use Rattle.layout.specs.Addresses.{ofEndpoint}
 use Rattle.layout.specs.Addresses.{ofLine, summary, top, running, unused, next, prev, head, at, linkAt, word}
 use Rattle.layout.specs.Addresses.{afterAt, beforeAt}
 use Rattle.layout.specs.Tests.{all, member, same}
@@ -24,48 +26,49 @@ endpointIn m p e = word m (at (ofEndpoint p e))
 -- An absent thread's words are 0.
 unfoldable pub absentTest : List ℕ → ℕ → Bool
 absentTest m t =
-    eqb (threadIn m priority t) 0 && eqb (threadIn m ticks t) 0 && eqb (threadIn m outcome t) 0
-    && eqb (threadIn m badge t) 0 && eqb (threadIn m message t) 0 && eqb (threadIn m owes t) 0
-    && eqb (threadIn m note t) 0
+    eqb (threadIn m Field.Priority t) 0 && eqb (threadIn m Field.Ticks t) 0 && eqb (threadIn m Field.Outcome t) 0
+    && eqb (threadIn m Field.Badge t) 0 && eqb (threadIn m Field.Message t) 0 && eqb (threadIn m Field.Owes t) 0
+    && eqb (threadIn m Field.Note t) 0
 
 -- A present thread's numbers are in range.
 unfoldable pub numbersTest : List ℕ → ℕ → Bool
 numbersTest m t =
-    leb (threadIn m place t) 161 && leb (threadIn m priority t) 255
-    && (leb 1 (threadIn m ticks t) && leb (threadIn m ticks t) 5)
-    && leb (threadIn m outcome t) 5 && ltb (threadIn m badge t) (2 ^ 28) && ltb (threadIn m message t) (2 ^ 28)
+    leb (threadIn m Field.Place t) 161 && leb (threadIn m Field.Priority t) 255
+    && (leb 1 (threadIn m Field.Ticks t) && leb (threadIn m Field.Ticks t) 5)
+    && leb (threadIn m Field.Outcome t) 5 && ltb (threadIn m Field.Badge t) (2 ^ 28)
+    && ltb (threadIn m Field.Message t) (2 ^ 28)
 
 -- A blocked thread's outcome is 0, and badge and message stand only where a thread stores them.
 unfoldable pub storedTest : List ℕ → ℕ → Bool
 storedTest m t =
-    (eqb (threadIn m place t) 1 || eqb (threadIn m outcome t) 0)
-    && (eqb (threadIn m outcome t) 2 || (leb 2 (threadIn m place t) && ltb (threadIn m place t) 66)
-    || (eqb (threadIn m badge t) 0 && eqb (threadIn m message t) 0))
+    (eqb (threadIn m Field.Place t) 1 || eqb (threadIn m Field.Outcome t) 0)
+    && (eqb (threadIn m Field.Outcome t) 2 || (leb 2 (threadIn m Field.Place t) && ltb (threadIn m Field.Place t) 66)
+    || (eqb (threadIn m Field.Badge t) 0 && eqb (threadIn m Field.Message t) 0))
 
 -- A thread on a line is the line's waiter.
 unfoldable pub waitsTest : List ℕ → ℕ → Bool
 waitsTest m t =
-    ltb (threadIn m place t) 130 || eqb (word m (at (ofLine (threadIn m place t - 130)))) (suc (suc t))
+    ltb (threadIn m Field.Place t) 130 || eqb (word m (at (ofLine (threadIn m Field.Place t - 130)))) (suc (suc t))
 
 -- What a thread owes: nothing, an abort that names it as owner, or a note of a badge in range.
 unfoldable pub owesTest : ℕ → List ℕ → ℕ → Bool
-owesTest zero m t = eqb (threadIn m note t) 0
+owesTest zero m t = eqb (threadIn m Field.Note t) 0
 owesTest (suc w) m t =
-    pick (ltb w 64) (eqb (threadIn m note t) 0 && eqb (endpointIn m owner w) (suc t))
-    (ltb w 128 && ltb (threadIn m note t) (2 ^ 28))
+    pick (ltb w 64) (eqb (threadIn m Field.Note t) 0 && eqb (endpointIn m Part.Owner w) (suc t))
+    (ltb w 128 && ltb (threadIn m Field.Note t) (2 ^ 28))
 
 unfoldable pub presentTest : List ℕ → ℕ → Bool
-presentTest m t = numbersTest m t && storedTest m t && waitsTest m t && owesTest (threadIn m owes t) m t
+presentTest m t = numbersTest m t && storedTest m t && waitsTest m t && owesTest (threadIn m Field.Owes t) m t
 
 unfoldable pub blockTest : List ℕ → ℕ → Bool
-blockTest m t = pick (eqb (threadIn m place t) 0) (absentTest m t) (presentTest m t)
+blockTest m t = pick (eqb (threadIn m Field.Place t) 0) (absentTest m t) (presentTest m t)
 
 -- Queues of the levels
 
 -- A thread ready at level p.
 unfoldable pub readyTest : List ℕ → ℕ → ℕ → Bool
 readyTest m p t =
-    eqb (threadIn m place t) 1 && eqb (threadIn m priority t) p && not (eqb (word m (at running)) (suc t))
+    eqb (threadIn m Field.Place t) 1 && eqb (threadIn m Field.Priority t) p && not (eqb (word m (at running)) (suc t))
 
 -- The queue of level p from link x on, n - 1 threads at most: each is linked back to the one before it and ready at p.
 unfoldable pub levelFrom : ℕ → ℕ → List ℕ → ℕ → ℕ → Bool
@@ -115,51 +118,51 @@ unfoldable pub waitersFrom : ℕ → ℕ → Phase → List ℕ → ℕ → ℕ 
 waitersFrom zero y f m q k c d b x = false
 waitersFrom (suc n) zero f m q k c d b x = eqb (word m (beforeAt q 0)) x && complete f c
 waitersFrom (suc n) (suc t) f m q k c d b x =
-    (leb t 255 && eqb (word m (beforeAt q (suc t))) x && eqb (threadIn m place t) k
-    && allowed (enter f c (suc t)) b (threadIn m badge t))
+    (leb t 255 && eqb (word m (beforeAt q (suc t))) x && eqb (threadIn m Field.Place t) k
+    && allowed (enter f c (suc t)) b (threadIn m Field.Badge t))
     && waitersFrom n (word m (afterAt q (suc t))) (leave (enter f c (suc t)) d (suc t)) m q k c d b (suc t)
 
 -- The place that all in the queue of endpoint e must have: that of its first, to send or to receive there.
 unfoldable pub kindOf : ℕ → List ℕ → ℕ → ℕ
 kindOf zero m e = 2 + e
-kindOf (suc t) m e = pick (leb t 255) (threadIn m place t) 0
+kindOf (suc t) m e = pick (leb t 255) (threadIn m Field.Place t) 0
 
 unfoldable pub bannedOf : List ℕ → ℕ → ℕ → ℕ
-bannedOf m e k = pick (eqb (endpointIn m aborting e) 1 && eqb k (2 + e)) (endpointIn m aborted e) (2 ^ 28)
+bannedOf m e k = pick (eqb (endpointIn m Part.Aborting e) 1 && eqb k (2 + e)) (endpointIn m Part.Aborted e) (2 ^ 28)
 
 unfoldable pub waitersTest : List ℕ → ℕ → Bool
 waitersTest m e =
     (eqb (kindOf (word m (linkAt (head (256 + e)))) m e) (2 + e)
-    || (eqb (kindOf (word m (linkAt (head (256 + e)))) m e) (66 + e) && eqb (endpointIn m cursor e) 0))
+    || (eqb (kindOf (word m (linkAt (head (256 + e)))) m e) (66 + e) && eqb (endpointIn m Part.Cursor e) 0))
     && waitersFrom 257 (word m (afterAt (256 + e) 0)) ahead m (256 + e)
-    (kindOf (word m (linkAt (head (256 + e)))) m e) (endpointIn m cursor e) (endpointIn m end e)
+    (kindOf (word m (linkAt (head (256 + e)))) m e) (endpointIn m Part.Cursor e) (endpointIn m Part.End e)
     (bannedOf m e (kindOf (word m (linkAt (head (256 + e)))) m e)) 0
 
 -- An owner owes: it names the endpoint.
 unfoldable pub ownerTest : ℕ → List ℕ → ℕ → Bool
 ownerTest zero m e = true
-ownerTest (suc t) m e = leb t 255 && eqb (threadIn m owes t) (suc e)
+ownerTest (suc t) m e = leb t 255 && eqb (threadIn m Field.Owes t) (suc e)
 
 -- No abort, or one of a badge in range.
 unfoldable pub abortTest : ℕ → List ℕ → ℕ → Bool
 abortTest zero m e =
-    eqb (endpointIn m aborted e) 0 && eqb (endpointIn m owner e) 0 && eqb (endpointIn m cursor e) 0
-    && eqb (endpointIn m end e) 0
+    eqb (endpointIn m Part.Aborted e) 0 && eqb (endpointIn m Part.Owner e) 0 && eqb (endpointIn m Part.Cursor e) 0
+    && eqb (endpointIn m Part.End e) 0
 abortTest (suc zero) m e =
-    ltb (endpointIn m aborted e) (2 ^ 28) && ownerTest (endpointIn m owner e) m e
-    && same (eqb (endpointIn m cursor e) 0) (eqb (endpointIn m end e) 0)
+    ltb (endpointIn m Part.Aborted e) (2 ^ 28) && ownerTest (endpointIn m Part.Owner e) m e
+    && same (eqb (endpointIn m Part.Cursor e) 0) (eqb (endpointIn m Part.End e) 0)
 abortTest (suc (suc n)) m e = false
 
 -- An absent endpoint is empty; an absent or closing one has no abort.
 unfoldable pub statusTest : ℕ → List ℕ → ℕ → Bool
-statusTest zero m e = eqb (word m (linkAt (head (256 + e)))) 0 && eqb (endpointIn m aborting e) 0
+statusTest zero m e = eqb (word m (linkAt (head (256 + e)))) 0 && eqb (endpointIn m Part.Aborting e) 0
 statusTest (suc zero) m e = true
-statusTest (suc (suc zero)) m e = eqb (endpointIn m aborting e) 0
+statusTest (suc (suc zero)) m e = eqb (endpointIn m Part.Aborting e) 0
 statusTest (suc (suc (suc n))) m e = false
 
 unfoldable pub endpointTest : List ℕ → ℕ → Bool
 endpointTest m e =
-    statusTest (endpointIn m status e) m e && abortTest (endpointIn m aborting e) m e && waitersTest m e
+    statusTest (endpointIn m Part.Status e) m e && abortTest (endpointIn m Part.Aborting e) m e && waitersTest m e
 
 -- Lines, summary, running thread, unused words
 
@@ -167,7 +170,7 @@ endpointTest m e =
 unfoldable pub lineFrom : ℕ → List ℕ → ℕ → Bool
 lineFrom zero m l = true
 lineFrom (suc zero) m l = true
-lineFrom (suc (suc t)) m l = leb t 255 && eqb (threadIn m place t) (130 + l)
+lineFrom (suc (suc t)) m l = leb t 255 && eqb (threadIn m Field.Place t) (130 + l)
 
 unfoldable pub lineTest : List ℕ → ℕ → Bool
 lineTest m l = lineFrom (word m (at (ofLine l))) m l
@@ -184,8 +187,8 @@ summaryTest m =
 unfoldable pub runningFrom : ℕ → List ℕ → Bool
 runningFrom zero m = all 256 (λ p. not (occupiedAt m p))
 runningFrom (suc t) m =
-    leb t 255 && eqb (threadIn m place t) 1
-    && all 256 (λ p. leb p (threadIn m priority t) || not (occupiedAt m p))
+    leb t 255 && eqb (threadIn m Field.Place t) 1
+    && all 256 (λ p. leb p (threadIn m Field.Priority t) || not (occupiedAt m p))
 
 unfoldable pub runningTest : List ℕ → Bool
 runningTest m = runningFrom (word m (at running)) m
@@ -212,8 +215,8 @@ metBelow (suc q) m t = member t (met m q) || metBelow q m t
 -- A thread that is ready, sends or receives is in a queue.
 unfoldable pub queuedTest : List ℕ → ℕ → Bool
 queuedTest m t =
-    (eqb (threadIn m place t) 1 && not (eqb (word m (at running)) (suc t)))
-    || (leb 2 (threadIn m place t) && ltb (threadIn m place t) 130)
+    (eqb (threadIn m Field.Place t) 1 && not (eqb (word m (at running)) (suc t)))
+    || (leb 2 (threadIn m Field.Place t) && ltb (threadIn m Field.Place t) 130)
 
 -- It was met exactly if it is in a queue; whoever was not met has links 0.
 unfoldable pub placedTest : List ℕ → ℕ → Bool

@@ -19,7 +19,8 @@ use Rattle.links.specs.Links.{First, Last}
 use Rattle.layout.proofs.Chains.{first-zero}
 use Rattle.store.specs.Steps.{Shown, Does, Tells}
 use Rattle.store.specs.Store.{IsThread, Owes, Aborts}
-use Rattle.store.specs.Readings.{placeIn}
+use Rattle.layout.specs.declared.Field.{Field}
+use Rattle.store.specs.Readings.{threadIn}
 use Rattle.debts.specs.Debts.{AllAt, Alike, Begins, firstSender, lastSender}
 
 -- The senders among waiters that all send, and that all receive.
@@ -60,7 +61,7 @@ module _ (e : ℕ) {m : List ℕ} {r : ℕ} (F : First m (256 + e) r) where
   place-asked z S =
       record { state = S .state; shows = S .shows; holds = small (S .state) (S .shows) (S .holds .endpoint) z }
 
-  module _ {p : ℕ} (z : r ≡ 0 → ⊥) (P : Tells m (IsThread (r - 1)) p (placeIn (r - 1))) where
+  module _ {p : ℕ} (z : r ≡ 0 → ⊥) (P : Tells m (IsThread (r - 1)) p (threadIn Field.Place (r - 1))) where
     place-is : (s : State) → Shows m s → e ≤ 63 → p ≡ placeCode (s .threads (r - 1) .place)
     place-is s M h = P .tells s M (small s M h z)
 

@@ -13,10 +13,11 @@ use Rattle.layout.specs.Words.{debtCode}
 use Rattle.layout.specs.Shows.{Shows}
 use Rattle.store.specs.Steps.{Shown, Does, Tells}
 use Rattle.store.specs.Store.{IsThread, HasAbort, owned, Owes, Owners}
-use Rattle.store.specs.Readings.{owesIn}
+use Rattle.layout.specs.declared.Field.{Field}
+use Rattle.store.specs.Readings.{threadIn}
 use Rattle.debts.specs.Debts.{Says, Debtor, Calls, ownsIn}
 
-module _ {m : List ℕ} {t r : ℕ} (T : Tells m (IsThread t) r (owesIn t)) where
+module _ {m : List ℕ} {t r : ℕ} (T : Tells m (IsThread t) r (threadIn Field.Owes t)) where
   pub drop-none : r ≡ 0 → Does m m (Debtor t) (dropDebt t)
   unfolding dropDebt dropped
   drop-none z = record { shows = λ s M D. go s M (s .threads t .debt) (T .tells s M (D .thread)) }

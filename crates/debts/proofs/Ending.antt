@@ -13,12 +13,13 @@ use Rattle.layout.specs.Words.{linkOf, badgeCode}
 use Rattle.layout.specs.Shows.{Shows}
 use Rattle.store.specs.Steps.{Shown, Does, Tells}
 use Rattle.store.specs.Store.{IsThread, IsEndpoint, standing, Owes, Stands, Aborts}
-use Rattle.store.specs.Readings.{ownerIn, abortedIn}
+use Rattle.layout.specs.declared.Part.{Part}
+use Rattle.store.specs.Readings.{endpointIn}
 use Rattle.store.proofs.Composed.{shown-after}
 use Rattle.debts.specs.Debts.{Endable, noting, Ends}
 
 -- The note.
-module _ {m : List ℕ} {e r : ℕ} (T : Tells m (IsEndpoint e) r (ownerIn e)) where
+module _ {m : List ℕ} {e r : ℕ} (T : Tells m (IsEndpoint e) r (endpointIn Part.Owner e)) where
   pub note-nobody : r ≡ 0 → Does m m (Endable e) (noting e)
   unfolding note noteTo
   note-nobody z = record { shows = λ s M E. go s M (s .endpoints e .abort) (T .tells s M (E .endpoint)) }
@@ -46,7 +47,8 @@ module _ {m : List ℕ} {e r : ℕ} (T : Tells m (IsEndpoint e) r (ownerIn e)) w
       go (some u) h k = omega (arith, h u refl)
 
   pub note-somebody :
-      {b : ℕ} {n : List ℕ} → (r ≡ 0 → ⊥) → Tells m (IsEndpoint e) b (abortedIn e) → Owes m (r - 1) (65 + e) b n
+      {b : ℕ} {n : List ℕ} → (r ≡ 0 → ⊥) → Tells m (IsEndpoint e) b (endpointIn Part.Aborted e)
+      → Owes m (r - 1) (65 + e) b n
       → Does m n (Endable e) (noting e)
   unfolding note noteTo
   note-somebody {b} {n} z B W =

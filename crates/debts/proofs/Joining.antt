@@ -13,7 +13,8 @@ use Rattle.layout.specs.Words.{linkOf}
 use Rattle.layout.specs.Shows.{Shows}
 use Rattle.store.specs.Steps.{Shown, Does, Tells}
 use Rattle.store.specs.Store.{IsThread, IsEndpoint, owned, Owes, Owners}
-use Rattle.store.specs.Readings.{ownerIn}
+use Rattle.layout.specs.declared.Part.{Part}
+use Rattle.store.specs.Readings.{endpointIn}
 use Rattle.debts.specs.Debts.{Joins}
 
 module _ {m n : List ℕ} {t e : ℕ} (O : Owners m e (t + 1) n) where
@@ -28,7 +29,7 @@ module _ {m n : List ℕ} {t e : ℕ} (O : Owners m e (t + 1) n) where
         holds = S .holds .thread;
       }
 
-module _ {m : List ℕ} {e r : ℕ} (t : ℕ) (T : Tells m (IsEndpoint e) r (ownerIn e)) where
+module _ {m : List ℕ} {e r : ℕ} (t : ℕ) (T : Tells m (IsEndpoint e) r (endpointIn Part.Owner e)) where
   pub join-owned : (r ≡ 0 → ⊥) → Does m m (Joins t e) (join t e)
   unfolding join joinAs
   join-owned z =

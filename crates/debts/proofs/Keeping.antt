@@ -19,7 +19,8 @@ use Rattle.layout.proofs.Walks.{last-in}
 use Rattle.links.specs.Links.{Next}
 use Rattle.store.specs.Steps.{Does, Tells}
 use Rattle.store.specs.Store.{IsEndpoint, Aborts}
-use Rattle.store.specs.Readings.{endIn, abortedIn, ownerIn}
+use Rattle.layout.specs.declared.Part.{Part}
+use Rattle.store.specs.Readings.{endpointIn}
 use Rattle.debts.specs.Debts.{First, cursorWithout, endWithout}
 
 -- What is pending, and what is left of it without its first.
@@ -56,7 +57,7 @@ first-further : (w : ℕ) (l r : List ℕ) → (lastOf (suc w) l ≡ w + 1 → �
 first-further w [] r d = absurd (d (sym (add-one w)))
 first-further w (x ∷ l) r d = refl
 
-module _ {m : List ℕ} {e d : ℕ} (w : ℕ) (T : Tells m (IsEndpoint e) d (endIn e)) where
+module _ {m : List ℕ} {e d : ℕ} (w : ℕ) (T : Tells m (IsEndpoint e) d (endpointIn Part.End e)) where
   end-is : (s : State) → Shows m s → (F : First w e s) → d ≡ lastOf (suc w) (F .rest)
   end-is s M F = T .tells s M (F .endpoint) ∙ ap (lastOf 0) (pending-is s M F)
 
@@ -92,8 +93,9 @@ passed w a = record { badge = a .badge; owner = a .owner; pending = without w (a
 
 pub keeps :
     {m n : List ℕ} {w e b o c d : ℕ} → Tells m (First w e) c (cursorWithout w e)
-    → Tells m (First w e) d (endWithout w e) → Tells m (IsEndpoint e) b (abortedIn e)
-    → Tells m (IsEndpoint e) o (ownerIn e) → Aborts m e 1 b o c d n → Does m n (First w e) (lookAt false e w)
+    → Tells m (First w e) d (endWithout w e) → Tells m (IsEndpoint e) b (endpointIn Part.Aborted e)
+    → Tells m (IsEndpoint e) o (endpointIn Part.Owner e) → Aborts m e 1 b o c d n
+    → Does m n (First w e) (lookAt false e w)
 unfolding lookAt
 keeps {m} {n} {w} {e} C D B O A =
     record {

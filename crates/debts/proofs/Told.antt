@@ -14,11 +14,13 @@ use Rattle.machine.specs.Aborts.{hasNote, ownsThis}
 use Rattle.layout.specs.Words.{debtCode, noteCode, abortCode, badgeCode}
 use Rattle.store.specs.Steps.{Tells}
 use Rattle.store.specs.Store.{IsThread, IsEndpoint}
-use Rattle.store.specs.Readings.{owesIn, noteIn, abortingIn, abortedIn}
+use Rattle.layout.specs.declared.Field.{Field}
+use Rattle.layout.specs.declared.Part.{Part}
+use Rattle.store.specs.Readings.{endpointIn, threadIn}
 use Rattle.debts.specs.Debts.{Says, Calls, underIn, notedIn, ownsIn}
 
 -- The badge under abort.
-module _ {m : List ℕ} {e r : ℕ} (b : ℕ) (T : Tells m (IsEndpoint e) r (abortingIn e)) where
+module _ {m : List ℕ} {e r : ℕ} (b : ℕ) (T : Tells m (IsEndpoint e) r (endpointIn Part.Aborting e)) where
   pub under-none : r ≡ 0 → Says m (IsEndpoint e) false (underIn e b)
   under-none z = record { says = λ s M h. go (s .endpoints e .abort) (T .tells s M h) }
     where
@@ -27,7 +29,8 @@ module _ {m : List ℕ} {e r : ℕ} (b : ℕ) (T : Tells m (IsEndpoint e) r (abo
       go (some a) k = absurd (omega arith)
 
   pub under-some :
-      {c : ℕ} → (r ≡ 0 → ⊥) → Tells m (IsEndpoint e) c (abortedIn e) → Says m (IsEndpoint e) (eqb c b) (underIn e b)
+      {c : ℕ} → (r ≡ 0 → ⊥) → Tells m (IsEndpoint e) c (endpointIn Part.Aborted e)
+      → Says m (IsEndpoint e) (eqb c b) (underIn e b)
   under-some {c} z U = record { says = λ s M h. go (s .endpoints e .abort) (T .tells s M h) (U .tells s M h) }
     where
       go : (x : Option Abort) → r ≡ abortCode x → c ≡ badgeCode x → eqb c b ≡ underAbort b x
@@ -35,7 +38,7 @@ module _ {m : List ℕ} {e r : ℕ} (b : ℕ) (T : Tells m (IsEndpoint e) r (abo
       go (some a) k j = ap (λ y. eqb y b) j
 
 -- A note, and an ownership.
-module _ {m : List ℕ} {t r : ℕ} (e b : ℕ) (T : Tells m (IsThread t) r (owesIn t)) where
+module _ {m : List ℕ} {t r : ℕ} (e b : ℕ) (T : Tells m (IsThread t) r (threadIn Field.Owes t)) where
   pub note-none : (r ≡ 65 + e → ⊥) → Says m (Calls t e) false (notedIn t e b)
   note-none z = record { says = λ s M C. go (s .threads t .debt) (T .tells s M (C .debtor .thread)) }
     where
@@ -45,7 +48,8 @@ module _ {m : List ℕ} {t r : ℕ} (e b : ℕ) (T : Tells m (IsThread t) r (owe
       go (noted f c) k = rw (ne-eqb f e (λ j. z (omega arith)))
 
   pub note-some :
-      {c : ℕ} → r ≡ 65 + e → Tells m (IsThread t) c (noteIn t) → Says m (Calls t e) (eqb c b) (notedIn t e b)
+      {c : ℕ} → r ≡ 65 + e → Tells m (IsThread t) c (threadIn Field.Note t)
+      → Says m (Calls t e) (eqb c b) (notedIn t e b)
   note-some {c} z U =
       record {
         says = λ s M C.

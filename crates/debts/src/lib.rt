@@ -7,13 +7,15 @@ ghost use Rattle.store.specs.Steps.{Shown, Does, Tells};
 ghost use Rattle.store.specs.Store.{IsEndpoint};
 ghost use Rattle.debts.specs.Debts.{Says, Debtor, Calls, underIn, notedIn, ownsIn, Joins, Endable, noting, Ends};
 ghost use Rattle.debts.specs.Debts.{Alike, Begins, firstSender, lastSender, First, cursorWithout, endWithout};
+use layout::Field;
+use layout::Part;
 
 // Thread t's ownership or note goes.
 pub fn drop_debt(tables: &mut [u32], t: usize)
     requires { ⌜ Shown (now tables) (Debtor t) ⌝ }
     ensures { λ _. ⌜ Does (now (tables .entry)) (now (tables .exit)) (Debtor t) (dropDebt t) ⌝ }
 {
-    let owes = store::owes(tables, t);
+    let owes = store::thread(tables, Field::Owes, t);
     if owes == 0 {
         return;
     }
@@ -30,11 +32,11 @@ pub fn under_abort(tables: &[u32], e: usize, badge: u32) -> bool
     requires { ⌜ Shown (now tables) (IsEndpoint e) ⌝ }
     ensures { λ r. ⌜ Says (now (tables .entry)) (IsEndpoint e) r (underIn e badge) ⌝ }
 {
-    let here = store::aborting(tables, e);
+    let here = store::endpoint(tables, Part::Aborting, e);
     if here == 0 {
         return false;
     }
-    let aborted = store::aborted(tables, e);
+    let aborted = store::endpoint(tables, Part::Aborted, e);
     aborted == badge
 }
 
@@ -43,12 +45,12 @@ pub fn has_note(tables: &[u32], t: usize, e: usize, badge: u32) -> bool
     requires { ⌜ Shown (now tables) (Calls t e) ⌝ }
     ensures { λ r. ⌜ Says (now (tables .entry)) (Calls t e) r (notedIn t e badge) ⌝ }
 {
-    let owes = store::owes(tables, t);
+    let owes = store::thread(tables, Field::Owes, t);
     let code = (65 + e) as u32;
     if owes != code {
         return false;
     }
-    let note = store::note(tables, t);
+    let note = store::thread(tables, Field::Note, t);
     note == badge
 }
 
@@ -57,7 +59,7 @@ pub fn owns_this(tables: &[u32], t: usize, e: usize, badge: u32) -> bool
     requires { ⌜ Shown (now tables) (Calls t e) ⌝ }
     ensures { λ r. ⌜ Says (now (tables .entry)) (Calls t e) r (ownsIn t e badge) ⌝ }
 {
-    let owes = store::owes(tables, t);
+    let owes = store::thread(tables, Field::Owes, t);
     let code = (1 + e) as u32;
     if owes != code {
         return false;
@@ -82,7 +84,7 @@ pub fn join(tables: &mut [u32], t: usize, e: usize)
     requires { ⌜ Shown (now tables) (Joins t e) ⌝ }
     ensures { λ _. ⌜ Does (now (tables .entry)) (now (tables .exit)) (Joins t e) (join t e) ⌝ }
 {
-    let owner = store::owner(tables, e);
+    let owner = store::endpoint(tables, Part::Owner, e);
     if owner != 0 {
         return;
     }
@@ -95,11 +97,11 @@ fn note_owner(tables: &mut [u32], e: usize)
     requires { ⌜ Shown (now tables) (Endable e) ⌝ }
     ensures { λ _. ⌜ Does (now (tables .entry)) (now (tables .exit)) (Endable e) (noting e) ⌝ }
 {
-    let owner = store::owner(tables, e);
+    let owner = store::endpoint(tables, Part::Owner, e);
     if owner == 0 {
         return;
     }
-    let badge = store::aborted(tables, e);
+    let badge = store::endpoint(tables, Part::Aborted, e);
     store::set_owes(tables, (owner - 1) as usize, (65 + e) as u32, badge);
 }
 
@@ -122,7 +124,7 @@ fn first_sender(tables: &[u32], e: usize) -> u32
     if first == 0 {
         return 0;
     }
-    let place = store::place(tables, (first - 1) as usize);
+    let place = store::thread(tables, Field::Place, (first - 1) as usize);
     let sends = (2 + e) as u32;
     if place != sends {
         return 0;
@@ -158,7 +160,7 @@ fn next_cursor(tables: &[u32], e: usize, w: usize) -> u32
     requires { ⌜ Shown (now tables) (First w e) ⌝ }
     ensures { λ r. ⌜ Tells (now (tables .entry)) (First w e) r (cursorWithout w e) ⌝ }
 {
-    let end = store::end(tables, e);
+    let end = store::endpoint(tables, Part::End, e);
     let link = (w + 1) as u32;
     if end == link {
         return 0;
@@ -171,7 +173,7 @@ fn next_end(tables: &[u32], e: usize, w: usize) -> u32
     requires { ⌜ Shown (now tables) (First w e) ⌝ }
     ensures { λ r. ⌜ Tells (now (tables .entry)) (First w e) r (endWithout w e) ⌝ }
 {
-    let end = store::end(tables, e);
+    let end = store::endpoint(tables, Part::End, e);
     let link = (w + 1) as u32;
     if end == link {
         return 0;
@@ -186,7 +188,7 @@ pub fn keep_look(tables: &mut [u32], e: usize, w: usize)
 {
     let cursor = next_cursor(tables, e, w);
     let end = next_end(tables, e, w);
-    let badge = store::aborted(tables, e);
-    let owner = store::owner(tables, e);
+    let badge = store::endpoint(tables, Part::Aborted, e);
+    let owner = store::endpoint(tables, Part::Owner, e);
     store::set_abort(tables, e, 1, badge, owner, cursor, end);
 }

@@ -16,7 +16,8 @@ use Rattle.layout.specs.Shows.{Shows}
 use Rattle.links.specs.Links.{First}
 use Rattle.store.specs.Steps.{Shown, Does, Tells}
 use Rattle.store.specs.Store.{IsEndpoint, Stands}
-use Rattle.store.specs.Readings.{statusIn}
+use Rattle.layout.specs.declared.Part.{Part}
+use Rattle.store.specs.Readings.{endpointIn}
 use Rattle.queues.specs.Queues.{Chooses}
 use Rattle.debts.specs.Debts.{Debtor, Endable, Ends}
 use Rattle.results.specs.Results.{Calling, Performs, Accepts}
@@ -114,7 +115,7 @@ module _ {m n : List ℕ} {e a c : ℕ} (R : Removes m e a c n) where
 
 -- Before it.
 
-module _ {m : List ℕ} {t e i : ℕ} (T : Tells m (IsEndpoint e) i (statusIn e)) where
+module _ {m : List ℕ} {t e i : ℕ} (T : Tells m (IsEndpoint e) i (endpointIn Part.Status e)) where
   pub no-endpoint :
       (a : ℕ) {b : Answer} → i ≡ 0 → b ≡ plain 23 → Performs m m b (Calling t (e ≤ 63)) (delete t e a)
   unfolding delete deleteAt

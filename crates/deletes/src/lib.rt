@@ -6,6 +6,7 @@ ghost use Rattle.machine.specs.Aborts.{deleteFrom, delete};
 ghost use Rattle.store.specs.Steps.{Shown};
 ghost use Rattle.results.specs.Results.{Calling, Performs};
 ghost use Rattle.deletes.specs.Deletes.{Closes, Removes};
+use layout::Part;
 use machine::Answer;
 
 // Waiters leave the head of endpoint e's queue with outcome 4, until nobody is left or the allowance is used up; how
@@ -46,7 +47,7 @@ pub fn delete(tables: &mut [u32], t: usize, e: usize, allowance: u32) -> Answer
     ensures { λ r. ⌜ Performs (now (tables .entry)) (now (tables .exit)) r (Calling t (e ≤ 63))
         (delete t e allowance) ⌝ }
 {
-    let status = store::status(tables, e);
+    let status = store::endpoint(tables, Part::Status, e);
     if status == 0 {
         return results::plain(23);
     }

@@ -10,8 +10,9 @@ use lib.Dec.{ltb}
 use lib.ListN.{length, set}
 use lib.Seq.{getD-set-same, getD-set-other}
 use borrow.Author.Tests.{lt-ltb, le-ltb, ltb-true, ltb-false}
-use Rattle.layout.specs.Addresses.{Field, place, priority, ticks, outcome, badge, message, owes, note, Part}
-use Rattle.layout.specs.Addresses.{status, aborting, aborted, owner, cursor, end, Slot, ofThread, ofEndpoint}
+use Rattle.layout.specs.declared.Field.{Field}
+use Rattle.layout.specs.declared.Part.{Part}
+use Rattle.layout.specs.Addresses.{Slot, ofThread, ofEndpoint}
 use Rattle.layout.specs.Addresses.{ofLine, summary, top, running, unused, Link, next, prev, head, tail, Name}
 use Rattle.layout.specs.Addresses.{slot, link, ValidSlot, ValidLink, Valid, column, offset, at, linkAt, address}
 use Rattle.layout.specs.Addresses.{inThread, inQueue, inEndpoint, nameOf, word}
@@ -41,44 +42,42 @@ endpoint-row e k h g =
     rw (le-ltb i 2560 (omega arith), le-ltb i 3200 (omega arith), lt-ltb i 3584 (omega arith), d, r)
 
 column-small : (f : Field) → column f < 10
-unfolding column
-column-small place = omega arith
-column-small priority = omega arith
-column-small ticks = omega arith
-column-small outcome = omega arith
-column-small badge = omega arith
-column-small message = omega arith
-column-small owes = omega arith
-column-small note = omega arith
+column-small Field.Place = omega arith
+column-small Field.Priority = omega arith
+column-small Field.Ticks = omega arith
+column-small Field.Outcome = omega arith
+column-small Field.Badge = omega arith
+column-small Field.Message = omega arith
+column-small Field.Owes = omega arith
+column-small Field.Note = omega arith
 
 offset-small : (p : Part) → offset p < 6
-unfolding offset
-offset-small status = omega arith
-offset-small aborting = omega arith
-offset-small aborted = omega arith
-offset-small owner = omega arith
-offset-small cursor = omega arith
-offset-small end = omega arith
+offset-small Part.Status = omega arith
+offset-small Part.Aborting = omega arith
+offset-small Part.Aborted = omega arith
+offset-small Part.Owner = omega arith
+offset-small Part.Cursor = omega arith
+offset-small Part.End = omega arith
 
 field-name : (f : Field) (t : ℕ) → inThread t (column f) ≡ slot (ofThread f t)
-unfolding inThread column
-field-name place t = refl
-field-name priority t = refl
-field-name ticks t = refl
-field-name outcome t = refl
-field-name badge t = refl
-field-name message t = refl
-field-name owes t = refl
-field-name note t = refl
+unfolding inThread
+field-name Field.Place t = refl
+field-name Field.Priority t = refl
+field-name Field.Ticks t = refl
+field-name Field.Outcome t = refl
+field-name Field.Badge t = refl
+field-name Field.Message t = refl
+field-name Field.Owes t = refl
+field-name Field.Note t = refl
 
 part-name : (p : Part) (e : ℕ) → inEndpoint e (offset p) ≡ slot (ofEndpoint p e)
-unfolding inEndpoint offset
-part-name status e = refl
-part-name aborting e = refl
-part-name aborted e = refl
-part-name owner e = refl
-part-name cursor e = refl
-part-name end e = refl
+unfolding inEndpoint
+part-name Part.Status e = refl
+part-name Part.Aborting e = refl
+part-name Part.Aborted e = refl
+part-name Part.Owner e = refl
+part-name Part.Cursor e = refl
+part-name Part.End e = refl
 
 -- An address from 3584 on has the name that its range says.
 module _ (i : ℕ) where
@@ -181,21 +180,21 @@ pub record Named (i : ℕ) : Type 0 where
 
 -- The valid name of word k of thread t, of queue q and of endpoint e.
 in-thread : (t k i : ℕ) → t ≤ 255 → k < 10 → 10 * t + k ≡ i → Named i
-unfolding at column linkAt
-in-thread t zero i h g e = record { name = slot (ofThread place t); valid = h; here = e }
-in-thread t (suc zero) i h g e = record { name = slot (ofThread priority t); valid = h; here = e }
-in-thread t (suc (suc zero)) i h g e = record { name = slot (ofThread ticks t); valid = h; here = e }
-in-thread t (suc (suc (suc zero))) i h g e = record { name = slot (ofThread outcome t); valid = h; here = e }
-in-thread t (suc (suc (suc (suc zero)))) i h g e = record { name = slot (ofThread badge t); valid = h; here = e }
+unfolding at linkAt
+in-thread t zero i h g e = record { name = slot (ofThread Field.Place t); valid = h; here = e }
+in-thread t (suc zero) i h g e = record { name = slot (ofThread Field.Priority t); valid = h; here = e }
+in-thread t (suc (suc zero)) i h g e = record { name = slot (ofThread Field.Ticks t); valid = h; here = e }
+in-thread t (suc (suc (suc zero))) i h g e = record { name = slot (ofThread Field.Outcome t); valid = h; here = e }
+in-thread t (suc (suc (suc (suc zero)))) i h g e = record { name = slot (ofThread Field.Badge t); valid = h; here = e }
 in-thread t (suc (suc (suc (suc (suc zero))))) i h g e =
-    record { name = slot (ofThread message t); valid = h; here = e }
+    record { name = slot (ofThread Field.Message t); valid = h; here = e }
 in-thread t (suc (suc (suc (suc (suc (suc zero)))))) i h g e = record { name = link (next t); valid = h; here = e }
 in-thread t (suc (suc (suc (suc (suc (suc (suc zero))))))) i h g e =
     record { name = link (prev t); valid = h; here = e }
 in-thread t (suc (suc (suc (suc (suc (suc (suc (suc zero)))))))) i h g e =
-    record { name = slot (ofThread owes t); valid = h; here = e }
+    record { name = slot (ofThread Field.Owes t); valid = h; here = e }
 in-thread t (suc (suc (suc (suc (suc (suc (suc (suc (suc zero))))))))) i h g e =
-    record { name = slot (ofThread note t); valid = h; here = e }
+    record { name = slot (ofThread Field.Note t); valid = h; here = e }
 in-thread t (suc (suc (suc (suc (suc (suc (suc (suc (suc (suc k)))))))))) i h g e = absurd (omega arith)
 
 in-queue : (q k i : ℕ) → q ≤ 319 → k < 2 → 2560 + 2 * q + k ≡ i → Named i
@@ -205,14 +204,15 @@ in-queue q (suc zero) i h g e = record { name = link (tail q); valid = h; here =
 in-queue q (suc (suc k)) i h g e = absurd (omega arith)
 
 in-endpoint : (n k i : ℕ) → n ≤ 63 → k < 6 → 3200 + 6 * n + k ≡ i → Named i
-unfolding at offset
-in-endpoint n zero i h g e = record { name = slot (ofEndpoint status n); valid = h; here = e }
-in-endpoint n (suc zero) i h g e = record { name = slot (ofEndpoint aborting n); valid = h; here = e }
-in-endpoint n (suc (suc zero)) i h g e = record { name = slot (ofEndpoint aborted n); valid = h; here = e }
-in-endpoint n (suc (suc (suc zero))) i h g e = record { name = slot (ofEndpoint owner n); valid = h; here = e }
-in-endpoint n (suc (suc (suc (suc zero)))) i h g e = record { name = slot (ofEndpoint cursor n); valid = h; here = e }
+unfolding at
+in-endpoint n zero i h g e = record { name = slot (ofEndpoint Part.Status n); valid = h; here = e }
+in-endpoint n (suc zero) i h g e = record { name = slot (ofEndpoint Part.Aborting n); valid = h; here = e }
+in-endpoint n (suc (suc zero)) i h g e = record { name = slot (ofEndpoint Part.Aborted n); valid = h; here = e }
+in-endpoint n (suc (suc (suc zero))) i h g e = record { name = slot (ofEndpoint Part.Owner n); valid = h; here = e }
+in-endpoint n (suc (suc (suc (suc zero)))) i h g e =
+    record { name = slot (ofEndpoint Part.Cursor n); valid = h; here = e }
 in-endpoint n (suc (suc (suc (suc (suc zero))))) i h g e =
-    record { name = slot (ofEndpoint end n); valid = h; here = e }
+    record { name = slot (ofEndpoint Part.End n); valid = h; here = e }
 in-endpoint n (suc (suc (suc (suc (suc (suc k)))))) i h g e = absurd (omega arith)
 
 -- Whether a number is below a bound.

@@ -9,7 +9,7 @@ use Rattle.machine.specs.State.{Thread, Place, absent, able, sending, receiving
 use Rattle.machine.specs.State.{absentThread}
 use Rattle.machine.specs.Sound.{Stores, DebtInRange, Numbers}
 use Rattle.machine.proofs.Lists.{Same, same, other, same?}
-use Rattle.layout.specs.Addresses.{Field, place, priority, ticks, outcome, badge, message, owes, note}
+use Rattle.layout.specs.declared.Field.{Field}
 use Rattle.layout.specs.Words.{threadWord, placeCode}
 use Rattle.layout.specs.Decode.{within, placeOf, debtOf, outcomeIn, storedIn, presentThread, threadAt, threadFrom}
 use Rattle.layout.proofs.Codes.{within-small, within-same, ticks-range, ticks-back, PlaceSmall, place-small}
@@ -128,23 +128,23 @@ present-neat :
 present-neat t p w h g n =
     record {
       place-small = g;
-      debt-small = debt-small (w owes) (w note);
+      debt-small = debt-small (w Field.Owes) (w Field.Note);
       numbers = λ _.
           record {
             thread = h;
-            priority = within-small 255 (w priority);
-            ticks-least = ticks-range (w ticks) .0;
-            ticks-most = ticks-range (w ticks) .1;
-            outcome = outcome-small p (w outcome);
-            badge = stored-small p (outcomeIn p (w outcome)) (w badge);
-            message = stored-small p (outcomeIn p (w outcome)) (w message);
-            debt = debt-in-range (debtOf (w owes) (w note)) (debt-small (w owes) (w note));
+            priority = within-small 255 (w Field.Priority);
+            ticks-least = ticks-range (w Field.Ticks) .0;
+            ticks-most = ticks-range (w Field.Ticks) .1;
+            outcome = outcome-small p (w Field.Outcome);
+            badge = stored-small p (outcomeIn p (w Field.Outcome)) (w Field.Badge);
+            message = stored-small p (outcomeIn p (w Field.Outcome)) (w Field.Message);
+            debt = debt-in-range (debtOf (w Field.Owes) (w Field.Note)) (debt-small (w Field.Owes) (w Field.Note));
           };
       unused = λ e. absurd (n e);
-      blocked = outcome-blocked p (w outcome);
+      blocked = outcome-blocked p (w Field.Outcome);
       stored = λ k. (
-        stored-none p (outcomeIn p (w outcome)) (w badge) k,
-        stored-none p (outcomeIn p (w outcome)) (w message) k,
+        stored-none p (outcomeIn p (w Field.Outcome)) (w Field.Badge) k,
+        stored-none p (outcomeIn p (w Field.Outcome)) (w Field.Message) k,
       );
     }
 
@@ -157,7 +157,7 @@ neat-at t (waiting l) w h g = present-neat t (waiting l) w h g (not-absent refl 
 
 pub thread-neat : (t : ℕ) (w : Field → ℕ) → t ≤ 255 → NeatThread t (threadFrom w)
 unfolding threadFrom
-thread-neat t w h = neat-at t (placeOf (w place)) w h (place-small (w place))
+thread-neat t w h = neat-at t (placeOf (w Field.Place)) w h (place-small (w Field.Place))
 
 -- A neat thread is read back.
 

@@ -10,7 +10,8 @@ use borrow.Author.Tests.{lt-leb, leb-true, leb-false}
 use Rattle.machine.specs.Lists.{pick, Mem}
 use Rattle.machine.specs.State.{State, quiet, awaited, absentThread, missingEndpoint}
 use Rattle.machine.specs.Sound.{Sound}
-use Rattle.layout.specs.Addresses.{Part, ofThread, ofEndpoint, ofLine, running, head, at, linkAt, word}
+use Rattle.layout.specs.declared.Part.{Part}
+use Rattle.layout.specs.Addresses.{ofThread, ofEndpoint, ofLine, running, head, at, linkAt, word}
 use Rattle.layout.specs.Words.{queuesOf, endpointWord, image}
 use Rattle.layout.specs.Shows.{Shows}
 use Rattle.layout.specs.Decode.{queueFrom, linked, lineOf, threadFrom, endpointFrom, decode}

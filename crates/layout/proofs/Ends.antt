@@ -8,7 +8,7 @@ use native.Mathlib.Omega.{arith}
 use Rattle.machine.specs.Lists.{Mem, Distinct}
 use Rattle.machine.specs.State.{Abort, Status, missing, live, closing, Endpoint, missingEndpoint}
 use Rattle.machine.specs.Endpoints.{ownerOf, pendingOf}
-use Rattle.layout.specs.Addresses.{Part, status, aborting, aborted, owner, cursor, end}
+use Rattle.layout.specs.declared.Part.{Part}
 use Rattle.layout.specs.Words.{statusCode, abortCode, badgeCode, endpointWord}
 use Rattle.layout.specs.Decode.{within, abortAt, endpointAt, endpointFrom}
 use Rattle.layout.proofs.Codes.{within-small, within-same, linked-small, linked-back}
@@ -45,9 +45,9 @@ unfolding abortAt
 abort-neat zero w l = no-abort-neat l
 abort-neat (suc n) w l =
     record {
-      badge = omega (arith, within-small (2 ^ 28 - 1) (w aborted));
-      owner = linked-small (w owner);
-      part = between-within (w cursor) (w end) l;
+      badge = omega (arith, within-small (2 ^ 28 - 1) (w Part.Aborted));
+      owner = linked-small (w Part.Owner);
+      part = between-within (w Part.Cursor) (w Part.End) l;
     }
 
 pub missing-neat : NeatEndpoint missingEndpoint
@@ -60,7 +60,7 @@ neat-at (suc zero) w l h =
       small = h;
       empty = λ e. absurd (omega (arith, ap statusCode e));
       no-abort = λ n. absurd (n refl);
-      neat = abort-neat (w aborting) w l;
+      neat = abort-neat (w Part.Aborting) w l;
     }
 neat-at (suc (suc n)) w l h =
     record {
@@ -73,7 +73,7 @@ neat-at (suc (suc n)) w l h =
 pub endpoint-neat :
     (w : Part → ℕ) (l : List ℕ) → ((t : ℕ) → Mem t l → t ≤ 255) → NeatEndpoint (endpointFrom w l)
 unfolding endpointFrom
-endpoint-neat w l h = neat-at (w status) w l h
+endpoint-neat w l h = neat-at (w Part.Status) w l h
 
 -- A neat endpoint in whose queue nobody stands twice is read back.
 

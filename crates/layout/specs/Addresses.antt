@@ -5,28 +5,8 @@ use mathlib.Core.List.{List, [], _∷_}
 use lib.Dec.{ltb}
 use lib.ListN.{getD}
 use Rattle.machine.specs.Lists.{pick}
-
--- The words of a thread that are no links.
-pub data Field : Type 0 where
-  place : Field
-  priority : Field
-  ticks : Field
-  outcome : Field
-  badge : Field
-  message : Field
-  -- what the thread has to do with aborts, and the badge of a note
-  owes : Field
-  note : Field
-
--- The words of an endpoint that are no links.
-pub data Part : Type 0 where
-  status : Part
-  -- whether an abort stands there; its badge, its owner and the first and last of those that it has still to look at
-  aborting : Part
-  aborted : Part
-  owner : Part
-  cursor : Part
-  end : Part
+use Rattle.layout.specs.declared.Field.{Field}
+use Rattle.layout.specs.declared.Part.{Part}
 
 -- A word that is no link.
 pub data Slot : Type 0 where
@@ -72,23 +52,23 @@ Valid (slot a) = ValidSlot a
 Valid (link k) = ValidLink k
 
 -- The place of a word in the thread's ten, and in the endpoint's six.
-unfoldable pub column : Field → ℕ
-column place = 0
-column priority = 1
-column ticks = 2
-column outcome = 3
-column badge = 4
-column message = 5
-column owes = 8
-column note = 9
+abbrev pub column : Field → ℕ
+column Field.Place = 0
+column Field.Priority = 1
+column Field.Ticks = 2
+column Field.Outcome = 3
+column Field.Badge = 4
+column Field.Message = 5
+column Field.Owes = 8
+column Field.Note = 9
 
-unfoldable pub offset : Part → ℕ
-offset status = 0
-offset aborting = 1
-offset aborted = 2
-offset owner = 3
-offset cursor = 4
-offset end = 5
+abbrev pub offset : Part → ℕ
+offset Part.Status = 0
+offset Part.Aborting = 1
+offset Part.Aborted = 2
+offset Part.Owner = 3
+offset Part.Cursor = 4
+offset Part.End = 5
 
 unfoldable pub at : Slot → ℕ
 at (ofThread f t) = 10 * t + column f
@@ -113,9 +93,10 @@ address (link k) = linkAt k
 unfoldable pub inThread : ℕ → ℕ → Name
 inThread t k =
     getD
-    (slot (ofThread place t) ∷ slot (ofThread priority t) ∷ slot (ofThread ticks t) ∷ slot (ofThread outcome t)
-    ∷ slot (ofThread badge t) ∷ slot (ofThread message t) ∷ link (next t) ∷ link (prev t)
-    ∷ slot (ofThread owes t) ∷ slot (ofThread note t) ∷ []) k (slot top)
+    (slot (ofThread Field.Place t) ∷ slot (ofThread Field.Priority t) ∷ slot (ofThread Field.Ticks t)
+    ∷ slot (ofThread Field.Outcome t)
+    ∷ slot (ofThread Field.Badge t) ∷ slot (ofThread Field.Message t) ∷ link (next t) ∷ link (prev t)
+    ∷ slot (ofThread Field.Owes t) ∷ slot (ofThread Field.Note t) ∷ []) k (slot top)
 
 unfoldable pub inQueue : ℕ → ℕ → Name
 inQueue q k = getD (link (head q) ∷ link (tail q) ∷ []) k (slot top)
@@ -123,8 +104,8 @@ inQueue q k = getD (link (head q) ∷ link (tail q) ∷ []) k (slot top)
 unfoldable pub inEndpoint : ℕ → ℕ → Name
 inEndpoint e k =
     getD
-    (slot (ofEndpoint status e) ∷ slot (ofEndpoint aborting e) ∷ slot (ofEndpoint aborted e)
-    ∷ slot (ofEndpoint owner e) ∷ slot (ofEndpoint cursor e) ∷ slot (ofEndpoint end e) ∷ []) k (slot top)
+    (slot (ofEndpoint Part.Status e) ∷ slot (ofEndpoint Part.Aborting e) ∷ slot (ofEndpoint Part.Aborted e)
+    ∷ slot (ofEndpoint Part.Owner e) ∷ slot (ofEndpoint Part.Cursor e) ∷ slot (ofEndpoint Part.End e) ∷ []) k (slot top)
 
 unfoldable pub nameOf : ℕ → Name
 nameOf i =

@@ -8,8 +8,9 @@ use Rattle.machine.specs.Lists.{pick}
 use Rattle.machine.specs.State.{State, Thread, Place, absent, able, sending, receiving, waiting, Debt, nothing, owns}
 use Rattle.machine.specs.State.{noted, Abort, live, closing, Endpoint, Line, quiet, pending, awaited, absentThread}
 use Rattle.machine.specs.State.{missingEndpoint}
-use Rattle.layout.specs.Addresses.{Field, place, priority, ticks, outcome, badge, message, owes, note, Part}
-use Rattle.layout.specs.Addresses.{status, aborting, aborted, owner, cursor, end, ofThread, ofEndpoint, ofLine}
+use Rattle.layout.specs.declared.Field.{Field}
+use Rattle.layout.specs.declared.Part.{Part}
+use Rattle.layout.specs.Addresses.{ofThread, ofEndpoint, ofLine}
 use Rattle.layout.specs.Addresses.{running, next, head, at, linkAt, word}
 
 -- The number if it is at most the one given, otherwise 0.
@@ -62,12 +63,12 @@ abbrev pub presentThread : Place → (Field → ℕ) → Thread
 presentThread p w =
     record {
       place = p;
-      priority = within 255 (w priority);
-      ticks = ticksOf (w ticks);
-      outcome = outcomeIn p (w outcome);
-      badge = storedIn p (outcomeIn p (w outcome)) (w badge);
-      message = storedIn p (outcomeIn p (w outcome)) (w message);
-      debt = debtOf (w owes) (w note);
+      priority = within 255 (w Field.Priority);
+      ticks = ticksOf (w Field.Ticks);
+      outcome = outcomeIn p (w Field.Outcome);
+      badge = storedIn p (outcomeIn p (w Field.Outcome)) (w Field.Badge);
+      message = storedIn p (outcomeIn p (w Field.Outcome)) (w Field.Message);
+      debt = debtOf (w Field.Owes) (w Field.Note);
     }
 
 abbrev pub threadAt : Place → (Field → ℕ) → Thread
@@ -78,7 +79,7 @@ threadAt (receiving e) w = presentThread (receiving e) w
 threadAt (waiting l) w = presentThread (waiting l) w
 
 unfoldable pub threadFrom : (Field → ℕ) → Thread
-threadFrom w = threadAt (placeOf (w place)) w
+threadFrom w = threadAt (placeOf (w Field.Place)) w
 
 -- The threads of a queue from a link on, by their next words, n at most.
 unfoldable pub walk : List ℕ → ℕ → ℕ → List ℕ
@@ -103,18 +104,18 @@ unfoldable pub abortAt : ℕ → (Part → ℕ) → List ℕ → Option Abort
 abortAt zero w l = none
 abortAt (suc n) w l =
     some (record {
-      badge = within (2 ^ 28 - 1) (w aborted);
-      owner = linked (w owner);
-      pending = between (w cursor) (w end) l;
+      badge = within (2 ^ 28 - 1) (w Part.Aborted);
+      owner = linked (w Part.Owner);
+      pending = between (w Part.Cursor) (w Part.End) l;
     })
 
 abbrev pub endpointAt : ℕ → (Part → ℕ) → List ℕ → Endpoint
 endpointAt zero w l = missingEndpoint
-endpointAt (suc zero) w l = record { status = live; waiters = l; abort = abortAt (w aborting) w l }
+endpointAt (suc zero) w l = record { status = live; waiters = l; abort = abortAt (w Part.Aborting) w l }
 endpointAt (suc (suc n)) w l = record { status = closing; waiters = l; abort = none }
 
 unfoldable pub endpointFrom : (Part → ℕ) → List ℕ → Endpoint
-endpointFrom w l = endpointAt (w status) w l
+endpointFrom w l = endpointAt (w Part.Status) w l
 
 -- The queue whose head stands at an address.
 abbrev pub queueFrom : List ℕ → ℕ → List ℕ

@@ -10,8 +10,9 @@ use Rattle.machine.specs.State.{noted, Abort, Status, missing, live, closing, E
 use Rattle.machine.specs.Scheduling.{occupied}
 use Rattle.machine.specs.Endpoints.{ownerOf, pendingOf}
 use Rattle.summary.specs.Levels.{wordOf, topOf}
-use Rattle.layout.specs.Addresses.{Field, place, priority, ticks, outcome, badge, message, owes, note, Part}
-use Rattle.layout.specs.Addresses.{status, aborting, aborted, owner, cursor, end, Slot, ofThread, ofEndpoint}
+use Rattle.layout.specs.declared.Field.{Field}
+use Rattle.layout.specs.declared.Part.{Part}
+use Rattle.layout.specs.Addresses.{Slot, ofThread, ofEndpoint}
 use Rattle.layout.specs.Addresses.{ofLine, summary, top, running, unused, Link, next, prev, head, tail, Name}
 use Rattle.layout.specs.Addresses.{slot, link, nameOf}
 
@@ -78,22 +79,22 @@ badgeCode none = 0
 badgeCode (some a) = a .badge
 
 abbrev pub threadWord : Thread → Field → ℕ
-threadWord x place = placeCode (x .place)
-threadWord x priority = x .priority
-threadWord x ticks = x .ticks
-threadWord x outcome = x .outcome
-threadWord x badge = x .badge
-threadWord x message = x .message
-threadWord x owes = debtCode (x .debt)
-threadWord x note = noteCode (x .debt)
+threadWord x Field.Place = placeCode (x .place)
+threadWord x Field.Priority = x .priority
+threadWord x Field.Ticks = x .ticks
+threadWord x Field.Outcome = x .outcome
+threadWord x Field.Badge = x .badge
+threadWord x Field.Message = x .message
+threadWord x Field.Owes = debtCode (x .debt)
+threadWord x Field.Note = noteCode (x .debt)
 
 abbrev pub endpointWord : Endpoint → Part → ℕ
-endpointWord x status = statusCode (x .status)
-endpointWord x aborting = abortCode (x .abort)
-endpointWord x aborted = badgeCode (x .abort)
-endpointWord x owner = linkOf (ownerOf (x .abort))
-endpointWord x cursor = firstOf (pendingOf (x .abort))
-endpointWord x end = lastOf 0 (pendingOf (x .abort))
+endpointWord x Part.Status = statusCode (x .status)
+endpointWord x Part.Aborting = abortCode (x .abort)
+endpointWord x Part.Aborted = badgeCode (x .abort)
+endpointWord x Part.Owner = linkOf (ownerOf (x .abort))
+endpointWord x Part.Cursor = firstOf (pendingOf (x .abort))
+endpointWord x Part.End = lastOf 0 (pendingOf (x .abort))
 
 -- The levels with a ready thread.
 abbrev pub occupiedIn : State → ℕ → Bool

@@ -1,2 +1,25 @@
 // The memory of a machine state, word by word. The definitions stand in specs/ and docs/LAYOUT.md lists the words; the
 // code that reads and writes them is the kernel's.
+
+// The words of a thread that are no links. Owes is what the thread has to do with aborts, Note the badge of a note.
+pub enum Field {
+    Place,
+    Priority,
+    Ticks,
+    Outcome,
+    Badge,
+    Message,
+    Owes,
+    Note,
+}
+
+// The words of an endpoint that are no links. Aborting is whether an abort stands there; then come its badge, its owner
+// and the first and the last of those that it has still to look at.
+pub enum Part {
+    Status,
+    Aborting,
+    Aborted,
+    Owner,
+    Cursor,
+    End,
+}

@@ -12,7 +12,8 @@ use Rattle.machine.specs.Lists.{put}
 use Rattle.machine.specs.State.{State, Endpoint, setLevel, setEndpoint}
 use Rattle.machine.specs.Scheduling.{occupied}
 use Rattle.machine.proofs.Lists.{Same, same, other, same?, put-same, put-other}
-use Rattle.layout.specs.Addresses.{Part, status, aborting, aborted, owner, cursor, end, Slot, ofThread, ofEndpoint}
+use Rattle.layout.specs.declared.Part.{Part}
+use Rattle.layout.specs.Addresses.{Slot, ofThread, ofEndpoint}
 use Rattle.layout.specs.Addresses.{ofLine, summary, top, running, unused, ValidSlot, at, word}
 use Rattle.layout.specs.Words.{endpointWord, content, queuesOf, occupiedIn}
 use Rattle.layout.specs.Shows.{Linked, Shows}
@@ -131,12 +132,12 @@ module _ (s : State) (e : ℕ) (l : List ℕ) where
         waiters = l;
         abort = s .endpoints e .abort;
       }) f ≡ endpointWord (s .endpoints e) f
-  same-words status = refl
-  same-words aborting = refl
-  same-words aborted = refl
-  same-words owner = refl
-  same-words cursor = refl
-  same-words end = refl
+  same-words Part.Status = refl
+  same-words Part.Aborting = refl
+  same-words Part.Aborted = refl
+  same-words Part.Owner = refl
+  same-words Part.Cursor = refl
+  same-words Part.End = refl
 
   endpoint-words :
       (f : Part) (u : ℕ) → Same u e → endpointWord (waited e l s .endpoints u) f ≡ endpointWord (s .endpoints u) f

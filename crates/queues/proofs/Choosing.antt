@@ -25,7 +25,8 @@ use Rattle.layout.proofs.Standing.{queues-level}
 use Rattle.links.specs.Links.{First}
 use Rattle.store.specs.Steps.{Shown, Does, Tells}
 use Rattle.store.specs.Store.{IsThread, Any, Runs}
-use Rattle.store.specs.Readings.{priorityIn, runningIn}
+use Rattle.layout.specs.declared.Field.{Field}
+use Rattle.store.specs.Readings.{threadIn, runningIn}
 use Rattle.store.specs.Marks.{Loads}
 use Rattle.queues.specs.Queues.{Loose, StandsAt, Chooses, leaveLevel, highestLink}
 use Rattle.queues.proofs.Joining.{shown-next}
@@ -145,7 +146,8 @@ module _ {m : List ℕ} {r : ℕ} (T : Tells m Any r highestLink) where
                 rw e (R .does (some (H .thread)) (sym (H .linked)) .shows (setLevel p (H .rest) s) (rw w at N) tt)
 
 -- The running thread t, of priority p, is displaced exactly where a level above p is occupied.
-module _ {m : List ℕ} {t p r : ℕ} (R : Tells m (IsThread t) p (priorityIn t)) (T : Tells m Any r highestLink) where
+module _ {m : List ℕ} {t p r : ℕ} (R : Tells m (IsThread t) p (threadIn Field.Priority t))
+    (T : Tells m Any r highestLink) where
   pub priority-small : Shown m (Loose t) → p ≤ 255
   priority-small S = omega (arith, R .tells (S .state) (S .shows) (S .holds .thread), S .holds .level)
 

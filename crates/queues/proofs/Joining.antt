@@ -18,7 +18,8 @@ use Rattle.layout.proofs.Standing.{queues-level, queues-endpoint}
 use Rattle.links.specs.Links.{Joinable, Joins}
 use Rattle.store.specs.Steps.{Shown, Does, Tells}
 use Rattle.store.specs.Store.{IsThread, placing, Places, Runs}
-use Rattle.store.specs.Readings.{priorityIn}
+use Rattle.layout.specs.declared.Field.{Field}
+use Rattle.store.specs.Readings.{threadIn}
 use Rattle.store.specs.Marks.{MarksIn}
 use Rattle.queues.specs.Queues.{Loose, Comes, Blocks}
 use Rattle.queues.proofs.Changed.{level-marked, waiters-linked}
@@ -40,7 +41,7 @@ module _ {m n : List ℕ} {P Q : State → Type 0} {f : State → State} (D : Do
 
 -- Joining a level's queue.
 
-module _ {m : List ℕ} {t p : ℕ} (R : Tells m (IsThread t) p (priorityIn t)) where
+module _ {m : List ℕ} {t p : ℕ} (R : Tells m (IsThread t) p (threadIn Field.Priority t)) where
   pub level-of : (s : State) → Shows m s → Loose t s → p ≡ s .threads t .priority
   level-of s M h = R .tells s M (h .thread)
 

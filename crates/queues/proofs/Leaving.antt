@@ -18,7 +18,8 @@ use Rattle.links.proofs.Neatness.{linked-neat, free-leave}
 use Rattle.layout.proofs.Chains.{first-zero}
 use Rattle.store.specs.Steps.{Shown, Does, Tells}
 use Rattle.store.specs.Store.{IsThread}
-use Rattle.store.specs.Readings.{priorityIn}
+use Rattle.layout.specs.declared.Field.{Field}
+use Rattle.store.specs.Readings.{threadIn}
 use Rattle.store.specs.Marks.{MarksIn}
 use Rattle.queues.specs.Queues.{Loose, Stands, StandsAt, Waits, leaveLevel, passingAt}
 use Rattle.queues.proofs.Changed.{queues-endpoint, level-marked, level-unmarked, waited, waiters-linked}
@@ -80,7 +81,7 @@ module _ {m : List ℕ} {p t : ℕ} where
 
 -- Leaving the queue of the thread's own level.
 
-module _ {m : List ℕ} {t p : ℕ} (R : Tells m (IsThread t) p (priorityIn t)) where
+module _ {m : List ℕ} {t p : ℕ} (R : Tells m (IsThread t) p (threadIn Field.Priority t)) where
   own-level : (s : State) → Shows m s → Stands t s → StandsAt p t s
   own-level s M h =
       let e = R .tells s M (h .thread) in record { level = rw e (h .level); stands = rw e (h .stands) }

@@ -15,7 +15,8 @@ use Rattle.layout.proofs.Standing.{queues-endpoint}
 use Rattle.links.specs.Links.{Next, Prev}
 use Rattle.store.specs.Steps.{Does, Tells}
 use Rattle.store.specs.Store.{IsEndpoint, Looks}
-use Rattle.store.specs.Readings.{cursorIn, endIn}
+use Rattle.layout.specs.declared.Part.{Part}
+use Rattle.store.specs.Readings.{endpointIn}
 use Rattle.store.proofs.Sites.{parts, site-shows, site-start}
 use Rattle.queues.specs.Queues.{Waits, passingAt}
 use Rattle.queues.proofs.Passing.{pass-both, pass-cursor, pass-end, pass-neither}
@@ -85,7 +86,8 @@ module _ {m : List ℕ} {t e : ℕ} where
           (parts _ _ refl (rw z) (rw z) (rw z) (rw z (sym (k .0))) (rw z (sym (k .1))))
 
 -- The four ways, by whether t is the cursor c and the end mark d.
-module _ {m : List ℕ} {t e c d : ℕ} (C : Tells m (IsEndpoint e) c (cursorIn e)) (E : Tells m (IsEndpoint e) d (endIn e))
+module _ {m : List ℕ} {t e c d : ℕ} (C : Tells m (IsEndpoint e) c (endpointIn Part.Cursor e))
+    (E : Tells m (IsEndpoint e) d (endpointIn Part.End e))
   where
     module _ (s : State) (M : Shows m s) (h : Waits t e s) where
       cursor-none : s .endpoints e .abort ≡ none → c ≡ 0

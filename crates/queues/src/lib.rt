@@ -8,6 +8,8 @@ ghost use Rattle.store.specs.Steps.{Shown, Does, Tells};
 ghost use Rattle.store.specs.Store.{IsThread, IsEndpoint, Any};
 ghost use Rattle.queues.specs.Queues.{Loose, Stands, StandsAt, Chooses, Comes, Waits, Blocks};
 ghost use Rattle.queues.specs.Queues.{leaveLevel, passingAt, highestLink};
+use layout::Field;
+use layout::Part;
 use summary::Level;
 
 // Thread t, in no queue, joins the tail of its level's.
@@ -15,7 +17,7 @@ pub fn enqueue(tables: &mut [u32], t: usize)
     requires { ⌜ Shown (now tables) (Loose t) ⌝ }
     ensures { λ _. ⌜ Does (now (tables .entry)) (now (tables .exit)) (Loose t) (enqueueing t) ⌝ }
 {
-    let p = store::priority(tables, t);
+    let p = store::thread(tables, Field::Priority, t);
     links::push_tail(tables, p as usize, t);
     store::mark_occupied(tables, p);
 }
@@ -37,7 +39,7 @@ pub fn unqueue(tables: &mut [u32], t: usize)
     requires { ⌜ Shown (now tables) (Stands t) ⌝ }
     ensures { λ _. ⌜ Does (now (tables .entry)) (now (tables .exit)) (Stands t) (unqueueing t) ⌝ }
 {
-    let p = store::priority(tables, t);
+    let p = store::thread(tables, Field::Priority, t);
     leave_level(tables, p, t);
 }
 
@@ -101,7 +103,7 @@ fn displace(tables: &mut [u32], t: usize)
     requires { ⌜ Shown (now tables) (Loose t) ⌝ }
     ensures { λ _. ⌜ Does (now (tables .entry)) (now (tables .exit)) (Loose t) (chooseFor (some t)) ⌝ }
 {
-    let p = store::priority(tables, t);
+    let p = store::thread(tables, Field::Priority, t);
     let level = highest_level(tables);
     if p + 1 < level {
         stand_down(tables, t);
@@ -136,8 +138,8 @@ fn pass_marks(tables: &mut [u32], t: usize, e: usize)
     ensures { λ _. ⌜ Does (now (tables .entry)) (now (tables .exit)) (Waits t e) (passingAt t e) ⌝ }
 {
     let link = (t + 1) as u32;
-    let cursor = store::cursor(tables, e);
-    let end = store::end(tables, e);
+    let cursor = store::endpoint(tables, Part::Cursor, e);
+    let end = store::endpoint(tables, Part::End, e);
     if cursor == link {
         if end == link {
             store::set_marks(tables, e, 0, 0);

@@ -4,120 +4,24 @@ ghost use mathlib.Core.Path.{_≡_};
 ghost use Prim.Native.Nat.{_≤_};
 ghost use lib.ListN.{length};
 ghost use Rattle.layout.specs.Addresses.{at, linkAt, word, next, prev, head, tail};
-ghost use Rattle.layout.specs.Addresses.{ofThread, place, priority, ticks, outcome, badge, message, owes, note};
-ghost use Rattle.layout.specs.Addresses.{ofEndpoint, status, aborting, aborted, owner, cursor, end};
-ghost use Rattle.layout.specs.Addresses.{ofLine, summary, top, running, unused};
+ghost use Rattle.layout.specs.Addresses.{ofThread, ofEndpoint, ofLine, summary, top, running, unused};
+use layout::Field;
+use layout::Part;
 
-// The place of thread t.
-pub fn place(tables: &[u32], t: usize) -> usize
+// A word of thread t.
+pub fn thread(tables: &[u32], f: Field, t: usize) -> usize
     requires { ⌜ (length (now tables) ≡ 4096) × (t ≤ 255) ⌝ }
-    ensures { λ r. ⌜ r ≡ word (now (tables .entry)) (at (ofThread place t)) ⌝ }
+    ensures { λ r. ⌜ r ≡ word (now (tables .entry)) (at (ofThread f t)) ⌝ }
 {
-    words::get(tables, words::place_at(t)) as usize
+    words::get(tables, words::thread_at(f, t)) as usize
 }
 
-// The priority of thread t.
-pub fn priority(tables: &[u32], t: usize) -> usize
-    requires { ⌜ (length (now tables) ≡ 4096) × (t ≤ 255) ⌝ }
-    ensures { λ r. ⌜ r ≡ word (now (tables .entry)) (at (ofThread priority t)) ⌝ }
-{
-    words::get(tables, words::priority_at(t)) as usize
-}
-
-// The ticks of thread t.
-pub fn ticks(tables: &[u32], t: usize) -> usize
-    requires { ⌜ (length (now tables) ≡ 4096) × (t ≤ 255) ⌝ }
-    ensures { λ r. ⌜ r ≡ word (now (tables .entry)) (at (ofThread ticks t)) ⌝ }
-{
-    words::get(tables, words::ticks_at(t)) as usize
-}
-
-// The outcome of thread t.
-pub fn outcome(tables: &[u32], t: usize) -> usize
-    requires { ⌜ (length (now tables) ≡ 4096) × (t ≤ 255) ⌝ }
-    ensures { λ r. ⌜ r ≡ word (now (tables .entry)) (at (ofThread outcome t)) ⌝ }
-{
-    words::get(tables, words::outcome_at(t)) as usize
-}
-
-// The badge of thread t.
-pub fn badge(tables: &[u32], t: usize) -> usize
-    requires { ⌜ (length (now tables) ≡ 4096) × (t ≤ 255) ⌝ }
-    ensures { λ r. ⌜ r ≡ word (now (tables .entry)) (at (ofThread badge t)) ⌝ }
-{
-    words::get(tables, words::badge_at(t)) as usize
-}
-
-// The message of thread t.
-pub fn message(tables: &[u32], t: usize) -> usize
-    requires { ⌜ (length (now tables) ≡ 4096) × (t ≤ 255) ⌝ }
-    ensures { λ r. ⌜ r ≡ word (now (tables .entry)) (at (ofThread message t)) ⌝ }
-{
-    words::get(tables, words::message_at(t)) as usize
-}
-
-// What thread t owes.
-pub fn owes(tables: &[u32], t: usize) -> usize
-    requires { ⌜ (length (now tables) ≡ 4096) × (t ≤ 255) ⌝ }
-    ensures { λ r. ⌜ r ≡ word (now (tables .entry)) (at (ofThread owes t)) ⌝ }
-{
-    words::get(tables, words::owes_at(t)) as usize
-}
-
-// The badge of thread t's note.
-pub fn note(tables: &[u32], t: usize) -> usize
-    requires { ⌜ (length (now tables) ≡ 4096) × (t ≤ 255) ⌝ }
-    ensures { λ r. ⌜ r ≡ word (now (tables .entry)) (at (ofThread note t)) ⌝ }
-{
-    words::get(tables, words::note_at(t)) as usize
-}
-
-// The status of endpoint e.
-pub fn status(tables: &[u32], e: usize) -> usize
+// A word of endpoint e.
+pub fn endpoint(tables: &[u32], p: Part, e: usize) -> usize
     requires { ⌜ (length (now tables) ≡ 4096) × (e ≤ 63) ⌝ }
-    ensures { λ r. ⌜ r ≡ word (now (tables .entry)) (at (ofEndpoint status e)) ⌝ }
+    ensures { λ r. ⌜ r ≡ word (now (tables .entry)) (at (ofEndpoint p e)) ⌝ }
 {
-    words::get(tables, words::status_at(e)) as usize
-}
-
-// Whether an abort stands at endpoint e.
-pub fn aborting(tables: &[u32], e: usize) -> usize
-    requires { ⌜ (length (now tables) ≡ 4096) × (e ≤ 63) ⌝ }
-    ensures { λ r. ⌜ r ≡ word (now (tables .entry)) (at (ofEndpoint aborting e)) ⌝ }
-{
-    words::get(tables, words::aborting_at(e)) as usize
-}
-
-// The badge of the abort at endpoint e.
-pub fn aborted(tables: &[u32], e: usize) -> usize
-    requires { ⌜ (length (now tables) ≡ 4096) × (e ≤ 63) ⌝ }
-    ensures { λ r. ⌜ r ≡ word (now (tables .entry)) (at (ofEndpoint aborted e)) ⌝ }
-{
-    words::get(tables, words::aborted_at(e)) as usize
-}
-
-// The link to the owner of the abort at endpoint e.
-pub fn owner(tables: &[u32], e: usize) -> usize
-    requires { ⌜ (length (now tables) ≡ 4096) × (e ≤ 63) ⌝ }
-    ensures { λ r. ⌜ r ≡ word (now (tables .entry)) (at (ofEndpoint owner e)) ⌝ }
-{
-    words::get(tables, words::owner_at(e)) as usize
-}
-
-// The link to the first that the abort at endpoint e has still to look at.
-pub fn cursor(tables: &[u32], e: usize) -> usize
-    requires { ⌜ (length (now tables) ≡ 4096) × (e ≤ 63) ⌝ }
-    ensures { λ r. ⌜ r ≡ word (now (tables .entry)) (at (ofEndpoint cursor e)) ⌝ }
-{
-    words::get(tables, words::cursor_at(e)) as usize
-}
-
-// The link to the last that the abort at endpoint e has still to look at.
-pub fn end(tables: &[u32], e: usize) -> usize
-    requires { ⌜ (length (now tables) ≡ 4096) × (e ≤ 63) ⌝ }
-    ensures { λ r. ⌜ r ≡ word (now (tables .entry)) (at (ofEndpoint end e)) ⌝ }
-{
-    words::get(tables, words::end_at(e)) as usize
+    words::get(tables, words::endpoint_at(p, e)) as usize
 }
 
 // Line l.

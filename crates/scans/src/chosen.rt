@@ -9,6 +9,7 @@ ghost use Rattle.machine.specs.Lists.{pick};
 ghost use Rattle.summary.specs.Levels.{wordOf};
 ghost use Rattle.layout.specs.Tests.{all};
 ghost use Rattle.checks.specs.Checks.{occupiedAt, summaryTest, runningTest};
+use layout::Field;
 
 // What a bit adds: nothing where the word it stands for is 0.
 fn share(word: usize, bit: usize) -> usize
@@ -82,5 +83,6 @@ pub fn running(tables: &[u32]) -> bool
         return false;
     }
     let t = running - 1;
-    (reads::place(tables, t) == 1) & above(tables, reads::priority(tables, t))
+    (reads::thread(tables, Field::Place, t) == 1)
+        & above(tables, reads::thread(tables, Field::Priority, t))
 }

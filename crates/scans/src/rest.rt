@@ -4,6 +4,7 @@ ghost use Prim.Native.Nat.{_≤_};
 ghost use lib.ListN.{length};
 ghost use Rattle.layout.specs.Tests.{all};
 ghost use Rattle.checks.specs.Checks.{lineTest, unusedTest};
+use layout::Field;
 
 // A line's waiter waits on it.
 fn line(tables: &[u32], l: usize) -> bool
@@ -17,7 +18,7 @@ fn line(tables: &[u32], l: usize) -> bool
     if 257 < line {
         return false;
     }
-    reads::place(tables, line - 2) == 130 + l
+    reads::thread(tables, Field::Place, line - 2) == 130 + l
 }
 
 pub fn lines(tables: &[u32]) -> bool

@@ -3,23 +3,25 @@
 ghost use mathlib.Core.Path.{_≡_};
 ghost use Prim.Native.Nat.{_≤_};
 ghost use lib.ListN.{length};
-ghost use Rattle.layout.specs.Addresses.{place, owes};
+ghost use Rattle.layout.specs.declared.Field.{Field};
 ghost use Rattle.layout.specs.Tests.{all};
 ghost use Rattle.checks.specs.Checks.{threadIn, absentTest, numbersTest, storedTest, waitsTest, owesTest};
 ghost use Rattle.checks.specs.Checks.{presentTest, blockTest};
+use layout::Field;
+use layout::Part;
 
 // An absent thread's words are 0.
 fn absent(tables: &[u32], t: usize) -> bool
     requires { ⌜ (length (now tables) ≡ 4096) × (t ≤ 255) ⌝ }
     ensures { λ r. ⌜ r ≡ absentTest (now (tables .entry)) t ⌝ }
 {
-    (reads::priority(tables, t) == 0)
-        & (reads::ticks(tables, t) == 0)
-        & (reads::outcome(tables, t) == 0)
-        & (reads::badge(tables, t) == 0)
-        & (reads::message(tables, t) == 0)
-        & (reads::owes(tables, t) == 0)
-        & (reads::note(tables, t) == 0)
+    (reads::thread(tables, Field::Priority, t) == 0)
+        & (reads::thread(tables, Field::Ticks, t) == 0)
+        & (reads::thread(tables, Field::Outcome, t) == 0)
+        & (reads::thread(tables, Field::Badge, t) == 0)
+        & (reads::thread(tables, Field::Message, t) == 0)
+        & (reads::thread(tables, Field::Owes, t) == 0)
+        & (reads::thread(tables, Field::Note, t) == 0)
 }
 
 // A present thread's numbers are in range.
@@ -27,13 +29,13 @@ fn numbers(tables: &[u32], t: usize) -> bool
     requires { ⌜ (length (now tables) ≡ 4096) × (t ≤ 255) ⌝ }
     ensures { λ r. ⌜ r ≡ numbersTest (now (tables .entry)) t ⌝ }
 {
-    let ticks = reads::ticks(tables, t);
-    (reads::place(tables, t) <= 161)
-        & (reads::priority(tables, t) <= 255)
+    let ticks = reads::thread(tables, Field::Ticks, t);
+    (reads::thread(tables, Field::Place, t) <= 161)
+        & (reads::thread(tables, Field::Priority, t) <= 255)
         & ((1 <= ticks) & (ticks <= 5))
-        & (reads::outcome(tables, t) <= 5)
-        & (reads::badge(tables, t) < 0x1000_0000)
-        & (reads::message(tables, t) < 0x1000_0000)
+        & (reads::thread(tables, Field::Outcome, t) <= 5)
+        & (reads::thread(tables, Field::Badge, t) < 0x1000_0000)
+        & (reads::thread(tables, Field::Message, t) < 0x1000_0000)
 }
 
 // Outcome, badge and message stand only where a thread stores them.
@@ -41,18 +43,19 @@ fn stored(tables: &[u32], t: usize) -> bool
     requires { ⌜ (length (now tables) ≡ 4096) × (t ≤ 255) ⌝ }
     ensures { λ r. ⌜ r ≡ storedTest (now (tables .entry)) t ⌝ }
 {
-    let place = reads::place(tables, t);
-    let outcome = reads::outcome(tables, t);
-    let nothing = (reads::badge(tables, t) == 0) & (reads::message(tables, t) == 0);
+    let place = reads::thread(tables, Field::Place, t);
+    let outcome = reads::thread(tables, Field::Outcome, t);
+    let nothing = (reads::thread(tables, Field::Badge, t) == 0)
+        & (reads::thread(tables, Field::Message, t) == 0);
     ((place == 1) | (outcome == 0)) & ((outcome == 2) | ((2 <= place) & (place < 66)) | nothing)
 }
 
 // A thread on a line is the line's waiter.
 fn waits(tables: &[u32], t: usize) -> bool
-    requires { ⌜ (length (now tables) ≡ 4096) × (t ≤ 255) × (threadIn (now tables) place t ≤ 161) ⌝ }
+    requires { ⌜ (length (now tables) ≡ 4096) × (t ≤ 255) × (threadIn (now tables) Field.Place t ≤ 161) ⌝ }
     ensures { λ r. ⌜ r ≡ waitsTest (now (tables .entry)) t ⌝ }
 {
-    let place = reads::place(tables, t);
+    let place = reads::thread(tables, Field::Place, t);
     if place < 130 {
         return true;
     }
@@ -62,15 +65,15 @@ fn waits(tables: &[u32], t: usize) -> bool
 // What a thread owes: nothing, an abort that names it as owner, or a note.
 fn owing(tables: &[u32], t: usize) -> bool
     requires { ⌜ (length (now tables) ≡ 4096) × (t ≤ 255) ⌝ }
-    ensures { λ r. ⌜ r ≡ owesTest (threadIn (now (tables .entry)) owes t) (now (tables .entry)) t ⌝ }
+    ensures { λ r. ⌜ r ≡ owesTest (threadIn (now (tables .entry)) Field.Owes t) (now (tables .entry)) t ⌝ }
 {
-    let owes = reads::owes(tables, t);
-    let note = reads::note(tables, t);
+    let owes = reads::thread(tables, Field::Owes, t);
+    let note = reads::thread(tables, Field::Note, t);
     if owes == 0 {
         return note == 0;
     }
     if owes <= 64 {
-        return (note == 0) & (reads::owner(tables, owes - 1) == t + 1);
+        return (note == 0) & (reads::endpoint(tables, Part::Owner, owes - 1) == t + 1);
     }
     (owes <= 128) & (note < 0x1000_0000)
 }
@@ -90,7 +93,7 @@ fn block(tables: &[u32], t: usize) -> bool
     requires { ⌜ (length (now tables) ≡ 4096) × (t ≤ 255) ⌝ }
     ensures { λ r. ⌜ r ≡ blockTest (now (tables .entry)) t ⌝ }
 {
-    if reads::place(tables, t) == 0 {
+    if reads::thread(tables, Field::Place, t) == 0 {
         return absent(tables, t);
     }
     present(tables, t)

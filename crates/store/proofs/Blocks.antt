@@ -7,7 +7,8 @@ use lib.ListN.{set}
 use Rattle.machine.specs.Lists.{put}
 use Rattle.machine.specs.State.{State, Thread, setThread, withPlace, withPriority, withTicks, withDebt}
 use Rattle.machine.proofs.Lists.{Same, same, other, same?, put-same, put-other}
-use Rattle.layout.specs.Addresses.{Field, place, priority, ticks, outcome, badge, message, owes, note, Slot, ofThread}
+use Rattle.layout.specs.declared.Field.{Field}
+use Rattle.layout.specs.Addresses.{Slot, ofThread}
 use Rattle.layout.specs.Addresses.{ofEndpoint, ofLine, summary, top, running, unused, ValidSlot, column, at, word}
 use Rattle.layout.specs.Words.{placeCode, debtCode, noteCode, threadWord, content, queuesOf}
 use Rattle.layout.specs.Shows.{Shows}
@@ -35,17 +36,19 @@ Block t m n w = Row (blockRow t) (OffBlock t) m n w
 
 -- A word for each field, where eight are right.
 fields :
-    (w : Field → ℕ) (x : Thread) → w place ≡ placeCode (x .place) → w priority ≡ x .priority → w ticks ≡ x .ticks
-    → w outcome ≡ x .outcome → w badge ≡ x .badge → w message ≡ x .message → w owes ≡ debtCode (x .debt)
-    → w note ≡ noteCode (x .debt) → (f : Field) → w f ≡ threadWord x f
-fields w x a b c d e f g h place = a
-fields w x a b c d e f g h priority = b
-fields w x a b c d e f g h ticks = c
-fields w x a b c d e f g h outcome = d
-fields w x a b c d e f g h badge = e
-fields w x a b c d e f g h message = f
-fields w x a b c d e f g h owes = g
-fields w x a b c d e f g h note = h
+    (w : Field → ℕ) (x : Thread) → w Field.Place ≡ placeCode (x .place) → w Field.Priority ≡ x .priority
+    → w Field.Ticks ≡ x .ticks
+    → w Field.Outcome ≡ x .outcome → w Field.Badge ≡ x .badge → w Field.Message ≡ x .message
+    → w Field.Owes ≡ debtCode (x .debt)
+    → w Field.Note ≡ noteCode (x .debt) → (f : Field) → w f ≡ threadWord x f
+fields w x a b c d e f g h Field.Place = a
+fields w x a b c d e f g h Field.Priority = b
+fields w x a b c d e f g h Field.Ticks = c
+fields w x a b c d e f g h Field.Outcome = d
+fields w x a b c d e f g h Field.Badge = e
+fields w x a b c d e f g h Field.Message = f
+fields w x a b c d e f g h Field.Owes = g
+fields w x a b c d e f g h Field.Note = h
 
 module _ (t : ℕ) (small : t ≤ 255) where
   is-block : IsRow (blockRow t) (OffBlock t) column
@@ -91,61 +94,58 @@ module _ (t : ℕ) (small : t ≤ 255) where
 
 module _ (t : ℕ) {m n₁ : List ℕ} {i₁ : ℕ} where
   pub priority-does :
-      (p : ℕ) → Address i₁ (at (ofThread priority t)) → n₁ ≡ set m i₁ p → Does m n₁ (IsThread t) (prioritising t p)
-  unfolding column
+      (p : ℕ) → Address i₁ (at (ofThread Field.Priority t)) → n₁ ≡ set m i₁ p
+      → Does m n₁ (IsThread t) (prioritising t p)
   priority-does p a₁ e₁ =
       record {
         shows = λ s M h.
             block-shows t h m n₁ _ s (withPriority p (s .threads t)) M
-            (block-store t h m m n₁ _ priority i₁ p a₁ e₁ (block-start t h m s M))
+            (block-store t h m m n₁ _ Field.Priority i₁ p a₁ e₁ (block-start t h m s M))
             (fields _ _ refl refl refl refl refl refl refl refl);
       }
 
   pub ticks-does :
-      (n : ℕ) → Address i₁ (at (ofThread ticks t)) → n₁ ≡ set m i₁ n → Does m n₁ (IsThread t) (ticking t n)
-  unfolding column
+      (n : ℕ) → Address i₁ (at (ofThread Field.Ticks t)) → n₁ ≡ set m i₁ n → Does m n₁ (IsThread t) (ticking t n)
   ticks-does n a₁ e₁ =
       record {
         shows = λ s M h.
             block-shows t h m n₁ _ s (withTicks n (s .threads t)) M
-            (block-store t h m m n₁ _ ticks i₁ n a₁ e₁ (block-start t h m s M))
+            (block-store t h m m n₁ _ Field.Ticks i₁ n a₁ e₁ (block-start t h m s M))
             (fields _ _ refl refl refl refl refl refl refl refl);
       }
 
   module _ {n₂ : List ℕ} {i₂ : ℕ} where
     pub owes-does :
-        (code b : ℕ) → Address i₁ (at (ofThread owes t)) → n₁ ≡ set m i₁ code
-        → Address i₂ (at (ofThread note t)) → n₂ ≡ set n₁ i₂ b → Owes m t code b n₂
-    unfolding column
+        (code b : ℕ) → Address i₁ (at (ofThread Field.Owes t)) → n₁ ≡ set m i₁ code
+        → Address i₂ (at (ofThread Field.Note t)) → n₂ ≡ set n₁ i₂ b → Owes m t code b n₂
     owes-does code b a₁ e₁ a₂ e₂ =
         record {
           does = λ d k j.
               record {
                 shows = λ s M h.
                     block-shows t h m n₂ _ s (withDebt d (s .threads t)) M
-                    (block-store t h m n₁ n₂ _ note i₂ b a₂ e₂
-                    (block-store t h m m n₁ _ owes i₁ code a₁ e₁ (block-start t h m s M)))
+                    (block-store t h m n₁ n₂ _ Field.Note i₂ b a₂ e₂
+                    (block-store t h m m n₁ _ Field.Owes i₁ code a₁ e₁ (block-start t h m s M)))
                     (fields _ _ refl refl refl refl refl refl (sym k) (sym j));
               };
         }
 
     module _ {n₃ n₄ : List ℕ} {i₃ i₄ : ℕ} where
       pub place-does :
-          (code o b x : ℕ) → Address i₁ (at (ofThread place t)) → n₁ ≡ set m i₁ code
-          → Address i₂ (at (ofThread outcome t)) → n₂ ≡ set n₁ i₂ o
-          → Address i₃ (at (ofThread badge t)) → n₃ ≡ set n₂ i₃ b
-          → Address i₄ (at (ofThread message t)) → n₄ ≡ set n₃ i₄ x → Places m t code o b x n₄
-      unfolding column
+          (code o b x : ℕ) → Address i₁ (at (ofThread Field.Place t)) → n₁ ≡ set m i₁ code
+          → Address i₂ (at (ofThread Field.Outcome t)) → n₂ ≡ set n₁ i₂ o
+          → Address i₃ (at (ofThread Field.Badge t)) → n₃ ≡ set n₂ i₃ b
+          → Address i₄ (at (ofThread Field.Message t)) → n₄ ≡ set n₃ i₄ x → Places m t code o b x n₄
       place-does code o b x a₁ e₁ a₂ e₂ a₃ e₃ a₄ e₄ =
           record {
             does = λ p k.
                 record {
                   shows = λ s M h.
                       block-shows t h m n₄ _ s (withPlace p o b x (s .threads t)) M
-                      (block-store t h m n₃ n₄ _ message i₄ x a₄ e₄
-                      (block-store t h m n₂ n₃ _ badge i₃ b a₃ e₃
-                      (block-store t h m n₁ n₂ _ outcome i₂ o a₂ e₂
-                      (block-store t h m m n₁ _ place i₁ code a₁ e₁ (block-start t h m s M)))))
+                      (block-store t h m n₃ n₄ _ Field.Message i₄ x a₄ e₄
+                      (block-store t h m n₂ n₃ _ Field.Badge i₃ b a₃ e₃
+                      (block-store t h m n₁ n₂ _ Field.Outcome i₂ o a₂ e₂
+                      (block-store t h m m n₁ _ Field.Place i₁ code a₁ e₁ (block-start t h m s M)))))
                       (fields _ _ (sym k) refl refl refl refl refl refl refl);
                 };
           }

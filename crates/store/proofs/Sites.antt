@@ -10,7 +10,8 @@ use Rattle.machine.specs.Lists.{pick, put}
 use Rattle.machine.specs.State.{State, Endpoint, setEndpoint}
 use Rattle.machine.specs.Endpoints.{ownerOf, pendingOf}
 use Rattle.machine.proofs.Lists.{Same, same, other, same?, put-same, put-other}
-use Rattle.layout.specs.Addresses.{Part, status, aborting, aborted, owner, cursor, end, Slot, ofThread, ofEndpoint}
+use Rattle.layout.specs.declared.Part.{Part}
+use Rattle.layout.specs.Addresses.{Slot, ofThread, ofEndpoint}
 use Rattle.layout.specs.Addresses.{ofLine, summary, top, running, unused, ValidSlot, offset, at, word}
 use Rattle.layout.specs.Words.{statusCode, abortCode, badgeCode, linkOf, firstOf, lastOf, endpointWord, content}
 use Rattle.layout.specs.Words.{queuesOf}
@@ -38,16 +39,16 @@ Site e m n w = Row (siteRow e) (OffSite e) m n w
 
 -- A word for each part, where six are right.
 pub parts :
-    (w : Part → ℕ) (x : Endpoint) → w status ≡ statusCode (x .status) → w aborting ≡ abortCode (x .abort)
-    → w aborted ≡ badgeCode (x .abort) → w owner ≡ linkOf (ownerOf (x .abort))
-    → w cursor ≡ firstOf (pendingOf (x .abort)) → w end ≡ lastOf 0 (pendingOf (x .abort))
+    (w : Part → ℕ) (x : Endpoint) → w Part.Status ≡ statusCode (x .status) → w Part.Aborting ≡ abortCode (x .abort)
+    → w Part.Aborted ≡ badgeCode (x .abort) → w Part.Owner ≡ linkOf (ownerOf (x .abort))
+    → w Part.Cursor ≡ firstOf (pendingOf (x .abort)) → w Part.End ≡ lastOf 0 (pendingOf (x .abort))
     → (p : Part) → w p ≡ endpointWord x p
-parts w x a b c d e f status = a
-parts w x a b c d e f aborting = b
-parts w x a b c d e f aborted = c
-parts w x a b c d e f owner = d
-parts w x a b c d e f cursor = e
-parts w x a b c d e f end = f
+parts w x a b c d e f Part.Status = a
+parts w x a b c d e f Part.Aborting = b
+parts w x a b c d e f Part.Aborted = c
+parts w x a b c d e f Part.Owner = d
+parts w x a b c d e f Part.Cursor = e
+parts w x a b c d e f Part.End = f
 
 module _ (e : ℕ) (small : e ≤ 63) where
   is-site : IsRow (siteRow e) (OffSite e) offset
@@ -106,21 +107,19 @@ module _ (e : ℕ) (small : e ≤ 63) where
 -- The steps on an endpoint, from the stores that they are.
 
 module _ (e : ℕ) {m n₁ : List ℕ} {i₁ : ℕ} where
-  pub status-does : (code : ℕ) → Address i₁ (at (ofEndpoint status e)) → n₁ ≡ set m i₁ code → Stands m e code n₁
-  unfolding offset
+  pub status-does : (code : ℕ) → Address i₁ (at (ofEndpoint Part.Status e)) → n₁ ≡ set m i₁ code → Stands m e code n₁
   status-does code a₁ e₁ =
       record {
         does = λ x k.
             record {
               shows = λ s M h.
                   site-shows e h m n₁ _ s _ M
-                  (site-store e h m m n₁ _ status i₁ code a₁ e₁ (site-start e h m s M)) refl
+                  (site-store e h m m n₁ _ Part.Status i₁ code a₁ e₁ (site-start e h m s M)) refl
                   (parts _ _ (sym k) refl refl refl refl refl);
             };
       }
 
-  pub owner-does : (code : ℕ) → Address i₁ (at (ofEndpoint owner e)) → n₁ ≡ set m i₁ code → Owners m e code n₁
-  unfolding offset
+  pub owner-does : (code : ℕ) → Address i₁ (at (ofEndpoint Part.Owner e)) → n₁ ≡ set m i₁ code → Owners m e code n₁
   owner-does code a₁ e₁ =
       record {
         does = λ o k.
@@ -128,19 +127,18 @@ module _ (e : ℕ) {m n₁ : List ℕ} {i₁ : ℕ} where
               shows = λ s M h.
                   let z : s .endpoints e .abort ≡ some (h .1 .0) = h .1 .1 in
                   site-shows e (h .0) m n₁ _ s _ M
-                  (site-store e (h .0) m m n₁ _ owner i₁ code a₁ e₁ (site-start e (h .0) m s M)) refl
+                  (site-store e (h .0) m m n₁ _ Part.Owner i₁ code a₁ e₁ (site-start e (h .0) m s M)) refl
                   (parts _ _ refl (rw z) (rw z) (rw z (sym k)) (rw z) (rw z));
             };
       }
 
   module _ {n₂ n₃ n₄ n₅ : List ℕ} {i₂ i₃ i₄ i₅ : ℕ} where
     pub abort-does :
-        (here badge own first last : ℕ) → Address i₁ (at (ofEndpoint aborting e)) → n₁ ≡ set m i₁ here
-        → Address i₂ (at (ofEndpoint aborted e)) → n₂ ≡ set n₁ i₂ badge
-        → Address i₃ (at (ofEndpoint owner e)) → n₃ ≡ set n₂ i₃ own
-        → Address i₄ (at (ofEndpoint cursor e)) → n₄ ≡ set n₃ i₄ first
-        → Address i₅ (at (ofEndpoint end e)) → n₅ ≡ set n₄ i₅ last → Aborts m e here badge own first last n₅
-    unfolding offset
+        (here badge own first last : ℕ) → Address i₁ (at (ofEndpoint Part.Aborting e)) → n₁ ≡ set m i₁ here
+        → Address i₂ (at (ofEndpoint Part.Aborted e)) → n₂ ≡ set n₁ i₂ badge
+        → Address i₃ (at (ofEndpoint Part.Owner e)) → n₃ ≡ set n₂ i₃ own
+        → Address i₄ (at (ofEndpoint Part.Cursor e)) → n₄ ≡ set n₃ i₄ first
+        → Address i₅ (at (ofEndpoint Part.End e)) → n₅ ≡ set n₄ i₅ last → Aborts m e here badge own first last n₅
     abort-does here badge own first last a₁ e₁ a₂ e₂ a₃ e₃ a₄ e₄ a₅ e₅ =
         record {
           none = λ h₁ h₂ h₃ h₄ h₅.
@@ -156,22 +154,21 @@ module _ (e : ℕ) {m n₁ : List ℕ} {i₁ : ℕ} where
         }
       where
         stores : (s : State) → Shows m s → (h : e ≤ 63) → Site e m n₅
-            (change offset end last
-            (change offset cursor first
-            (change offset owner own
-            (change offset aborted badge (change offset aborting here (endpointWord (s .endpoints e)))))))
+            (change offset Part.End last
+            (change offset Part.Cursor first
+            (change offset Part.Owner own
+            (change offset Part.Aborted badge (change offset Part.Aborting here (endpointWord (s .endpoints e)))))))
         stores s M h =
-            site-store e h m n₄ n₅ _ end i₅ last a₅ e₅
-            (site-store e h m n₃ n₄ _ cursor i₄ first a₄ e₄
-            (site-store e h m n₂ n₃ _ owner i₃ own a₃ e₃
-            (site-store e h m n₁ n₂ _ aborted i₂ badge a₂ e₂
-            (site-store e h m m n₁ _ aborting i₁ here a₁ e₁ (site-start e h m s M)))))
+            site-store e h m n₄ n₅ _ Part.End i₅ last a₅ e₅
+            (site-store e h m n₃ n₄ _ Part.Cursor i₄ first a₄ e₄
+            (site-store e h m n₂ n₃ _ Part.Owner i₃ own a₃ e₃
+            (site-store e h m n₁ n₂ _ Part.Aborted i₂ badge a₂ e₂
+            (site-store e h m m n₁ _ Part.Aborting i₁ here a₁ e₁ (site-start e h m s M)))))
 
 -- The two stores of the marks.
 pub looks :
-    (e : ℕ) {m n o : List ℕ} {i j : ℕ} (first last : ℕ) → Address i (at (ofEndpoint cursor e)) → n ≡ set m i first
-    → Address j (at (ofEndpoint end e)) → o ≡ set n j last → Looks m e first last o
-unfolding offset
+    (e : ℕ) {m n o : List ℕ} {i j : ℕ} (first last : ℕ) → Address i (at (ofEndpoint Part.Cursor e)) → n ≡ set m i first
+    → Address j (at (ofEndpoint Part.End e)) → o ≡ set n j last → Looks m e first last o
 looks e {m} {n} {o} {i} {j} first last a b c d =
     record {
       does = λ l f g.
@@ -179,8 +176,8 @@ looks e {m} {n} {o} {i} {j} first last a b c d =
             shows = λ s M h.
                 let z : s .endpoints e .abort ≡ some (h .1 .0) = h .1 .1 in
                 site-shows e (h .0) m o _ s _ M
-                (site-store e (h .0) m n o _ end j last c d
-                (site-store e (h .0) m m n _ cursor i first a b (site-start e (h .0) m s M))) refl
+                (site-store e (h .0) m n o _ Part.End j last c d
+                (site-store e (h .0) m m n _ Part.Cursor i first a b (site-start e (h .0) m s M))) refl
                 (parts _ _ refl (rw z) (rw z) (rw z) (rw z (sym f)) (rw z (sym g)));
           };
     }

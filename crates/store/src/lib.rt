@@ -8,122 +8,26 @@ ghost use Rattle.store.specs.Steps.{Shown, Does, Tells};
 ghost use Rattle.store.specs.Store.{IsThread, IsEndpoint, IsLine, Any, HasAbort};
 ghost use Rattle.store.specs.Store.{prioritising, ticking, creating, clearing};
 ghost use Rattle.store.specs.Store.{Places, Owes, Runs, Lines, Stands, Aborts, Owners, Looks};
-ghost use Rattle.store.specs.Readings.{placeIn, priorityIn, ticksIn, outcomeIn, badgeIn, messageIn};
-ghost use Rattle.store.specs.Readings.{owesIn, noteIn, statusIn, abortingIn, abortedIn, ownerIn, cursorIn};
-ghost use Rattle.store.specs.Readings.{endIn, lineIn, runningIn};
+ghost use Rattle.store.specs.Readings.{threadIn, endpointIn, lineIn, runningIn};
 ghost use Rattle.store.specs.Marks.{Loads, MarksIn, Writes};
+use layout::Field;
+use layout::Part;
 use summary::Summary;
 
-// Where thread t is, as a number.
-pub fn place(tables: &[u32], t: usize) -> u32
+// A word of thread t.
+pub fn thread(tables: &[u32], f: Field, t: usize) -> u32
     requires { ⌜ Shown (now tables) (IsThread t) ⌝ }
-    ensures { λ r. ⌜ Tells (now (tables .entry)) (IsThread t) r (placeIn t) ⌝ }
+    ensures { λ r. ⌜ Tells (now (tables .entry)) (IsThread t) r (threadIn f t) ⌝ }
 {
-    words::get(tables, words::place_at(t))
+    words::get(tables, words::thread_at(f, t))
 }
 
-// The priority of thread t.
-pub fn priority(tables: &[u32], t: usize) -> u32
-    requires { ⌜ Shown (now tables) (IsThread t) ⌝ }
-    ensures { λ r. ⌜ Tells (now (tables .entry)) (IsThread t) r (priorityIn t) ⌝ }
-{
-    words::get(tables, words::priority_at(t))
-}
-
-// The ticks left to thread t.
-pub fn ticks(tables: &[u32], t: usize) -> u32
-    requires { ⌜ Shown (now tables) (IsThread t) ⌝ }
-    ensures { λ r. ⌜ Tells (now (tables .entry)) (IsThread t) r (ticksIn t) ⌝ }
-{
-    words::get(tables, words::ticks_at(t))
-}
-
-// The outcome of thread t's last wait.
-pub fn outcome(tables: &[u32], t: usize) -> u32
-    requires { ⌜ Shown (now tables) (IsThread t) ⌝ }
-    ensures { λ r. ⌜ Tells (now (tables .entry)) (IsThread t) r (outcomeIn t) ⌝ }
-{
-    words::get(tables, words::outcome_at(t))
-}
-
-// The badge that thread t stores.
-pub fn badge(tables: &[u32], t: usize) -> u32
-    requires { ⌜ Shown (now tables) (IsThread t) ⌝ }
-    ensures { λ r. ⌜ Tells (now (tables .entry)) (IsThread t) r (badgeIn t) ⌝ }
-{
-    words::get(tables, words::badge_at(t))
-}
-
-// The message that thread t stores.
-pub fn message(tables: &[u32], t: usize) -> u32
-    requires { ⌜ Shown (now tables) (IsThread t) ⌝ }
-    ensures { λ r. ⌜ Tells (now (tables .entry)) (IsThread t) r (messageIn t) ⌝ }
-{
-    words::get(tables, words::message_at(t))
-}
-
-// What thread t has to do with aborts, as a number.
-pub fn owes(tables: &[u32], t: usize) -> u32
-    requires { ⌜ Shown (now tables) (IsThread t) ⌝ }
-    ensures { λ r. ⌜ Tells (now (tables .entry)) (IsThread t) r (owesIn t) ⌝ }
-{
-    words::get(tables, words::owes_at(t))
-}
-
-// The badge of thread t's note.
-pub fn note(tables: &[u32], t: usize) -> u32
-    requires { ⌜ Shown (now tables) (IsThread t) ⌝ }
-    ensures { λ r. ⌜ Tells (now (tables .entry)) (IsThread t) r (noteIn t) ⌝ }
-{
-    words::get(tables, words::note_at(t))
-}
-
-// The status of endpoint e, as a number.
-pub fn status(tables: &[u32], e: usize) -> u32
+// A word of endpoint e.
+pub fn endpoint(tables: &[u32], p: Part, e: usize) -> u32
     requires { ⌜ Shown (now tables) (IsEndpoint e) ⌝ }
-    ensures { λ r. ⌜ Tells (now (tables .entry)) (IsEndpoint e) r (statusIn e) ⌝ }
+    ensures { λ r. ⌜ Tells (now (tables .entry)) (IsEndpoint e) r (endpointIn p e) ⌝ }
 {
-    words::get(tables, words::status_at(e))
-}
-
-// 1 if an abort stands at endpoint e, otherwise 0.
-pub fn aborting(tables: &[u32], e: usize) -> u32
-    requires { ⌜ Shown (now tables) (IsEndpoint e) ⌝ }
-    ensures { λ r. ⌜ Tells (now (tables .entry)) (IsEndpoint e) r (abortingIn e) ⌝ }
-{
-    words::get(tables, words::aborting_at(e))
-}
-
-// The badge of the abort at endpoint e.
-pub fn aborted(tables: &[u32], e: usize) -> u32
-    requires { ⌜ Shown (now tables) (IsEndpoint e) ⌝ }
-    ensures { λ r. ⌜ Tells (now (tables .entry)) (IsEndpoint e) r (abortedIn e) ⌝ }
-{
-    words::get(tables, words::aborted_at(e))
-}
-
-// The link to the owner of the abort at endpoint e.
-pub fn owner(tables: &[u32], e: usize) -> u32
-    requires { ⌜ Shown (now tables) (IsEndpoint e) ⌝ }
-    ensures { λ r. ⌜ Tells (now (tables .entry)) (IsEndpoint e) r (ownerIn e) ⌝ }
-{
-    words::get(tables, words::owner_at(e))
-}
-
-// The link to the first waiter that the abort at endpoint e has to look at.
-pub fn cursor(tables: &[u32], e: usize) -> u32
-    requires { ⌜ Shown (now tables) (IsEndpoint e) ⌝ }
-    ensures { λ r. ⌜ Tells (now (tables .entry)) (IsEndpoint e) r (cursorIn e) ⌝ }
-{
-    words::get(tables, words::cursor_at(e))
-}
-
-// The link to the last waiter that the abort at endpoint e has to look at.
-pub fn end(tables: &[u32], e: usize) -> u32
-    requires { ⌜ Shown (now tables) (IsEndpoint e) ⌝ }
-    ensures { λ r. ⌜ Tells (now (tables .entry)) (IsEndpoint e) r (endIn e) ⌝ }
-{
-    words::get(tables, words::end_at(e))
+    words::get(tables, words::endpoint_at(p, e))
 }
 
 // What line l holds, as a number.
@@ -147,10 +51,10 @@ pub fn set_place(tables: &mut [u32], t: usize, place: u32, outcome: u32, badge: 
     requires { ⌜ Shown (now tables) (IsThread t) ⌝ }
     ensures { λ _. ⌜ Places (now (tables .entry)) t place outcome badge message (now (tables .exit)) ⌝ }
 {
-    words::put(tables, words::place_at(t), place);
-    words::put(tables, words::outcome_at(t), outcome);
-    words::put(tables, words::badge_at(t), badge);
-    words::put(tables, words::message_at(t), message);
+    words::put(tables, words::thread_at(Field::Place, t), place);
+    words::put(tables, words::thread_at(Field::Outcome, t), outcome);
+    words::put(tables, words::thread_at(Field::Badge, t), badge);
+    words::put(tables, words::thread_at(Field::Message, t), message);
 }
 
 // Thread t has priority p.
@@ -158,7 +62,7 @@ pub fn set_priority(tables: &mut [u32], t: usize, p: u32)
     requires { ⌜ Shown (now tables) (IsThread t) ⌝ }
     ensures { λ _. ⌜ Does (now (tables .entry)) (now (tables .exit)) (IsThread t) (prioritising t p) ⌝ }
 {
-    words::put(tables, words::priority_at(t), p);
+    words::put(tables, words::thread_at(Field::Priority, t), p);
 }
 
 // Thread t has n ticks left.
@@ -166,7 +70,7 @@ pub fn set_ticks(tables: &mut [u32], t: usize, n: u32)
     requires { ⌜ Shown (now tables) (IsThread t) ⌝ }
     ensures { λ _. ⌜ Does (now (tables .entry)) (now (tables .exit)) (IsThread t) (ticking t n) ⌝ }
 {
-    words::put(tables, words::ticks_at(t), n);
+    words::put(tables, words::thread_at(Field::Ticks, t), n);
 }
 
 // What thread t has to do with aborts, and the badge of its note.
@@ -174,8 +78,8 @@ pub fn set_owes(tables: &mut [u32], t: usize, code: u32, badge: u32)
     requires { ⌜ Shown (now tables) (IsThread t) ⌝ }
     ensures { λ _. ⌜ Owes (now (tables .entry)) t code badge (now (tables .exit)) ⌝ }
 {
-    words::put(tables, words::owes_at(t), code);
-    words::put(tables, words::note_at(t), badge);
+    words::put(tables, words::thread_at(Field::Owes, t), code);
+    words::put(tables, words::thread_at(Field::Note, t), badge);
 }
 
 // Thread t is new: able, of priority p, with all its ticks.
@@ -221,7 +125,7 @@ pub fn set_status(tables: &mut [u32], e: usize, code: u32)
     requires { ⌜ Shown (now tables) (IsEndpoint e) ⌝ }
     ensures { λ _. ⌜ Stands (now (tables .entry)) e code (now (tables .exit)) ⌝ }
 {
-    words::put(tables, words::status_at(e), code);
+    words::put(tables, words::endpoint_at(Part::Status, e), code);
 }
 
 // The abort at endpoint e: whether one stands, its badge and owner, and the first and the last waiter to look at.
@@ -237,11 +141,11 @@ pub fn set_abort(
     requires { ⌜ Shown (now tables) (IsEndpoint e) ⌝ }
     ensures { λ _. ⌜ Aborts (now (tables .entry)) e here badge owner cursor end (now (tables .exit)) ⌝ }
 {
-    words::put(tables, words::aborting_at(e), here);
-    words::put(tables, words::aborted_at(e), badge);
-    words::put(tables, words::owner_at(e), owner);
-    words::put(tables, words::cursor_at(e), cursor);
-    words::put(tables, words::end_at(e), end);
+    words::put(tables, words::endpoint_at(Part::Aborting, e), here);
+    words::put(tables, words::endpoint_at(Part::Aborted, e), badge);
+    words::put(tables, words::endpoint_at(Part::Owner, e), owner);
+    words::put(tables, words::endpoint_at(Part::Cursor, e), cursor);
+    words::put(tables, words::endpoint_at(Part::End, e), end);
 }
 
 // The owner of the abort that stands at endpoint e, none for link 0.
@@ -249,7 +153,7 @@ pub fn set_owner(tables: &mut [u32], e: usize, link: u32)
     requires { ⌜ Shown (now tables) (HasAbort e) ⌝ }
     ensures { λ _. ⌜ Owners (now (tables .entry)) e link (now (tables .exit)) ⌝ }
 {
-    words::put(tables, words::owner_at(e), link);
+    words::put(tables, words::endpoint_at(Part::Owner, e), link);
 }
 
 // The abort at endpoint e looks at the waiters from a cursor to an end mark, both 0 for none.
@@ -257,8 +161,8 @@ pub fn set_marks(tables: &mut [u32], e: usize, cursor: u32, end: u32)
     requires { ⌜ Shown (now tables) (IsEndpoint e) ⌝ }
     ensures { λ _. ⌜ Looks (now (tables .entry)) e cursor end (now (tables .exit)) ⌝ }
 {
-    words::put(tables, words::cursor_at(e), cursor);
-    words::put(tables, words::end_at(e), end);
+    words::put(tables, words::endpoint_at(Part::Cursor, e), cursor);
+    words::put(tables, words::endpoint_at(Part::End, e), end);
 }
 
 // The summary that stands in the tables.

@@ -14,7 +14,8 @@ use Rattle.machine.proofs.Sites.{differ}
 use Rattle.layout.specs.Shows.{Shows}
 use Rattle.store.specs.Steps.{Shown, Does, Tells}
 use Rattle.store.specs.Store.{IsThread, newThread, creating}
-use Rattle.store.specs.Readings.{placeIn}
+use Rattle.layout.specs.declared.Field.{Field}
+use Rattle.store.specs.Readings.{threadIn}
 use Rattle.queues.specs.Queues.{Loose, Chooses}
 use Rattle.queues.proofs.Joining.{shown-next, and-then}
 use Rattle.results.specs.Results.{Asked, Performs}
@@ -28,7 +29,7 @@ use Rattle.threads.proofs.Places.{code-absent, code-present}
 abbrev Given : ℕ → ℕ → State → Type 0
 Given t p = Asked (InRange t p)
 
-module _ {m : List ℕ} {t r : ℕ} (p : ℕ) (T : Tells m (IsThread t) r (placeIn t)) where
+module _ {m : List ℕ} {t r : ℕ} (p : ℕ) (T : Tells m (IsThread t) r (threadIn Field.Place t)) where
   pub create-refused : {a : Answer} → (r ≡ 0 → ⊥) → a ≡ plain 22 → Performs m m a (Given t p) (createThread t p)
   unfolding createThread createIf
   create-refused n e =

@@ -19,7 +19,8 @@ use Rattle.layout.specs.Words.{placeCode}
 use Rattle.layout.specs.Shows.{Shows}
 use Rattle.store.specs.Steps.{Shown, Does, Tells}
 use Rattle.store.specs.Store.{IsThread, clearing}
-use Rattle.store.specs.Readings.{placeIn}
+use Rattle.layout.specs.declared.Field.{Field}
+use Rattle.store.specs.Readings.{threadIn}
 use Rattle.queues.specs.Queues.{Chooses}
 use Rattle.queues.proofs.Joining.{shown-next, and-then}
 use Rattle.debts.specs.Debts.{Debtor}
@@ -42,7 +43,7 @@ drop-asked S = shown-for S (λ s h. mid-debtor (sound-mid (h .sound)) (h .number
 dropped-place : (s : State) (t : ℕ) → dropDebt t s .threads t .place ≡ s .threads t .place
 dropped-place s t = keeps-place (dropDebt-drops s t .keeps) t
 
-module _ {m : List ℕ} {t r : ℕ} (T : Tells m (IsThread t) r (placeIn t)) where
+module _ {m : List ℕ} {t r : ℕ} (T : Tells m (IsThread t) r (threadIn Field.Place t)) where
   pub destroy-refused : {a : Answer} → r ≡ 0 → a ≡ plain 21 → Performs m m a (Given t) (destroyThread t)
   unfolding destroyThread destroyIf
   destroy-refused z e =

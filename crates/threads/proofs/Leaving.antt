@@ -22,7 +22,8 @@ use Rattle.layout.specs.Shows.{Shows}
 use Rattle.layout.proofs.Addresses.{below?}
 use Rattle.store.specs.Steps.{Shown, Does}
 use Rattle.store.specs.Store.{IsThread, IsLine, Runs, Lines}
-use Rattle.store.specs.Readings.{placeIn}
+use Rattle.layout.specs.declared.Field.{Field}
+use Rattle.store.specs.Readings.{threadIn}
 use Rattle.queues.specs.Queues.{Stands, Waits}
 use Rattle.debts.specs.Debts.{Says}
 use Rattle.results.proofs.Ends.{shown-for}
@@ -198,7 +199,7 @@ module _ {s : State} (M : Mid s) where
       go (inl h) = omega arith
       go (inr h) = absurd (not-awaited (M .ranges .unused-line l h) (M .queues .on-line t l .1 q))
 
-  pub mid-goes : {t code : ℕ} → Present s t → code ≡ placeIn t s → Goes t code s
+  pub mid-goes : {t code : ℕ} → Present s t → code ≡ threadIn Field.Place t s → Goes t code s
   mid-goes {t} {code} present k = record { place = k; can = go (s .threads t .place) refl }
     where
       go : (x : Place) → s .threads t .place ≡ x → CanLeave x t s

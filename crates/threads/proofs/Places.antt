@@ -16,7 +16,8 @@ use Rattle.machine.proofs.Threads.{not-running}
 use Rattle.layout.specs.Words.{placeCode, linkOf}
 use Rattle.store.specs.Steps.{Tells}
 use Rattle.store.specs.Store.{IsThread, Any}
-use Rattle.store.specs.Readings.{placeIn, runningIn}
+use Rattle.layout.specs.declared.Field.{Field}
+use Rattle.store.specs.Readings.{threadIn, runningIn}
 use Rattle.debts.specs.Debts.{Says}
 use Rattle.threads.specs.Threads.{readyIn}
 
@@ -48,7 +49,7 @@ link-running t {l} (some u) k = go (same? u t)
 
 -- Who is ready.
 
-module _ {m : List ℕ} {t r : ℕ} (T : Tells m (IsThread t) r (placeIn t)) where
+module _ {m : List ℕ} {t r : ℕ} (T : Tells m (IsThread t) r (threadIn Field.Place t)) where
   pub told-not-ready : (r ≡ 1 → ⊥) → Says m (IsThread t) false (readyIn t)
   told-not-ready n = record { says = λ s M h. go s (s .threads t .place) (T .tells s M h) }
     where

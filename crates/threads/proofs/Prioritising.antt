@@ -16,7 +16,8 @@ use Rattle.machine.proofs.Mid.{sound-mid}
 use Rattle.layout.specs.Shows.{Shows}
 use Rattle.store.specs.Steps.{Shown, Does, Tells}
 use Rattle.store.specs.Store.{IsThread, prioritising}
-use Rattle.store.specs.Readings.{placeIn, priorityIn}
+use Rattle.layout.specs.declared.Field.{Field}
+use Rattle.store.specs.Readings.{threadIn}
 use Rattle.queues.specs.Queues.{Loose, Stands, Chooses}
 use Rattle.queues.proofs.Joining.{shown-next, and-then}
 use Rattle.debts.specs.Debts.{Says}
@@ -104,7 +105,7 @@ Given t p = Asked (InRange t p)
 pub same-asked : {m : List ℕ} {t p : ℕ} → Shown m (Given t p) → Shown m Chooses
 same-asked S = shown-for S (λ s h. mid-chooses (sound-mid (h .sound)))
 
-module _ {m : List ℕ} {t r : ℕ} (p : ℕ) (T : Tells m (IsThread t) r (placeIn t)) where
+module _ {m : List ℕ} {t r : ℕ} (p : ℕ) (T : Tells m (IsThread t) r (threadIn Field.Place t)) where
   pub priority-refused : {a : Answer} → r ≡ 0 → a ≡ plain 21 → Performs m m a (Given t p) (setPriority t p)
   unfolding setPriority priorityIf
   priority-refused z e =
@@ -130,7 +131,7 @@ module _ {m : List ℕ} {t r : ℕ} (p : ℕ) (T : Tells m (IsThread t) r (place
     change-asked S =
         record { state = S .state; shows = S .shows; holds = changes (S .state) (S .shows) (S .holds) }
 
-    module _ {q : ℕ} (Q : Tells m (IsThread t) q (priorityIn t)) where
+    module _ {q : ℕ} (Q : Tells m (IsThread t) q (threadIn Field.Priority t)) where
       -- What the call comes to, by whether the priority is another.
       comes :
           (s : State) → Shows m s → Given t p s → (b : Bool) → eqb (s .threads t .priority) p ≡ b

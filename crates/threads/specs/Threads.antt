@@ -6,7 +6,8 @@ use mathlib.Core.Option.{some}
 use Rattle.machine.specs.State.{State, Place, absent, able, sending, receiving, waiting}
 use Rattle.machine.specs.Machine.{isAble, isRunning, leaveReady, leave, moveReady, tickFor}
 use Rattle.machine.specs.Sound.{Sound, Present}
-use Rattle.store.specs.Readings.{placeIn}
+use Rattle.layout.specs.declared.Field.{Field}
+use Rattle.store.specs.Readings.{threadIn}
 use Rattle.queues.specs.Queues.{Stands, Waits}
 
 -- The numbers of create and set priority: a thread and a priority.
@@ -36,7 +37,7 @@ CanLeave (waiting l) t s = l ≤ 31
 
 -- t is at the place of a number, and can leave it.
 pub record Goes (t code : ℕ) (s : State) : Type 0 where
-  pub place : code ≡ placeIn t s
+  pub place : code ≡ threadIn Field.Place t s
   pub can : CanLeave (s .threads t .place) t s
 
 abbrev pub leaving : ℕ → State → State

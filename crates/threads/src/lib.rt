@@ -10,6 +10,7 @@ ghost use Rattle.debts.specs.Debts.{Says};
 ghost use Rattle.results.specs.Results.{Asked, Calling, Performs};
 ghost use Rattle.threads.specs.Threads.{readyIn, Able, leavingReady, Goes, leaving, Changes, changing};
 ghost use Rattle.threads.specs.Threads.{tickingFor, InRange};
+use layout::Field;
 use machine::Answer;
 
 // Whether thread t is ready: able, and not the one that runs.
@@ -17,7 +18,7 @@ fn is_ready(tables: &[u32], t: usize) -> bool
     requires { ⌜ Shown (now tables) (IsThread t) ⌝ }
     ensures { λ r. ⌜ Says (now (tables .entry)) (IsThread t) r (readyIn t) ⌝ }
 {
-    let place = store::place(tables, t);
+    let place = store::thread(tables, Field::Place, t);
     if place != 1 {
         return false;
     }
@@ -31,7 +32,7 @@ pub fn create_thread(tables: &mut [u32], t: usize, p: u32) -> Answer
     requires { ⌜ Shown (now tables) (Asked (InRange t p)) ⌝ }
     ensures { λ r. ⌜ Performs (now (tables .entry)) (now (tables .exit)) r (Asked (InRange t p)) (createThread t p) ⌝ }
 {
-    let place = store::place(tables, t);
+    let place = store::thread(tables, Field::Place, t);
     if place != 0 {
         return results::plain(22);
     }
@@ -78,7 +79,7 @@ pub fn destroy_thread(tables: &mut [u32], t: usize) -> Answer
     requires { ⌜ Shown (now tables) (Asked (t ≤ 255)) ⌝ }
     ensures { λ r. ⌜ Performs (now (tables .entry)) (now (tables .exit)) r (Asked (t ≤ 255)) (destroyThread t) ⌝ }
 {
-    let place = store::place(tables, t);
+    let place = store::thread(tables, Field::Place, t);
     if place == 0 {
         return results::plain(21);
     }
@@ -108,11 +109,11 @@ pub fn set_priority(tables: &mut [u32], t: usize, p: u32) -> Answer
     requires { ⌜ Shown (now tables) (Asked (InRange t p)) ⌝ }
     ensures { λ r. ⌜ Performs (now (tables .entry)) (now (tables .exit)) r (Asked (InRange t p)) (setPriority t p) ⌝ }
 {
-    let place = store::place(tables, t);
+    let place = store::thread(tables, Field::Place, t);
     if place == 0 {
         return results::plain(21);
     }
-    let old = store::priority(tables, t);
+    let old = store::thread(tables, Field::Priority, t);
     if old == p {
         return results::done(tables);
     }

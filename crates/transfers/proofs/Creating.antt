@@ -18,7 +18,8 @@ use Rattle.machine.proofs.Debts.{live-present}
 use Rattle.layout.specs.Words.{statusCode}
 use Rattle.store.specs.Steps.{Shown, Does, Tells}
 use Rattle.store.specs.Store.{IsEndpoint, standing, Stands}
-use Rattle.store.specs.Readings.{statusIn}
+use Rattle.layout.specs.declared.Part.{Part}
+use Rattle.store.specs.Readings.{endpointIn}
 use Rattle.queues.specs.Queues.{Loose, Chooses}
 use Rattle.results.specs.Results.{Asked, Performs}
 use Rattle.results.proofs.Ends.{refused, performs-as, performs-after, does-for}
@@ -44,7 +45,7 @@ standing-chooses {s} e x M = record { running = λ t r. loose t r }
               (aside t r e) (λ k n. aside t r k));
         }
 
-module _ {m : List ℕ} {e r : ℕ} (T : Tells m (IsEndpoint e) r (statusIn e)) where
+module _ {m : List ℕ} {e r : ℕ} (T : Tells m (IsEndpoint e) r (endpointIn Part.Status e)) where
   pub present-refused :
       {a : Answer} → (r ≡ 0 → ⊥) → a ≡ plain 24 → Performs m m a (Asked (e ≤ 63)) (createEndpoint e)
   unfolding createEndpoint createAt

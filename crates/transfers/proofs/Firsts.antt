@@ -21,7 +21,8 @@ use Rattle.links.specs.Links.{First}
 use Rattle.layout.proofs.Chains.{first-zero}
 use Rattle.store.specs.Steps.{Tells}
 use Rattle.store.specs.Store.{IsThread}
-use Rattle.store.specs.Readings.{placeIn}
+use Rattle.layout.specs.declared.Field.{Field}
+use Rattle.store.specs.Readings.{threadIn}
 use Rattle.debts.specs.Debts.{AllAt, Alike}
 use Rattle.debts.proofs.Beginning.{first-waits, first-waiter, waits, small}
 use Rattle.transfers.specs.Transfers.{FirstAt}
@@ -74,7 +75,7 @@ module _ (e : ℕ) {m : List ℕ} {r : ℕ} (F : First m (256 + e) r) where
   pub at-empty : {code : ℕ} → r ≡ 0 → FirstAt m e code 0
   at-empty z = record { sends = λ k. none-of isSending z; receives = λ k. none-of isReceiving z }
 
-  module _ {p : ℕ} (z : r ≡ 0 → ⊥) (P : Tells m (IsThread (r - 1)) p (placeIn (r - 1))) where
+  module _ {p : ℕ} (z : r ≡ 0 → ⊥) (P : Tells m (IsThread (r - 1)) p (threadIn Field.Place (r - 1))) where
     -- The first is at the place of which all are.
     place-is : (s : State) (x : Place) → Shows m s → e ≤ 63 → AllAt x e s → p ≡ placeCode x
     place-is s x M h f = P .tells s M (small e F s M h z) ∙ ap placeCode (f (r - 1) (waits e F s M z))

@@ -18,7 +18,8 @@ use Rattle.layout.specs.Words.{statusCode}
 use Rattle.layout.specs.Shows.{Shows}
 use Rattle.store.specs.Steps.{Shown, Does, Tells}
 use Rattle.store.specs.Store.{IsEndpoint}
-use Rattle.store.specs.Readings.{statusIn}
+use Rattle.layout.specs.declared.Part.{Part}
+use Rattle.store.specs.Readings.{endpointIn}
 use Rattle.queues.specs.Queues.{Chooses, Comes, Waits}
 use Rattle.debts.specs.Debts.{Says, Debtor, underIn}
 use Rattle.results.specs.Results.{Calling, Performs}
@@ -85,7 +86,7 @@ module _ {m : List ℕ} {t e b x r : ℕ} (F : FirstAt m e (66 + e) r) where
           (sym (first-some (receivers (s .threads) (s .endpoints e .waiters)) (link-is s M h) z)))
 
 -- The whole call.
-module _ {m : List ℕ} {t e b x r : ℕ} (T : Tells m (IsEndpoint e) r (statusIn e)) where
+module _ {m : List ℕ} {t e b x r : ℕ} (T : Tells m (IsEndpoint e) r (endpointIn Part.Status e)) where
   status-is : (s : State) → Shows m s → Calling t (Sent e b x) s → r ≡ statusCode (s .endpoints e .status)
   status-is s M h = T .tells s M (h .numbers .0)
 

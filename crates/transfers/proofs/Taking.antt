@@ -16,7 +16,9 @@ use Rattle.layout.specs.Words.{statusCode}
 use Rattle.layout.specs.Shows.{Shows}
 use Rattle.store.specs.Steps.{Shown, Does, Tells}
 use Rattle.store.specs.Store.{IsThread, IsEndpoint}
-use Rattle.store.specs.Readings.{statusIn, badgeIn, messageIn}
+use Rattle.layout.specs.declared.Field.{Field}
+use Rattle.layout.specs.declared.Part.{Part}
+use Rattle.store.specs.Readings.{endpointIn, threadIn}
 use Rattle.queues.specs.Queues.{Chooses, Comes, Waits}
 use Rattle.debts.specs.Debts.{Debtor, firstSender}
 use Rattle.results.specs.Results.{Calling, Performs, Accepts, answerOf}
@@ -56,7 +58,8 @@ module _ {u e : ℕ} where
     taken-asked S = shown-next wakes (λ s M h. chooses s h) S
 
     pub taken :
-        {o : List ℕ} {a : Answer} {b x : ℕ} → Tells m (IsThread u) b (badgeIn u) → Tells m (IsThread u) x (messageIn u)
+        {o : List ℕ} {a : Answer} {b x : ℕ} → Tells m (IsThread u) b (threadIn Field.Badge u)
+        → Tells m (IsThread u) x (threadIn Field.Message u)
         → Accepts n (answerOf 0 0 b x) a Chooses o → Performs m o a (Takes u e) (takingFrom e u)
     taken {b = b} {x = x} B X A =
         record {
@@ -101,7 +104,7 @@ module _ {m : List ℕ} {t e r : ℕ} (F : FirstAt m e (2 + e) r) where
         (sym (first-some (senders (s .threads) (s .endpoints e .waiters)) (link-is s M h) z)))
 
 -- The whole call.
-module _ {m : List ℕ} {t e r : ℕ} (T : Tells m (IsEndpoint e) r (statusIn e)) where
+module _ {m : List ℕ} {t e r : ℕ} (T : Tells m (IsEndpoint e) r (endpointIn Part.Status e)) where
   status-is : (s : State) → Shows m s → Calling t (e ≤ 63) s → r ≡ statusCode (s .endpoints e .status)
   status-is s M h = T .tells s M (h .numbers)
 

@@ -10,6 +10,8 @@ ghost use Rattle.debts.specs.Debts.{Alike};
 ghost use Rattle.results.specs.Results.{Asked, Calling, Performs};
 ghost use Rattle.transfers.specs.Transfers.{Dropped, Takes, FirstAt, Suspends, firing, handing, taking};
 ghost use Rattle.transfers.specs.Transfers.{takingFrom};
+use layout::Field;
+use layout::Part;
 use machine::Answer;
 
 // The running thread t blocks at a place: code 1.
@@ -27,7 +29,7 @@ pub fn create_endpoint(tables: &mut [u32], e: usize) -> Answer
     requires { ⌜ Shown (now tables) (Asked (e ≤ 63)) ⌝ }
     ensures { λ r. ⌜ Performs (now (tables .entry)) (now (tables .exit)) r (Asked (e ≤ 63)) (createEndpoint e) ⌝ }
 {
-    let status = store::status(tables, e);
+    let status = store::endpoint(tables, Part::Status, e);
     if status != 0 {
         return results::plain(24);
     }
@@ -71,7 +73,7 @@ fn first_at(tables: &[u32], e: usize, place: u32) -> u32
     if link == 0 {
         return 0;
     }
-    let at = store::place(tables, (link - 1) as usize);
+    let at = store::thread(tables, Field::Place, (link - 1) as usize);
     if at != place {
         return 0;
     }
@@ -99,7 +101,7 @@ pub fn send(tables: &mut [u32], t: usize, e: usize, badge: u32, message: u32) ->
     ensures { λ r. ⌜ Performs (now (tables .entry)) (now (tables .exit)) r
         (Calling t ((e ≤ 63) × (badge < 2 ^ 28) × (message < 2 ^ 28))) (sending t e badge message) ⌝ }
 {
-    let status = store::status(tables, e);
+    let status = store::endpoint(tables, Part::Status, e);
     if status == 0 {
         return results::plain(23);
     }
@@ -119,8 +121,8 @@ fn take_from(tables: &mut [u32], e: usize, u: usize) -> Answer
     requires { ⌜ Shown (now tables) (Takes u e) ⌝ }
     ensures { λ r. ⌜ Performs (now (tables .entry)) (now (tables .exit)) r (Takes u e) (takingFrom e u) ⌝ }
 {
-    let badge = store::badge(tables, u);
-    let message = store::message(tables, u);
+    let badge = store::thread(tables, Field::Badge, u);
+    let message = store::thread(tables, Field::Message, u);
     queues::wake_from(tables, e, u, 1, 0, 0);
     let answer = Answer {
         code: 0,
@@ -149,7 +151,7 @@ pub fn receive(tables: &mut [u32], t: usize, e: usize) -> Answer
     requires { ⌜ Shown (now tables) (Calling t (e ≤ 63)) ⌝ }
     ensures { λ r. ⌜ Performs (now (tables .entry)) (now (tables .exit)) r (Calling t (e ≤ 63)) (receiving t e) ⌝ }
 {
-    let status = store::status(tables, e);
+    let status = store::endpoint(tables, Part::Status, e);
     if status == 0 {
         return results::plain(23);
     }

@@ -8,7 +8,9 @@ use native.Mathlib.Omega.{arith}
 use lib.Dec.{eqb, leb}
 use lib.ListN.{length}
 use borrow.Author.Tests.{eq-eqb, ne-eqb, le-leb, lt-leb}
-use Rattle.layout.specs.Addresses.{word, linkAt, head, tail, next, prev, place, badge, status, aborting, cursor, end}
+use Rattle.layout.specs.declared.Field.{Field}
+use Rattle.layout.specs.declared.Part.{Part}
+use Rattle.layout.specs.Addresses.{word, linkAt, head, tail, next, prev}
 use Rattle.checks.specs.Checks.{Phase, ahead, inside, past, enter, leave, allowed, complete, threadIn, endpointIn}
 use Rattle.checks.specs.Checks.{kindOf, bannedOf, waitersFrom, waitersTest, statusTest, abortTest, endpointTest}
 use Rattle.checks.specs.Checks.{metFrom, metBelow, met}
@@ -47,8 +49,8 @@ pub record WaitersAt (m : List ℕ) (e k c d b : ℕ) (before after : List ℕ) 
 -- Thread t is met behind link x, in phase f, as it should be.
 abbrev met-well : List ℕ → ℕ → ℕ → ℕ → Phase → ℕ → ℕ → Bool
 met-well m k c b f x t =
-    leb t 255 && eqb (word m (linkAt (prev t))) x && eqb (threadIn m place t) k
-    && allowed (enter f c (suc t)) b (threadIn m badge t)
+    leb t 255 && eqb (word m (linkAt (prev t))) x && eqb (threadIn m Field.Place t) k
+    && allowed (enter f c (suc t)) b (threadIn m Field.Badge t)
 
 module _ (m : List ℕ) (q k c d b : ℕ) where
   -- One turn more makes no difference where the walk comes to its end.
@@ -84,8 +86,8 @@ module _ (m : List ℕ) (q k c d b : ℕ) where
   -- The thread of link y, behind link x and in phase f, is as it should be.
   abbrev pub Stands : Phase → ℕ → ℕ → Bool → Type 0
   Stands f x y r =
-      r ≡ (eqb (word m (linkAt (prev (y - 1)))) x && eqb (threadIn m place (y - 1)) k
-      && allowed f b (threadIn m badge (y - 1)))
+      r ≡ (eqb (word m (linkAt (prev (y - 1)))) x && eqb (threadIn m Field.Place (y - 1)) k
+      && allowed f b (threadIn m Field.Badge (y - 1)))
 
   waiters-not :
       (left y : ℕ) (f : Phase) (x : ℕ) {h : Phase} {r : Bool} → 0 < left → (y ≡ 0 → ⊥) → y ≤ 256
@@ -113,7 +115,7 @@ module _ (m : List ℕ) (q k c d b : ℕ) where
 
 module _ (m : List ℕ) (e k : ℕ) where
   pub waiters-holds :
-      (s : List ℕ) {c d b y : ℕ} → length s ≡ 256 → c ≡ endpointIn m cursor e → d ≡ endpointIn m end e
+      (s : List ℕ) {c d b y : ℕ} → length s ≡ 256 → c ≡ endpointIn m Part.Cursor e → d ≡ endpointIn m Part.End e
       → b ≡ bannedOf m e k → y ≡ word m (linkAt (head (256 + e))) → WaitersAt m e k c d b s s ahead 0 y 257
   waiters-holds s {c} {d} {b} {y} h i j l o =
       rw (i, j, l, o) (record { few = omega arith; kept = h; same = refl; passed = passed-none _ _ })
@@ -121,7 +123,7 @@ module _ (m : List ℕ) (e k : ℕ) where
   waiters-met : waitersAs m e k ≡ true → metFrom 257 (word m (linkAt (head (256 + e)))) m ≡ met m (256 + e)
   unfolding met
   waiters-met h =
-      waiters-short m (256 + e) k (endpointIn m cursor e) (endpointIn m end e) (bannedOf m e k) 256
+      waiters-short m (256 + e) k (endpointIn m Part.Cursor e) (endpointIn m Part.End e) (bannedOf m e k) 256
       (word m (linkAt (head (256 + e)))) ahead 0 h
 
   module _
@@ -178,17 +180,18 @@ module _ (m : List ℕ) (e : ℕ) {k : ℕ} (kind : k ≡ kindOf (word m (linkAt
   -- What is tried before the walk.
   abbrev pub first-tests : Bool
   first-tests =
-      statusTest (endpointIn m status e) m e && abortTest (endpointIn m aborting e) m e && kindFits m e k
+      statusTest (endpointIn m Part.Status e) m e && abortTest (endpointIn m Part.Aborting e) m e && kindFits m e k
 
   endpoint-is : endpointTest m e ≡ (first-tests && waitersAs m e k)
   unfolding endpointTest waitersTest
   endpoint-is = rw (← kind)
-      (and-assoc (statusTest (endpointIn m status e) m e && abortTest (endpointIn m aborting e) m e) (kindFits m e k)
+      (and-assoc (statusTest (endpointIn m Part.Status e) m e && abortTest (endpointIn m Part.Aborting e) m e)
+      (kindFits m e k)
       (waitersAs m e k))
 
   module _
-      {s a n : Bool} (is-status : s ≡ statusTest (endpointIn m status e) m e)
-      (is-abort : a ≡ abortTest (endpointIn m aborting e) m e) (fits : n ≡ kindFits m e k)
+      {s a n : Bool} (is-status : s ≡ statusTest (endpointIn m Part.Status e) m e)
+      (is-abort : a ≡ abortTest (endpointIn m Part.Aborting e) m e) (fits : n ≡ kindFits m e k)
     where
       tests-are : first-tests ≡ (s && a && n)
       tests-are = rw (is-status, is-abort, fits)

@@ -3,7 +3,9 @@ use Prim.Native.Nat.{ℕ, _+_}
 use mathlib.Core.Bool.{Bool, _&&_, _||_}
 use mathlib.Core.List.{List}
 use lib.Dec.{eqb}
-use Rattle.layout.specs.Addresses.{place, badge, cursor, end, prev, linkAt, word, afterAt}
+use Rattle.layout.specs.declared.Field.{Field}
+use Rattle.layout.specs.declared.Part.{Part}
+use Rattle.layout.specs.Addresses.{prev, linkAt, word, afterAt}
 use Rattle.walks.specs.declared.phases.Phase.{Phase as InCode}
 use Rattle.walks.specs.declared.phases.Phase.the-variants.{Ahead, Inside, Past}
 use Rattle.checks.specs.Checks.{Phase, ahead, inside, past, threadIn, endpointIn, readyTest, allowed}
@@ -21,14 +23,15 @@ readyBehind m p x t = eqb (word m (linkAt (prev t))) x && readyTest m p t
 -- Thread t behind link x of an endpoint's queue, in phase f: linked back, of place k, and allowed where b is banned.
 abbrev pub standsBehind : List ℕ → ℕ → ℕ → Phase → ℕ → ℕ → Bool
 standsBehind m k b f x t =
-    eqb (word m (linkAt (prev t))) x && eqb (threadIn m place t) k && allowed f b (threadIn m badge t)
+    eqb (word m (linkAt (prev t))) x && eqb (threadIn m Field.Place t) k && allowed f b (threadIn m Field.Badge t)
 
 -- The queue of endpoint e, whose threads have place k.
 abbrev pub waitersAs : List ℕ → ℕ → ℕ → Bool
 waitersAs m e k =
-    waitersFrom 257 (word m (afterAt (256 + e) 0)) ahead m (256 + e) k (endpointIn m cursor e) (endpointIn m end e)
+    waitersFrom 257 (word m (afterAt (256 + e) 0)) ahead m (256 + e) k (endpointIn m Part.Cursor e)
+    (endpointIn m Part.End e)
     (bannedOf m e k) 0
 
 -- The place k is that of its senders, or of its receivers where there are no marks.
 abbrev pub kindFits : List ℕ → ℕ → ℕ → Bool
-kindFits m e k = eqb k (2 + e) || (eqb k (66 + e) && eqb (endpointIn m cursor e) 0)
+kindFits m e k = eqb k (2 + e) || (eqb k (66 + e) && eqb (endpointIn m Part.Cursor e) 0)

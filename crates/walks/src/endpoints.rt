@@ -3,21 +3,24 @@
 ghost use mathlib.Core.Path.{_≡_};
 ghost use Prim.Native.Nat.{_+_, _≤_};
 ghost use lib.ListN.{length};
-ghost use Rattle.layout.specs.Addresses.{word, linkAt, head, status, aborting, owner};
+ghost use Rattle.layout.specs.declared.Part.{Part};
+ghost use Rattle.layout.specs.Addresses.{word, linkAt, head};
 ghost use Rattle.layout.specs.Tests.{all};
 ghost use Rattle.checks.specs.Checks.{endpointIn, kindOf, bannedOf, ownerTest, abortTest};
 ghost use Rattle.checks.specs.Checks.{statusTest, endpointTest, met, metBelow};
 ghost use Rattle.walks.specs.Steps.{phaseOf, standsBehind, waitersAs, kindFits};
 ghost use Rattle.walks.specs.Marks.{marksOf, Walk, Walks};
 use crate::phases::Phase;
+use layout::Field;
+use layout::Part;
 
 // An absent endpoint is empty; an absent or closing one has no abort.
 fn status(tables: &[u32], e: usize) -> bool
     requires { ⌜ (length (now tables) ≡ 4096) × (e ≤ 63) ⌝ }
-    ensures { λ r. ⌜ r ≡ statusTest (endpointIn (now (tables .entry)) status e) (now (tables .entry)) e ⌝ }
+    ensures { λ r. ⌜ r ≡ statusTest (endpointIn (now (tables .entry)) Part.Status e) (now (tables .entry)) e ⌝ }
 {
-    let status = reads::status(tables, e);
-    let aborting = reads::aborting(tables, e);
+    let status = reads::endpoint(tables, Part::Status, e);
+    let aborting = reads::endpoint(tables, Part::Aborting, e);
     if status == 0 {
         return (reads::head(tables, 256 + e) == 0) & (aborting == 0);
     }
@@ -30,29 +33,32 @@ fn status(tables: &[u32], e: usize) -> bool
 // An owner owes: it names the endpoint.
 fn owner(tables: &[u32], e: usize) -> bool
     requires { ⌜ (length (now tables) ≡ 4096) × (e ≤ 63) ⌝ }
-    ensures { λ r. ⌜ r ≡ ownerTest (endpointIn (now (tables .entry)) owner e) (now (tables .entry)) e ⌝ }
+    ensures { λ r. ⌜ r ≡ ownerTest (endpointIn (now (tables .entry)) Part.Owner e) (now (tables .entry)) e ⌝ }
 {
-    let owner = reads::owner(tables, e);
+    let owner = reads::endpoint(tables, Part::Owner, e);
     if owner == 0 {
         return true;
     }
     if 256 < owner {
         return false;
     }
-    reads::owes(tables, owner - 1) == e + 1
+    reads::thread(tables, Field::Owes, owner - 1) == e + 1
 }
 
 // No abort, or one of a badge in range.
 fn abort(tables: &[u32], e: usize) -> bool
     requires { ⌜ (length (now tables) ≡ 4096) × (e ≤ 63) ⌝ }
-    ensures { λ r. ⌜ r ≡ abortTest (endpointIn (now (tables .entry)) aborting e) (now (tables .entry)) e ⌝ }
+    ensures { λ r. ⌜ r ≡ abortTest (endpointIn (now (tables .entry)) Part.Aborting e) (now (tables .entry)) e ⌝ }
 {
-    let aborting = reads::aborting(tables, e);
-    let badge = reads::aborted(tables, e);
-    let cursor = reads::cursor(tables, e);
-    let end = reads::end(tables, e);
+    let aborting = reads::endpoint(tables, Part::Aborting, e);
+    let badge = reads::endpoint(tables, Part::Aborted, e);
+    let cursor = reads::endpoint(tables, Part::Cursor, e);
+    let end = reads::endpoint(tables, Part::End, e);
     if aborting == 0 {
-        return (badge == 0) & (reads::owner(tables, e) == 0) & (cursor == 0) & (end == 0);
+        return (badge == 0)
+            & (reads::endpoint(tables, Part::Owner, e) == 0)
+            & (cursor == 0)
+            & (end == 0);
     }
     if 1 < aborting {
         return false;
@@ -72,7 +78,7 @@ fn kind(tables: &[u32], e: usize) -> usize
     if 256 < y {
         return 0;
     }
-    reads::place(tables, y - 1)
+    reads::thread(tables, Field::Place, y - 1)
 }
 
 // The badge that may not stand outside the marks, 2^28 where there is none.
@@ -80,8 +86,8 @@ fn banned(tables: &[u32], e: usize, k: usize) -> usize
     requires { ⌜ (length (now tables) ≡ 4096) × (e ≤ 63) ⌝ }
     ensures { λ r. ⌜ r ≡ bannedOf (now (tables .entry)) e k ⌝ }
 {
-    if (reads::aborting(tables, e) == 1) & (k == 2 + e) {
-        return reads::aborted(tables, e);
+    if (reads::endpoint(tables, Part::Aborting, e) == 1) & (k == 2 + e) {
+        return reads::endpoint(tables, Part::Aborted, e);
     }
     0x1000_0000
 }
@@ -92,8 +98,8 @@ fn stands(tables: &[u32], k: usize, b: usize, x: usize, t: usize, f: Phase) -> b
     ensures { λ r. ⌜ r ≡ standsBehind (now (tables .entry)) k b (phaseOf f) x t ⌝ }
 {
     let prev = reads::prev(tables, t);
-    let place = reads::place(tables, t);
-    let badge = reads::badge(tables, t);
+    let place = reads::thread(tables, Field::Place, t);
+    let badge = reads::thread(tables, Field::Badge, t);
     (prev == x) & (place == k) & crate::phases::allowed(f, b, badge)
 }
 
@@ -102,8 +108,8 @@ fn waiters(tables: &[u32], scratch: &mut [u32], e: usize, k: usize) -> bool
     ensures { λ r. ⌜ Walk (now (scratch .entry)) (now (scratch .exit)) (met (now (tables .entry)) (256 + e))
         (waitersAs (now (tables .entry)) e k) r ⌝ }
 {
-    let cursor = reads::cursor(tables, e);
-    let end = reads::end(tables, e);
+    let cursor = reads::endpoint(tables, Part::Cursor, e);
+    let end = reads::endpoint(tables, Part::End, e);
     let banned = banned(tables, e, k);
     let mut f = Phase::Ahead;
     let mut x: usize = 0;
@@ -135,7 +141,7 @@ fn fits(tables: &[u32], e: usize, k: usize) -> bool
     requires { ⌜ (length (now tables) ≡ 4096) × (e ≤ 63) ⌝ }
     ensures { λ r. ⌜ r ≡ kindFits (now (tables .entry)) e k ⌝ }
 {
-    (k == 2 + e) | ((k == 66 + e) & (reads::cursor(tables, e) == 0))
+    (k == 2 + e) | ((k == 66 + e) & (reads::endpoint(tables, Part::Cursor, e) == 0))
 }
 
 fn endpoint(tables: &[u32], scratch: &mut [u32], e: usize) -> bool

@@ -7,6 +7,7 @@ ghost use Rattle.layout.specs.Tests.{all};
 ghost use Rattle.checks.specs.Checks.{levelTest, met, metBelow};
 ghost use Rattle.walks.specs.Steps.{readyBehind};
 ghost use Rattle.walks.specs.Marks.{marksOf, Walk, Walks};
+use layout::Field;
 
 // Thread t, met behind link x in the queue of level p: it is linked back, and ready at p.
 fn ready(tables: &[u32], p: usize, x: usize, t: usize) -> bool
@@ -14,8 +15,8 @@ fn ready(tables: &[u32], p: usize, x: usize, t: usize) -> bool
     ensures { λ r. ⌜ r ≡ readyBehind (now (tables .entry)) p x t ⌝ }
 {
     let prev = reads::prev(tables, t);
-    let place = reads::place(tables, t);
-    let priority = reads::priority(tables, t);
+    let place = reads::thread(tables, Field::Place, t);
+    let priority = reads::thread(tables, Field::Priority, t);
     let running = reads::running(tables);
     (prev == x) & ((place == 1) & (priority == p) & (running != t + 1))
 }

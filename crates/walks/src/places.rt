@@ -6,6 +6,7 @@ ghost use lib.ListN.{length};
 ghost use Rattle.layout.specs.Tests.{all};
 ghost use Rattle.checks.specs.Checks.{placedTest, metBelow};
 ghost use Rattle.walks.specs.Marks.{marksOf};
+use layout::Field;
 
 fn place(tables: &[u32], scratch: &[u32], t: usize) -> bool
     requires { ⌜ (length (now tables) ≡ 4096) × (length (now scratch) ≡ 256)
@@ -13,7 +14,7 @@ fn place(tables: &[u32], scratch: &[u32], t: usize) -> bool
     ensures { λ r. ⌜ r ≡ placedTest (now (tables .entry)) t ⌝ }
 {
     let met = crate::marks::marked(scratch, t);
-    let place = reads::place(tables, t);
+    let place = reads::thread(tables, Field::Place, t);
     let running = reads::running(tables);
     let queued = ((place == 1) & (running != t + 1)) | ((2 <= place) & (place < 130));
     let bare = (reads::next(tables, t) == 0) & (reads::prev(tables, t) == 0);

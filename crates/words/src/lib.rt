@@ -3,10 +3,11 @@
 ghost use mathlib.Core.Path.{_≡_};
 ghost use Prim.Native.Nat.{_≤_, _<_};
 ghost use lib.ListN.{length, set};
-ghost use Rattle.layout.specs.Addresses.{at, linkAt, word, afterAt, beforeAt, ofThread, ofEndpoint, ofLine, summary};
-ghost use Rattle.layout.specs.Addresses.{top, running, unused, place, priority, ticks, outcome, badge, message, owes};
-ghost use Rattle.layout.specs.Addresses.{note, status, aborting, aborted, owner, cursor, end, next, prev, head, tail};
+ghost use Rattle.layout.specs.Addresses.{column, offset, at, linkAt, word, afterAt, beforeAt, ofThread, ofEndpoint};
+ghost use Rattle.layout.specs.Addresses.{ofLine, summary, top, running, unused, next, prev, head, tail};
 ghost use Rattle.words.specs.Access.{Address};
+use layout::Field;
+use layout::Part;
 
 // The word at an address.
 pub fn get(tables: &[u32], i: usize) -> u32
@@ -24,116 +25,50 @@ pub fn put(tables: &mut [u32], i: usize, v: u32)
     tables[i] = v;
 }
 
-// The place of thread t.
-pub fn place_at(t: usize) -> usize
-    requires { ⌜ t ≤ 255 ⌝ }
-    ensures { λ r. ⌜ Address r (at (ofThread place t)) ⌝ }
+// The place of a word in its thread's ten.
+fn column_of(f: Field) -> usize
+    ensures { λ r. ⌜ (r ≡ column f) × (r < 10) ⌝ }
 {
-    10 * t
+    match f {
+        Field::Place => 0,
+        Field::Priority => 1,
+        Field::Ticks => 2,
+        Field::Outcome => 3,
+        Field::Badge => 4,
+        Field::Message => 5,
+        Field::Owes => 8,
+        Field::Note => 9,
+    }
 }
 
-// The priority of thread t.
-pub fn priority_at(t: usize) -> usize
+// A word of thread t.
+pub fn thread_at(f: Field, t: usize) -> usize
     requires { ⌜ t ≤ 255 ⌝ }
-    ensures { λ r. ⌜ Address r (at (ofThread priority t)) ⌝ }
+    ensures { λ r. ⌜ Address r (at (ofThread f t)) ⌝ }
 {
-    10 * t + 1
+    10 * t + column_of(f)
 }
 
-// The ticks of thread t.
-pub fn ticks_at(t: usize) -> usize
-    requires { ⌜ t ≤ 255 ⌝ }
-    ensures { λ r. ⌜ Address r (at (ofThread ticks t)) ⌝ }
+// The place of a word in its endpoint's six.
+fn offset_of(p: Part) -> usize
+    ensures { λ r. ⌜ (r ≡ offset p) × (r < 6) ⌝ }
 {
-    10 * t + 2
+    match p {
+        Part::Status => 0,
+        Part::Aborting => 1,
+        Part::Aborted => 2,
+        Part::Owner => 3,
+        Part::Cursor => 4,
+        Part::End => 5,
+    }
 }
 
-// The outcome of thread t.
-pub fn outcome_at(t: usize) -> usize
-    requires { ⌜ t ≤ 255 ⌝ }
-    ensures { λ r. ⌜ Address r (at (ofThread outcome t)) ⌝ }
-{
-    10 * t + 3
-}
-
-// The badge of thread t.
-pub fn badge_at(t: usize) -> usize
-    requires { ⌜ t ≤ 255 ⌝ }
-    ensures { λ r. ⌜ Address r (at (ofThread badge t)) ⌝ }
-{
-    10 * t + 4
-}
-
-// The message of thread t.
-pub fn message_at(t: usize) -> usize
-    requires { ⌜ t ≤ 255 ⌝ }
-    ensures { λ r. ⌜ Address r (at (ofThread message t)) ⌝ }
-{
-    10 * t + 5
-}
-
-// The owes of thread t.
-pub fn owes_at(t: usize) -> usize
-    requires { ⌜ t ≤ 255 ⌝ }
-    ensures { λ r. ⌜ Address r (at (ofThread owes t)) ⌝ }
-{
-    10 * t + 8
-}
-
-// The note of thread t.
-pub fn note_at(t: usize) -> usize
-    requires { ⌜ t ≤ 255 ⌝ }
-    ensures { λ r. ⌜ Address r (at (ofThread note t)) ⌝ }
-{
-    10 * t + 9
-}
-
-// The status word of endpoint e.
-pub fn status_at(e: usize) -> usize
+// A word of endpoint e.
+pub fn endpoint_at(p: Part, e: usize) -> usize
     requires { ⌜ e ≤ 63 ⌝ }
-    ensures { λ r. ⌜ Address r (at (ofEndpoint status e)) ⌝ }
+    ensures { λ r. ⌜ Address r (at (ofEndpoint p e)) ⌝ }
 {
-    3200 + 6 * e
-}
-
-// The aborting word of endpoint e.
-pub fn aborting_at(e: usize) -> usize
-    requires { ⌜ e ≤ 63 ⌝ }
-    ensures { λ r. ⌜ Address r (at (ofEndpoint aborting e)) ⌝ }
-{
-    3201 + 6 * e
-}
-
-// The aborted word of endpoint e.
-pub fn aborted_at(e: usize) -> usize
-    requires { ⌜ e ≤ 63 ⌝ }
-    ensures { λ r. ⌜ Address r (at (ofEndpoint aborted e)) ⌝ }
-{
-    3202 + 6 * e
-}
-
-// The owner word of endpoint e.
-pub fn owner_at(e: usize) -> usize
-    requires { ⌜ e ≤ 63 ⌝ }
-    ensures { λ r. ⌜ Address r (at (ofEndpoint owner e)) ⌝ }
-{
-    3203 + 6 * e
-}
-
-// The cursor word of endpoint e.
-pub fn cursor_at(e: usize) -> usize
-    requires { ⌜ e ≤ 63 ⌝ }
-    ensures { λ r. ⌜ Address r (at (ofEndpoint cursor e)) ⌝ }
-{
-    3204 + 6 * e
-}
-
-// The end word of endpoint e.
-pub fn end_at(e: usize) -> usize
-    requires { ⌜ e ≤ 63 ⌝ }
-    ensures { λ r. ⌜ Address r (at (ofEndpoint end e)) ⌝ }
-{
-    3205 + 6 * e
+    3200 + 6 * e + offset_of(p)
 }
 
 // Line l.

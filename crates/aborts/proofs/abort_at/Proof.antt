@@ -6,8 +6,8 @@ use Rattle.aborts.proofs.Opening.{calls-asked, refused-missing, refused
 use Rattle.aborts.proofs.abort_at.Statement.{statement}
 use Rattle.aborts.proofs.abort_at.Tie as tie
 
-status-requires : tie.Need-status-requires
-status-requires c κs = search needs
+endpoint-requires : tie.Need-endpoint-requires
+endpoint-requires c κs = search needs
 
 plain-requires : tie.Need-plain-requires
 plain-requires c κs = search needs
@@ -19,7 +19,7 @@ returns : tie.Need-returns
 returns c =
     let at-if1 = c .before in
     let at-status = at-if1 .before in
-    refused-missing (at-status .status .ensures) (at-if1 .if1 .taken) (c .plain .ensures)
+    refused-missing (at-status .endpoint .ensures) (at-if1 .if1 .taken) (c .plain .ensures)
 
 plain-requires-2 : tie.Need-plain-requires-2
 plain-requires-2 c κs = search needs
@@ -31,7 +31,7 @@ returns-2 : tie.Need-returns-2
 returns-2 c =
     let at-if2 = c .before in
     let at-status = at-if2 .before .before in
-    refused-closing (at-status .status .ensures) (at-if2 .if2 .taken) (c .plain2 .ensures)
+    refused-closing (at-status .endpoint .ensures) (at-if2 .if2 .taken) (c .plain2 .ensures)
 
 drop-other-requires : tie.Need-drop-other-requires
 drop-other-requires c κs = calls-asked (c .before .before .before .before .before .before .pre)
@@ -43,7 +43,7 @@ abort-open-requires c κs =
     let at-if1 = at-if2 .before in
     let at-status = at-if1 .before in
     let at-start = at-status .before .before .before in (
-      owing-asked (at-status .status .ensures) (at-if1 .if1 .left) (at-if2 .if2 .left)
+      owing-asked (at-status .endpoint .ensures) (at-if1 .if1 .left) (at-if2 .if2 .left)
           (at-drop-other .drop-other .ensures) (at-start .pre),
       omega (arith, at-start .pre .holds .numbers .1),
       at-start .pre .holds .numbers .2,
@@ -59,14 +59,14 @@ returns-3 c =
     let at-if2 = at-drop-other .before .before in
     let at-if1 = at-if2 .before in
     let at-status = at-if1 .before in
-    opened (at-status .status .ensures) (at-if1 .if1 .left) (at-if2 .if2 .left) (at-drop-other .drop-other .ensures)
+    opened (at-status .endpoint .ensures) (at-if1 .if1 .left) (at-if2 .if2 .left) (at-drop-other .drop-other .ensures)
     (at-abort-open .abort-open .ensures)
 
 pub abort-at-spec : {M : Type 1} → statement M
 abort-at-spec =
     tie.close
     (tie.spec
-    status-requires
+    endpoint-requires
     plain-requires
     same-length
     returns

@@ -6,15 +6,15 @@ use Rattle.aborts.proofs.Opening.{clear-shown, opens-other}
 use Rattle.aborts.proofs.abort_open.Statement.{statement}
 use Rattle.aborts.proofs.abort_open.Tie as tie
 
-aborting-requires : tie.Need-aborting-requires
-aborting-requires c κs = search needs
+endpoint-requires : tie.Need-endpoint-requires
+endpoint-requires c κs = search needs
 
 begin-own-requires : tie.Need-begin-own-requires
 begin-own-requires c κs =
     let at-if1 = c .before in
     let at-aborting = at-if1 .before in
     let at-start = at-aborting .before .before .before in (
-      bare-shown (at-aborting .aborting .ensures) (at-if1 .if1 .taken) (at-start .pre .0),
+      bare-shown (at-aborting .endpoint .ensures) (at-if1 .if1 .taken) (at-start .pre .0),
       search needs,
       at-start .pre .2,
     )
@@ -27,7 +27,7 @@ returns c =
     let at-begin-own = c .before .before in
     let at-if1 = at-begin-own .before .before in
     let at-aborting = at-if1 .before in
-    opens-none (at-aborting .aborting .ensures) (at-if1 .if1 .taken) _ (at-begin-own .begin-own .ensures)
+    opens-none (at-aborting .endpoint .ensures) (at-if1 .if1 .taken) _ (at-begin-own .begin-own .ensures)
 
 under-abort-requires : tie.Need-under-abort-requires
 under-abort-requires c κs = search needs
@@ -69,14 +69,14 @@ returns-3 c =
     let at-under-abort = at-if2 .before in
     let at-if1 = at-under-abort .before .before in
     let at-aborting = at-if1 .before in
-    opens-other (at-under-abort .under-abort .ensures) (at-if2 .if2 .left) _ (at-aborting .aborting .ensures)
+    opens-other (at-under-abort .under-abort .ensures) (at-if2 .if2 .left) _ (at-aborting .endpoint .ensures)
     (at-if1 .if1 .left) (at-work-other .work-other .ensures)
 
 pub abort-open-spec : {M : Type 1} → statement M
 abort-open-spec =
     tie.close
     (tie.spec
-    aborting-requires
+    endpoint-requires
     begin-own-requires
     same-length
     returns

@@ -6,8 +6,8 @@ use Rattle.aborts.proofs.Working.{own-ended}
 use Rattle.aborts.proofs.end_own.Statement.{statement}
 use Rattle.aborts.proofs.end_own.Tie as tie
 
-cursor-requires : tie.Need-cursor-requires
-cursor-requires c κs = search needs
+endpoint-requires : tie.Need-endpoint-requires
+endpoint-requires c κs = search needs
 
 counted-requires : tie.Need-counted-requires
 counted-requires c κs = search needs
@@ -54,14 +54,14 @@ returns-2 c =
     let at-drop-debt = at-end-abort .before .before .before .before in
     let at-if1 = at-drop-debt .before .before in
     let at-cursor = at-if1 .before in
-    own-ended (at-cursor .cursor .ensures) (at-if1 .if1 .left) (at-drop-debt .drop-debt .ensures)
+    own-ended (at-cursor .endpoint .ensures) (at-if1 .if1 .left) (at-drop-debt .drop-debt .ensures)
     (at-end-abort .end-abort .ensures) (at-counted2 .counted2 .ensures) (at-accept2 .accept2 .ensures)
 
 pub end-own-spec : {M : Type 1} → statement M
 end-own-spec =
     tie.close
     (tie.spec
-    cursor-requires
+    endpoint-requires
     counted-requires
     accept-requires
     same-length

@@ -6,8 +6,8 @@ use borrow.Author.Needs.{needs}
 use Rattle.aborts.proofs.look.Statement.{statement}
 use Rattle.aborts.proofs.look.Tie as tie
 
-badge-requires : tie.Need-badge-requires
-badge-requires c κs = search thread-asked
+thread-requires : tie.Need-thread-requires
+thread-requires c κs = search thread-asked
 
 under-abort-requires : tie.Need-under-abort-requires
 under-abort-requires c κs = search endpoint-asked
@@ -46,7 +46,7 @@ pub look-spec : {M : Type 1} → statement M
 look-spec =
     tie.close
     (tie.spec
-    badge-requires
+    thread-requires
     under-abort-requires
     wake-from-requires
     same-length

@@ -14,8 +14,8 @@ abbrev μ-loop : tie.MeasureT-loop
 loop-holds : tie.Need-loop-holds Inv-loop μ-loop
 loop-holds c = left-start (c .before .pre)
 
-cursor-requires : tie.Need-cursor-requires Inv-loop μ-loop
-cursor-requires c κs = search needs
+endpoint-requires : tie.Need-endpoint-requires Inv-loop μ-loop
+endpoint-requires c κs = search needs
 
 sub-result : tie.Need-sub-result Inv-loop μ-loop
 sub-result c = search needs
@@ -47,7 +47,7 @@ loop-again c =
     let at-if1 = at-look .before .before in
     let at-cursor = at-if1 .before in
     let at-loop = at-cursor .before .before .before in
-    looks-again (at-loop .loop .inv) (at-cursor .cursor .ensures) (at-if1 .if1 .left) (search needs)
+    looks-again (at-loop .loop .inv) (at-cursor .endpoint .ensures) (at-if1 .if1 .left) (search needs)
     (at-look .look .ensures)
 
 same-length-2 : tie.Need-same-length-2 Inv-loop μ-loop
@@ -63,7 +63,7 @@ look-up-to-spec =
     Inv-loop
     μ-loop
     loop-holds
-    cursor-requires
+    endpoint-requires
     sub-result
     same-length
     returns

@@ -9,8 +9,8 @@ use Rattle.aborts.proofs.work_other.Tie as tie
 look-up-to-requires : tie.Need-look-up-to-requires
 look-up-to-requires c κs = search needs
 
-cursor-requires : tie.Need-cursor-requires
-cursor-requires c κs =
+endpoint-requires : tie.Need-endpoint-requires
+endpoint-requires c κs =
     let at-look-up-to = c .before .before .before in
     let at-start = at-look-up-to .before .before .before in
     clear-endpoint (looked-clear (at-look-up-to .look-up-to .ensures) (at-start .pre .0))
@@ -34,7 +34,7 @@ returns c =
     let at-if1 = at-counted .before .before in
     let at-cursor = at-if1 .before in
     let at-look-up-to = at-cursor .before .before .before .before in
-    other-broken (at-look-up-to .look-up-to .ensures) (at-cursor .cursor .ensures) _ (at-if1 .if1 .taken)
+    other-broken (at-look-up-to .look-up-to .ensures) (at-cursor .endpoint .ensures) _ (at-if1 .if1 .taken)
     (at-counted .counted .ensures) (at-accept .accept .ensures)
 
 end-abort-requires : tie.Need-end-abort-requires
@@ -70,7 +70,7 @@ returns-2 c =
     let at-if1 = at-end-abort .before .before in
     let at-cursor = at-if1 .before in
     let at-look-up-to = at-cursor .before .before .before .before in
-    other-ended (at-look-up-to .look-up-to .ensures) (at-cursor .cursor .ensures) _ (at-if1 .if1 .left)
+    other-ended (at-look-up-to .look-up-to .ensures) (at-cursor .endpoint .ensures) _ (at-if1 .if1 .left)
     (at-end-abort .end-abort .ensures) (at-begin-after .begin-after .ensures)
 
 pub work-other-spec : {M : Type 1} → statement M
@@ -78,7 +78,7 @@ work-other-spec =
     tie.close
     (tie.spec
     look-up-to-requires
-    cursor-requires
+    endpoint-requires
     counted-requires
     accept-requires
     same-length

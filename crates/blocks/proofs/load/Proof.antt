@@ -4,47 +4,47 @@ use Rattle.blocks.proofs.Moves.{loaded}
 use Rattle.blocks.proofs.load.Statement.{statement}
 use Rattle.blocks.proofs.load.Tie as tie
 
-place-requires : tie.Need-place-requires
-place-requires c κs = search needs
+thread-requires : tie.Need-thread-requires
+thread-requires c κs = search needs
 
-priority-requires : tie.Need-priority-requires
-priority-requires c κs = search needs
+thread-requires-2 : tie.Need-thread-requires-2
+thread-requires-2 c κs = search needs
 
-ticks-requires : tie.Need-ticks-requires
-ticks-requires c κs = search needs
+thread-requires-3 : tie.Need-thread-requires-3
+thread-requires-3 c κs = search needs
 
-outcome-requires : tie.Need-outcome-requires
-outcome-requires c κs = search needs
+thread-requires-4 : tie.Need-thread-requires-4
+thread-requires-4 c κs = search needs
 
-badge-requires : tie.Need-badge-requires
-badge-requires c κs = search needs
+thread-requires-5 : tie.Need-thread-requires-5
+thread-requires-5 c κs = search needs
 
-message-requires : tie.Need-message-requires
-message-requires c κs = search needs
+thread-requires-6 : tie.Need-thread-requires-6
+thread-requires-6 c κs = search needs
 
-owes-requires : tie.Need-owes-requires
-owes-requires c κs = search needs
+thread-requires-7 : tie.Need-thread-requires-7
+thread-requires-7 c κs = search needs
 
-note-requires : tie.Need-note-requires
-note-requires c κs = search needs
+thread-requires-8 : tie.Need-thread-requires-8
+thread-requires-8 c κs = search needs
 
 returns : tie.Need-returns
 returns c =
     let d = c .before .before .before .before in
-    loaded _ (d .before .before .before .place .ensures) (d .before .before .priority .ensures)
-    (d .before .ticks .ensures) (d .outcome .ensures) (c .before .before .before .badge .ensures)
-    (c .before .before .message .ensures) (c .before .owes .ensures) (c .note .ensures)
+    loaded _ (d .before .before .before .thread .ensures) (d .before .before .thread2 .ensures)
+    (d .before .thread3 .ensures) (d .thread4 .ensures) (c .before .before .before .thread5 .ensures)
+    (c .before .before .thread6 .ensures) (c .before .thread7 .ensures) (c .thread8 .ensures)
 
 pub load-spec : {M : Type 1} → statement M
 load-spec =
     tie.close
     (tie.spec
-    place-requires
-    priority-requires
-    ticks-requires
-    outcome-requires
-    badge-requires
-    message-requires
-    owes-requires
-    note-requires
+    thread-requires
+    thread-requires-2
+    thread-requires-3
+    thread-requires-4
+    thread-requires-5
+    thread-requires-6
+    thread-requires-7
+    thread-requires-8
     returns)

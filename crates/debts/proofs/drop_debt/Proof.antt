@@ -5,8 +5,8 @@ use Rattle.debts.proofs.Dropping.{drop-none, owner-asked, owes-asked, d
 use Rattle.debts.proofs.drop_debt.Statement.{statement}
 use Rattle.debts.proofs.drop_debt.Tie as tie
 
-owes-requires : tie.Need-owes-requires
-owes-requires c κs = search needs
+thread-requires : tie.Need-thread-requires
+thread-requires c κs = search needs
 
 same-length : tie.Need-same-length
 same-length c = search needs
@@ -59,7 +59,7 @@ pub drop-debt-spec : {M : Type 1} → statement M
 drop-debt-spec =
     tie.close
     (tie.spec
-    owes-requires
+    thread-requires
     same-length
     returns
     sub-set-owner

@@ -14,14 +14,14 @@ first-requires c κs = search needs
 returns : tie.Need-returns
 returns c = search first-empty
 
-sub-place : tie.Need-sub-place
-sub-place c = search needs
+sub-thread : tie.Need-sub-thread
+sub-thread c = search needs
 
-cast-place : tie.Need-cast-place
-cast-place c = search needs
+cast-thread : tie.Need-cast-thread
+cast-thread c = search needs
 
-place-requires : tie.Need-place-requires
-place-requires c κs = search place-asked
+thread-requires : tie.Need-thread-requires
+thread-requires c κs = search place-asked
 
 add-sends : tie.Need-add-sends
 add-sends c = search needs
@@ -50,9 +50,9 @@ first-sender-spec =
     add-first
     first-requires
     returns
-    sub-place
-    cast-place
-    place-requires
+    sub-thread
+    cast-thread
+    thread-requires
     add-sends
     cast-sends
     returns-2

@@ -5,8 +5,8 @@ use Rattle.debts.proofs.Joining.{joiner-asked, join-owned, join-free}
 use Rattle.debts.proofs.join.Statement.{statement}
 use Rattle.debts.proofs.join.Tie as tie
 
-owner-requires : tie.Need-owner-requires
-owner-requires c κs = search needs
+endpoint-requires : tie.Need-endpoint-requires
+endpoint-requires c κs = search needs
 
 same-length : tie.Need-same-length
 same-length c = search needs
@@ -50,7 +50,7 @@ pub join-spec : {M : Type 1} → statement M
 join-spec =
     tie.close
     (tie.spec
-    owner-requires
+    endpoint-requires
     same-length
     returns
     add-set-owner

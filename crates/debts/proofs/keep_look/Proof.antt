@@ -11,11 +11,11 @@ next-cursor-requires c κs = search needs
 next-end-requires : tie.Need-next-end-requires
 next-end-requires c κs = search needs
 
-aborted-requires : tie.Need-aborted-requires
-aborted-requires c κs = search needs
+endpoint-requires : tie.Need-endpoint-requires
+endpoint-requires c κs = search needs
 
-owner-requires : tie.Need-owner-requires
-owner-requires c κs = search needs
+endpoint-requires-2 : tie.Need-endpoint-requires-2
+endpoint-requires-2 c κs = search needs
 
 set-abort-requires : tie.Need-set-abort-requires
 set-abort-requires c κs = search needs
@@ -30,8 +30,8 @@ returns c =
     let at-aborted = at-owner .before .before in
     let at-next-end = at-aborted .before .before in
     let at-next-cursor = at-next-end .before .before in
-    keeps (at-next-cursor .next-cursor .ensures) (at-next-end .next-end .ensures) (at-aborted .aborted .ensures)
-    (at-owner .owner .ensures) (at-set-abort .set-abort .ensures)
+    keeps (at-next-cursor .next-cursor .ensures) (at-next-end .next-end .ensures) (at-aborted .endpoint .ensures)
+    (at-owner .endpoint2 .ensures) (at-set-abort .set-abort .ensures)
 
 pub keep-look-spec : {M : Type 1} → statement M
 keep-look-spec =
@@ -39,8 +39,8 @@ keep-look-spec =
     (tie.spec
     next-cursor-requires
     next-end-requires
-    aborted-requires
-    owner-requires
+    endpoint-requires
+    endpoint-requires-2
     set-abort-requires
     same-length
     returns)

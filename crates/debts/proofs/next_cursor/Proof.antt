@@ -5,8 +5,8 @@ use Rattle.debts.proofs.Keeping.{cursor-none, cursor-next}
 use Rattle.debts.proofs.next_cursor.Statement.{statement}
 use Rattle.debts.proofs.next_cursor.Tie as tie
 
-end-requires : tie.Need-end-requires
-end-requires c κs = search needs
+endpoint-requires : tie.Need-endpoint-requires
+endpoint-requires c κs = search needs
 
 add-link : tie.Need-add-link
 add-link c = search needs
@@ -25,4 +25,4 @@ returns-2 c = search cursor-next
 
 pub next-cursor-spec : {M : Type 1} → statement M
 next-cursor-spec =
-    tie.close (tie.spec end-requires add-link cast-link returns next-requires returns-2)
+    tie.close (tie.spec endpoint-requires add-link cast-link returns next-requires returns-2)

@@ -5,8 +5,8 @@ use Rattle.debts.proofs.Keeping.{end-none, end-stays}
 use Rattle.debts.proofs.next_end.Statement.{statement}
 use Rattle.debts.proofs.next_end.Tie as tie
 
-end-requires : tie.Need-end-requires
-end-requires c κs = search needs
+endpoint-requires : tie.Need-endpoint-requires
+endpoint-requires c κs = search needs
 
 add-link : tie.Need-add-link
 add-link c = search needs
@@ -21,4 +21,4 @@ returns-2 : tie.Need-returns-2
 returns-2 c = search end-stays
 
 pub next-end-spec : {M : Type 1} → statement M
-next-end-spec = tie.close (tie.spec end-requires add-link cast-link returns returns-2)
+next-end-spec = tie.close (tie.spec endpoint-requires add-link cast-link returns returns-2)

@@ -5,8 +5,8 @@ use Rattle.debts.proofs.Ending.{note-nobody, owner-small, note-somebody
 use Rattle.debts.proofs.note_owner.Statement.{statement}
 use Rattle.debts.proofs.note_owner.Tie as tie
 
-owner-requires : tie.Need-owner-requires
-owner-requires c κs = search needs
+endpoint-requires : tie.Need-endpoint-requires
+endpoint-requires c κs = search needs
 
 same-length : tie.Need-same-length
 same-length c = search needs
@@ -14,8 +14,8 @@ same-length c = search needs
 returns : tie.Need-returns
 returns c = search note-nobody
 
-aborted-requires : tie.Need-aborted-requires
-aborted-requires c κs = search needs
+endpoint-requires-2 : tie.Need-endpoint-requires-2
+endpoint-requires-2 c κs = search needs
 
 sub-set-owes : tie.Need-sub-set-owes
 sub-set-owes c = search needs
@@ -48,10 +48,10 @@ pub note-owner-spec : {M : Type 1} → statement M
 note-owner-spec =
     tie.close
     (tie.spec
-    owner-requires
+    endpoint-requires
     same-length
     returns
-    aborted-requires
+    endpoint-requires-2
     sub-set-owes
     cast-set-owes
     add-set-owes

@@ -5,8 +5,8 @@ use Rattle.debts.proofs.Told.{owns-none, owns-some}
 use Rattle.debts.proofs.owns_this.Statement.{statement}
 use Rattle.debts.proofs.owns_this.Tie as tie
 
-owes-requires : tie.Need-owes-requires
-owes-requires c κs = search needs
+thread-requires : tie.Need-thread-requires
+thread-requires c κs = search needs
 
 add-code : tie.Need-add-code
 add-code c = search needs
@@ -15,14 +15,14 @@ cast-code : tie.Need-cast-code
 cast-code c = search needs
 
 returns : tie.Need-returns
-returns c = owns-none _ _ (c .before .owes .ensures) (c .if1 .taken)
+returns c = owns-none _ _ (c .before .thread .ensures) (c .if1 .taken)
 
 under-abort-requires : tie.Need-under-abort-requires
 under-abort-requires c κs = search needs
 
 returns-2 : tie.Need-returns-2
-returns-2 c = owns-some _ _ (c .before .before .owes .ensures) (c .before .if1 .left) (c .under-abort .ensures)
+returns-2 c = owns-some _ _ (c .before .before .thread .ensures) (c .before .if1 .left) (c .under-abort .ensures)
 
 pub owns-this-spec : {M : Type 1} → statement M
 owns-this-spec =
-    tie.close (tie.spec owes-requires add-code cast-code returns under-abort-requires returns-2)
+    tie.close (tie.spec thread-requires add-code cast-code returns under-abort-requires returns-2)

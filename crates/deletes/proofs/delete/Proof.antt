@@ -5,8 +5,8 @@ use Rattle.deletes.proofs.Deleting.{no-endpoint, drop-asked, end-asked,
 use Rattle.deletes.proofs.delete.Statement.{statement}
 use Rattle.deletes.proofs.delete.Tie as tie
 
-status-requires : tie.Need-status-requires
-status-requires c κs = search needs
+endpoint-requires : tie.Need-endpoint-requires
+endpoint-requires c κs = search needs
 
 plain-requires : tie.Need-plain-requires
 plain-requires c κs = search needs
@@ -40,7 +40,7 @@ delete-from-requires c κs =
     let at-end = c .before .before .before in
     let at-drop = at-end .before .before .before .before in
     let at-if1 = at-drop .before .before in
-    from-asked (at-if1 .before .status .ensures) (at-if1 .if1 .left) (at-drop .drop-debt .ensures)
+    from-asked (at-if1 .before .endpoint .ensures) (at-if1 .if1 .left) (at-drop .drop-debt .ensures)
     (at-end .end-abort .ensures) (at-if1 .before .before .before .before .pre)
 
 same-length-2 : tie.Need-same-length-2
@@ -51,14 +51,14 @@ returns-2 c =
     let at-end = c .before .before .before .before .before .before in
     let at-drop = at-end .before .before .before .before in
     let at-if1 = at-drop .before .before in
-    deletes (at-if1 .before .status .ensures) (at-if1 .if1 .left) (at-drop .drop-debt .ensures)
+    deletes (at-if1 .before .endpoint .ensures) (at-if1 .if1 .left) (at-drop .drop-debt .ensures)
     (at-end .end-abort .ensures) _ (c .before .before .delete-from .ensures)
 
 pub delete-spec : {M : Type 1} → statement M
 delete-spec =
     tie.close
     (tie.spec
-    status-requires
+    endpoint-requires
     plain-requires
     same-length
     returns

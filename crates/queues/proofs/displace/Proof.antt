@@ -5,8 +5,8 @@ use borrow.Author.Needs.{needs}
 use Rattle.queues.proofs.displace.Statement.{statement}
 use Rattle.queues.proofs.displace.Tie as tie
 
-priority-requires : tie.Need-priority-requires
-priority-requires c κs = search needs
+thread-requires : tie.Need-thread-requires
+thread-requires c κs = search needs
 
 highest-level-requires : tie.Need-highest-level-requires
 highest-level-requires c κs = search needs
@@ -14,7 +14,7 @@ highest-level-requires c κs = search needs
 add-if1 : tie.Need-add-if1
 add-if1 c =
     let d = c .before .before in
-    omega (arith, priority-small (d .priority .ensures) (c .highest-level .ensures) (d .before .before .before .pre))
+    omega (arith, priority-small (d .thread .ensures) (c .highest-level .ensures) (d .before .before .before .pre))
 
 stand-down-requires : tie.Need-stand-down-requires
 stand-down-requires c κs = search needs
@@ -30,7 +30,7 @@ same-length c = search needs
 returns : tie.Need-returns
 returns c =
     displaced
-    (c .before .before .before .before .before .before .before .before .before .before .before .priority .ensures)
+    (c .before .before .before .before .before .before .before .before .before .before .before .thread .ensures)
     (c .before .before .before .before .before .before .before .before .before .highest-level .ensures)
     (c .before .before .before .before .before .before .before .before .if1 .taken)
     (c .before .before .before .before .before .before .stand-down .ensures) (c .before .before .dispatch .ensures)
@@ -40,13 +40,13 @@ same-length-2 c = search needs
 
 returns-2 : tie.Need-returns-2
 returns-2 c =
-    not-displaced (c .before .before .before .priority .ensures) (c .before .highest-level .ensures) (c .if1 .left)
+    not-displaced (c .before .before .before .thread .ensures) (c .before .highest-level .ensures) (c .if1 .left)
 
 pub displace-spec : {M : Type 1} → statement M
 displace-spec =
     tie.close
     (tie.spec
-    priority-requires
+    thread-requires
     highest-level-requires
     add-if1
     stand-down-requires

@@ -4,18 +4,18 @@ use borrow.Author.Needs.{needs}
 use Rattle.queues.proofs.enqueue.Statement.{statement}
 use Rattle.queues.proofs.enqueue.Tie as tie
 
-priority-requires : tie.Need-priority-requires
-priority-requires c κs = search needs
+thread-requires : tie.Need-thread-requires
+thread-requires c κs = search needs
 
 cast-push-tail : tie.Need-cast-push-tail
 cast-push-tail c = search needs
 
 push-tail-requires : tie.Need-push-tail-requires
-push-tail-requires c κs = joinable-level (c .before .priority .ensures) (c .before .before .before .before .pre)
+push-tail-requires c κs = joinable-level (c .before .thread .ensures) (c .before .before .before .before .pre)
 
 mark-occupied-requires : tie.Need-mark-occupied-requires
 mark-occupied-requires c κs =
-    markable (c .before .before .before .before .before .priority .ensures)
+    markable (c .before .before .before .before .before .thread .ensures)
     (c .before .before .before .before .before .before .before .before .pre)
     (c .before .before .before .push-tail .ensures)
 
@@ -24,7 +24,7 @@ same-length c = search needs
 
 returns : tie.Need-returns
 returns c =
-    enqueued (c .before .before .before .before .before .before .before .before .priority .ensures)
+    enqueued (c .before .before .before .before .before .before .before .before .thread .ensures)
     (c .before .before .before .before .before .before .push-tail .ensures)
     (c .before .before .mark-occupied .ensures)
 
@@ -32,7 +32,7 @@ pub enqueue-spec : {M : Type 1} → statement M
 enqueue-spec =
     tie.close
     (tie.spec
-    priority-requires
+    thread-requires
     cast-push-tail
     push-tail-requires
     mark-occupied-requires

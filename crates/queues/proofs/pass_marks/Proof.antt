@@ -10,11 +10,11 @@ add-link c = search needs
 cast-link : tie.Need-cast-link
 cast-link c = search needs
 
-cursor-requires : tie.Need-cursor-requires
-cursor-requires c κs = search needs
+endpoint-requires : tie.Need-endpoint-requires
+endpoint-requires c κs = search needs
 
-end-requires : tie.Need-end-requires
-end-requires c κs = search needs
+endpoint-requires-2 : tie.Need-endpoint-requires-2
+endpoint-requires-2 c κs = search needs
 
 set-marks-requires : tie.Need-set-marks-requires
 set-marks-requires c κs = search needs
@@ -24,8 +24,8 @@ same-length c = search needs
 
 returns : tie.Need-returns
 returns c =
-    passed-both (c .before .before .before .before .before .before .before .before .cursor .ensures)
-    (c .before .before .before .before .before .before .end .ensures) (c .before .before .set-marks .ensures)
+    passed-both (c .before .before .before .before .before .before .before .before .endpoint .ensures)
+    (c .before .before .before .before .before .before .endpoint2 .ensures) (c .before .before .set-marks .ensures)
     (c .before .before .before .before .before .if1 .taken) (c .before .before .before .before .if2 .taken)
 
 next-requires : tie.Need-next-requires
@@ -39,8 +39,8 @@ same-length-2 c = search needs
 
 returns-2 : tie.Need-returns-2
 returns-2 c =
-    passed-cursor (c .before .before .before .before .before .before .before .before .before .before .cursor .ensures)
-    (c .before .before .before .before .before .before .before .before .end .ensures)
+    passed-cursor (c .before .before .before .before .before .before .before .before .before .before .endpoint .ensures)
+    (c .before .before .before .before .before .before .before .before .endpoint2 .ensures)
     (c .before .before .before .before .next .ensures) (c .before .before .set-marks2 .ensures)
     (c .before .before .before .before .before .before .before .if1 .taken)
     (c .before .before .before .before .before .before .if2 .left)
@@ -56,8 +56,8 @@ same-length-3 c = search needs
 
 returns-3 : tie.Need-returns-3
 returns-3 c =
-    passed-end (c .before .before .before .before .before .before .before .before .before .before .cursor .ensures)
-    (c .before .before .before .before .before .before .before .before .end .ensures)
+    passed-end (c .before .before .before .before .before .before .before .before .before .before .endpoint .ensures)
+    (c .before .before .before .before .before .before .before .before .endpoint2 .ensures)
     (c .before .before .before .before .prev .ensures) (c .before .before .set-marks3 .ensures)
     (c .before .before .before .before .before .before .before .if1 .left)
     (c .before .before .before .before .before .before .if3 .taken)
@@ -67,7 +67,7 @@ same-length-4 c = search needs
 
 returns-4 : tie.Need-returns-4
 returns-4 c =
-    passed-neither (c .before .before .before .before .cursor .ensures) (c .before .before .end .ensures)
+    passed-neither (c .before .before .before .before .endpoint .ensures) (c .before .before .endpoint2 .ensures)
     (c .before .if1 .left) (c .if3 .left)
 
 pub pass-marks-spec : {M : Type 1} → statement M
@@ -76,8 +76,8 @@ pass-marks-spec =
     (tie.spec
     add-link
     cast-link
-    cursor-requires
-    end-requires
+    endpoint-requires
+    endpoint-requires-2
     set-marks-requires
     same-length
     returns

@@ -4,17 +4,17 @@ use borrow.Author.Needs.{needs}
 use Rattle.queues.proofs.unqueue.Statement.{statement}
 use Rattle.queues.proofs.unqueue.Tie as tie
 
-priority-requires : tie.Need-priority-requires
-priority-requires c κs = search needs
+thread-requires : tie.Need-thread-requires
+thread-requires c κs = search needs
 
 leave-level-requires : tie.Need-leave-level-requires
-leave-level-requires c κs = own-shown (c .before .priority .ensures) (c .before .before .before .before .pre)
+leave-level-requires c κs = own-shown (c .before .thread .ensures) (c .before .before .before .before .pre)
 
 same-length : tie.Need-same-length
 same-length c = search needs
 
 returns : tie.Need-returns
-returns c = unqueued (c .before .before .before .before .priority .ensures) (c .before .before .leave-level .ensures)
+returns c = unqueued (c .before .before .before .before .thread .ensures) (c .before .before .leave-level .ensures)
 
 pub unqueue-spec : {M : Type 1} → statement M
-unqueue-spec = tie.close (tie.spec priority-requires leave-level-requires same-length returns)
+unqueue-spec = tie.close (tie.spec thread-requires leave-level-requires same-length returns)

@@ -4,14 +4,14 @@ use Rattle.store.proofs.Blocks.{owes-does}
 use Rattle.store.proofs.set_owes.Statement.{statement}
 use Rattle.store.proofs.set_owes.Tie as tie
 
-owes-at-requires : tie.Need-owes-at-requires
-owes-at-requires c κs = search needs
+thread-at-requires : tie.Need-thread-at-requires
+thread-at-requires c κs = search needs
 
 put-requires : tie.Need-put-requires
 put-requires c κs = search needs
 
-note-at-requires : tie.Need-note-at-requires
-note-at-requires c κs = search needs
+thread-at-requires-2 : tie.Need-thread-at-requires-2
+thread-at-requires-2 c κs = search needs
 
 put-requires-2 : tie.Need-put-requires-2
 put-requires-2 c κs = search needs
@@ -20,9 +20,13 @@ same-length : tie.Need-same-length
 same-length c = search needs
 
 returns : tie.Need-returns
-returns c = search owes-does depth 9
+returns c =
+    let c₂ = c .before .before in
+    let c₁ = c₂ .before .before .before .before .before in
+    owes-does _ _ _ (c₁ .before .thread-at .ensures) (c₁ .put .ensures)
+    (c₂ .before .thread-at2 .ensures) (c₂ .put2 .ensures)
 
 pub set-owes-spec : {M : Type 1} → statement M
 set-owes-spec =
     tie.close
-    (tie.spec owes-at-requires put-requires note-at-requires put-requires-2 same-length returns)
+    (tie.spec thread-at-requires put-requires thread-at-requires-2 put-requires-2 same-length returns)

@@ -4,8 +4,8 @@ use Rattle.store.proofs.Sites.{owner-does}
 use Rattle.store.proofs.set_owner.Statement.{statement}
 use Rattle.store.proofs.set_owner.Tie as tie
 
-owner-at-requires : tie.Need-owner-at-requires
-owner-at-requires c κs = search needs
+endpoint-at-requires : tie.Need-endpoint-at-requires
+endpoint-at-requires c κs = search needs
 
 put-requires : tie.Need-put-requires
 put-requires c κs = search needs
@@ -14,7 +14,7 @@ same-length : tie.Need-same-length
 same-length c = search needs
 
 returns : tie.Need-returns
-returns c = owner-does _ _ (c .before .before .before .owner-at .ensures) (c .before .before .put .ensures)
+returns c = owner-does _ _ (c .before .before .before .endpoint-at .ensures) (c .before .before .put .ensures)
 
 pub set-owner-spec : {M : Type 1} → statement M
-set-owner-spec = tie.close (tie.spec owner-at-requires put-requires same-length returns)
+set-owner-spec = tie.close (tie.spec endpoint-at-requires put-requires same-length returns)

@@ -4,26 +4,26 @@ use Rattle.store.proofs.Blocks.{place-does}
 use Rattle.store.proofs.set_place.Statement.{statement}
 use Rattle.store.proofs.set_place.Tie as tie
 
-place-at-requires : tie.Need-place-at-requires
-place-at-requires c κs = search needs
+thread-at-requires : tie.Need-thread-at-requires
+thread-at-requires c κs = search needs
 
 put-requires : tie.Need-put-requires
 put-requires c κs = search needs
 
-outcome-at-requires : tie.Need-outcome-at-requires
-outcome-at-requires c κs = search needs
+thread-at-requires-2 : tie.Need-thread-at-requires-2
+thread-at-requires-2 c κs = search needs
 
 put-requires-2 : tie.Need-put-requires-2
 put-requires-2 c κs = search needs
 
-badge-at-requires : tie.Need-badge-at-requires
-badge-at-requires c κs = search needs
+thread-at-requires-3 : tie.Need-thread-at-requires-3
+thread-at-requires-3 c κs = search needs
 
 put-requires-3 : tie.Need-put-requires-3
 put-requires-3 c κs = search needs
 
-message-at-requires : tie.Need-message-at-requires
-message-at-requires c κs = search needs
+thread-at-requires-4 : tie.Need-thread-at-requires-4
+thread-at-requires-4 c κs = search needs
 
 put-requires-4 : tie.Need-put-requires-4
 put-requires-4 c κs = search needs
@@ -41,21 +41,21 @@ returns c =
     let at-outcome-at = at-put2 .before in
     let at-put = at-outcome-at .before .before .before .before in
     let at-place-at = at-put .before in
-    place-does _ _ _ _ _ (at-place-at .place-at .ensures) (at-put .put .ensures) (at-outcome-at .outcome-at .ensures)
-    (at-put2 .put2 .ensures) (at-badge-at .badge-at .ensures) (at-put3 .put3 .ensures)
-    (at-message-at .message-at .ensures) (at-put4 .put4 .ensures)
+    place-does _ _ _ _ _ (at-place-at .thread-at .ensures) (at-put .put .ensures) (at-outcome-at .thread-at2 .ensures)
+    (at-put2 .put2 .ensures) (at-badge-at .thread-at3 .ensures) (at-put3 .put3 .ensures)
+    (at-message-at .thread-at4 .ensures) (at-put4 .put4 .ensures)
 
 pub set-place-spec : {M : Type 1} → statement M
 set-place-spec =
     tie.close
     (tie.spec
-    place-at-requires
+    thread-at-requires
     put-requires
-    outcome-at-requires
+    thread-at-requires-2
     put-requires-2
-    badge-at-requires
+    thread-at-requires-3
     put-requires-3
-    message-at-requires
+    thread-at-requires-4
     put-requires-4
     same-length
     returns)

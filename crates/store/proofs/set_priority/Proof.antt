@@ -4,8 +4,8 @@ use Rattle.store.proofs.Blocks.{priority-does}
 use Rattle.store.proofs.set_priority.Statement.{statement}
 use Rattle.store.proofs.set_priority.Tie as tie
 
-priority-at-requires : tie.Need-priority-at-requires
-priority-at-requires c κs = search needs
+thread-at-requires : tie.Need-thread-at-requires
+thread-at-requires c κs = search needs
 
 put-requires : tie.Need-put-requires
 put-requires c κs = search needs
@@ -14,7 +14,7 @@ same-length : tie.Need-same-length
 same-length c = search needs
 
 returns : tie.Need-returns
-returns c = priority-does _ _ (c .before .before .before .priority-at .ensures) (c .before .before .put .ensures)
+returns c = priority-does _ _ (c .before .before .before .thread-at .ensures) (c .before .before .put .ensures)
 
 pub set-priority-spec : {M : Type 1} → statement M
-set-priority-spec = tie.close (tie.spec priority-at-requires put-requires same-length returns)
+set-priority-spec = tie.close (tie.spec thread-at-requires put-requires same-length returns)

@@ -4,8 +4,8 @@ use Rattle.store.proofs.Sites.{status-does}
 use Rattle.store.proofs.set_status.Statement.{statement}
 use Rattle.store.proofs.set_status.Tie as tie
 
-status-at-requires : tie.Need-status-at-requires
-status-at-requires c κs = search needs
+endpoint-at-requires : tie.Need-endpoint-at-requires
+endpoint-at-requires c κs = search needs
 
 put-requires : tie.Need-put-requires
 put-requires c κs = search needs
@@ -14,7 +14,7 @@ same-length : tie.Need-same-length
 same-length c = search needs
 
 returns : tie.Need-returns
-returns c = status-does _ _ (c .before .before .before .status-at .ensures) (c .before .before .put .ensures)
+returns c = status-does _ _ (c .before .before .before .endpoint-at .ensures) (c .before .before .put .ensures)
 
 pub set-status-spec : {M : Type 1} → statement M
-set-status-spec = tie.close (tie.spec status-at-requires put-requires same-length returns)
+set-status-spec = tie.close (tie.spec endpoint-at-requires put-requires same-length returns)

@@ -4,8 +4,8 @@ use Rattle.store.proofs.Blocks.{ticks-does}
 use Rattle.store.proofs.set_ticks.Statement.{statement}
 use Rattle.store.proofs.set_ticks.Tie as tie
 
-ticks-at-requires : tie.Need-ticks-at-requires
-ticks-at-requires c κs = search needs
+thread-at-requires : tie.Need-thread-at-requires
+thread-at-requires c κs = search needs
 
 put-requires : tie.Need-put-requires
 put-requires c κs = search needs
@@ -14,7 +14,7 @@ same-length : tie.Need-same-length
 same-length c = search needs
 
 returns : tie.Need-returns
-returns c = ticks-does _ _ (c .before .before .before .ticks-at .ensures) (c .before .before .put .ensures)
+returns c = ticks-does _ _ (c .before .before .before .thread-at .ensures) (c .before .before .put .ensures)
 
 pub set-ticks-spec : {M : Type 1} → statement M
-set-ticks-spec = tie.close (tie.spec ticks-at-requires put-requires same-length returns)
+set-ticks-spec = tie.close (tie.spec thread-at-requires put-requires same-length returns)

@@ -5,8 +5,8 @@ use Rattle.threads.proofs.Creating.{create-refused, enqueue-asked, crea
 use Rattle.threads.proofs.create_thread.Statement.{statement}
 use Rattle.threads.proofs.create_thread.Tie as tie
 
-place-requires : tie.Need-place-requires
-place-requires c κs = search needs
+thread-requires : tie.Need-thread-requires
+thread-requires c κs = search needs
 
 plain-requires : tie.Need-plain-requires
 plain-requires c κs = search needs
@@ -29,7 +29,7 @@ enqueue-requires c κs =
     let at-if1 = at-new-thread .before .before in
     let at-place = at-if1 .before in
     let at-start = at-place .before .before .before in
-    enqueue-asked _ (at-place .place .ensures) (at-if1 .if1 .left) (at-new-thread .new-thread .ensures)
+    enqueue-asked _ (at-place .thread .ensures) (at-if1 .if1 .left) (at-new-thread .new-thread .ensures)
     (at-start .pre)
 
 done-requires : tie.Need-done-requires
@@ -45,7 +45,7 @@ pub create-thread-spec : {M : Type 1} → statement M
 create-thread-spec =
     tie.close
     (tie.spec
-    place-requires
+    thread-requires
     plain-requires
     same-length
     returns

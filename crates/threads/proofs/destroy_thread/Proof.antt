@@ -6,8 +6,8 @@ use Rattle.threads.proofs.Destroying.{clear-asked, destroy-chooses, des
 use Rattle.threads.proofs.destroy_thread.Statement.{statement}
 use Rattle.threads.proofs.destroy_thread.Tie as tie
 
-place-requires : tie.Need-place-requires
-place-requires c κs = search needs
+thread-requires : tie.Need-thread-requires
+thread-requires c κs = search needs
 
 plain-requires : tie.Need-plain-requires
 plain-requires c κs = search needs
@@ -29,7 +29,7 @@ leave-requires c κs = search leave-asked
 clear-thread-requires : tie.Need-clear-thread-requires
 clear-thread-requires c κs =
     let d = c .before .before .before .before .before .before .before in
-    clear-asked (d .before .before .before .place .ensures) (d .before .before .if1 .left) (d .drop-debt .ensures)
+    clear-asked (d .before .before .before .thread .ensures) (d .before .before .if1 .left) (d .drop-debt .ensures)
     (c .before .before .before .leave .ensures) (d .before .before .before .before .before .before .pre)
 
 done-requires : tie.Need-done-requires
@@ -45,7 +45,7 @@ pub destroy-thread-spec : {M : Type 1} → statement M
 destroy-thread-spec =
     tie.close
     (tie.spec
-    place-requires
+    thread-requires
     plain-requires
     same-length
     returns

@@ -5,8 +5,8 @@ use Rattle.threads.proofs.Places.{told-not-ready, told-ready}
 use Rattle.threads.proofs.is_ready.Statement.{statement}
 use Rattle.threads.proofs.is_ready.Tie as tie
 
-place-requires : tie.Need-place-requires
-place-requires c κs = search needs
+thread-requires : tie.Need-thread-requires
+thread-requires c κs = search needs
 
 returns : tie.Need-returns
 returns c = search told-not-ready
@@ -28,4 +28,4 @@ returns-2 c =
 
 pub is-ready-spec : {M : Type 1} → statement M
 is-ready-spec =
-    tie.close (tie.spec place-requires returns running-requires add-link cast-link returns-2)
+    tie.close (tie.spec thread-requires returns running-requires add-link cast-link returns-2)

@@ -6,8 +6,8 @@ use Rattle.threads.proofs.Prioritising.{change-asked, priority-chooses,
 use Rattle.threads.proofs.set_priority.Statement.{statement}
 use Rattle.threads.proofs.set_priority.Tie as tie
 
-place-requires : tie.Need-place-requires
-place-requires c κs = search needs
+thread-requires : tie.Need-thread-requires
+thread-requires c κs = search needs
 
 plain-requires : tie.Need-plain-requires
 plain-requires c κs = search needs
@@ -18,8 +18,8 @@ same-length c = search needs
 returns : tie.Need-returns
 returns c = search priority-refused
 
-priority-requires : tie.Need-priority-requires
-priority-requires c κs = search needs
+thread-requires-2 : tie.Need-thread-requires-2
+thread-requires-2 c κs = search needs
 
 done-requires : tie.Need-done-requires
 done-requires c κs =
@@ -41,12 +41,12 @@ returns-2 c =
 change-requires : tie.Need-change-requires
 change-requires c κs =
     let d = c .before .before .before .before in
-    change-asked _ (d .before .place .ensures) (d .if1 .left) (d .before .before .before .before .pre)
+    change-asked _ (d .before .thread .ensures) (d .if1 .left) (d .before .before .before .before .pre)
 
 done-requires-2 : tie.Need-done-requires-2
 done-requires-2 c κs =
     let d = c .before .before .before .before .before .before in
-    priority-chooses _ (d .before .before .before .place .ensures) (d .before .before .if1 .left) (d .priority .ensures)
+    priority-chooses _ (d .before .before .before .thread .ensures) (d .before .before .if1 .left) (d .thread2 .ensures)
     (c .before .before .before .change .ensures) (d .before .before .before .before .before .before .pre)
 
 same-length-3 : tie.Need-same-length-3
@@ -59,11 +59,11 @@ pub set-priority-spec : {M : Type 1} → statement M
 set-priority-spec =
     tie.close
     (tie.spec
-    place-requires
+    thread-requires
     plain-requires
     same-length
     returns
-    priority-requires
+    thread-requires-2
     done-requires
     same-length-2
     returns-2

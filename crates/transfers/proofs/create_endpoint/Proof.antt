@@ -5,8 +5,8 @@ use borrow.Author.Needs.{needs}
 use Rattle.transfers.proofs.create_endpoint.Statement.{statement}
 use Rattle.transfers.proofs.create_endpoint.Tie as tie
 
-status-requires : tie.Need-status-requires
-status-requires c κs = search needs
+endpoint-requires : tie.Need-endpoint-requires
+endpoint-requires c κs = search needs
 
 plain-requires : tie.Need-plain-requires
 plain-requires c κs = search needs
@@ -40,7 +40,7 @@ pub create-endpoint-spec : {M : Type 1} → statement M
 create-endpoint-spec =
     tie.close
     (tie.spec
-    status-requires
+    endpoint-requires
     plain-requires
     same-length
     returns

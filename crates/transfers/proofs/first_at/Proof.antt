@@ -15,14 +15,14 @@ first-requires c κs = search needs
 returns : tie.Need-returns
 returns c = search at-empty depth 9
 
-sub-place : tie.Need-sub-place
-sub-place c = search needs
+sub-thread : tie.Need-sub-thread
+sub-thread c = search needs
 
-cast-place : tie.Need-cast-place
-cast-place c = search needs
+cast-thread : tie.Need-cast-thread
+cast-thread c = search needs
 
-place-requires : tie.Need-place-requires
-place-requires c κs = search place-asked depth 9
+thread-requires : tie.Need-thread-requires
+thread-requires c κs = search place-asked depth 9
 
 returns-2 : tie.Need-returns-2
 returns-2 c = search at-other depth 9
@@ -37,8 +37,8 @@ first-at-spec =
     add-first
     first-requires
     returns
-    sub-place
-    cast-place
-    place-requires
+    sub-thread
+    cast-thread
+    thread-requires
     returns-2
     returns-3)

@@ -6,8 +6,8 @@ use borrow.Author.Needs.{needs}
 use Rattle.transfers.proofs.receive.Statement.{statement}
 use Rattle.transfers.proofs.receive.Tie as tie
 
-status-requires : tie.Need-status-requires
-status-requires c κs = search needs
+endpoint-requires : tie.Need-endpoint-requires
+endpoint-requires c κs = search needs
 
 plain-requires : tie.Need-plain-requires
 plain-requires c κs = search needs
@@ -45,7 +45,7 @@ pub receive-spec : {M : Type 1} → statement M
 receive-spec =
     tie.close
     (tie.spec
-    status-requires
+    endpoint-requires
     plain-requires
     same-length
     returns

@@ -5,11 +5,11 @@ use borrow.Author.Needs.{needs}
 use Rattle.transfers.proofs.take_from.Statement.{statement}
 use Rattle.transfers.proofs.take_from.Tie as tie
 
-badge-requires : tie.Need-badge-requires
-badge-requires c κs = search sender-asked depth 9
+thread-requires : tie.Need-thread-requires
+thread-requires c κs = search sender-asked depth 9
 
-message-requires : tie.Need-message-requires
-message-requires c κs = search sender-asked depth 9
+thread-requires-2 : tie.Need-thread-requires-2
+thread-requires-2 c κs = search sender-asked depth 9
 
 wake-from-requires : tie.Need-wake-from-requires
 wake-from-requires c κs = search waits-asked depth 9
@@ -35,8 +35,8 @@ pub take-from-spec : {M : Type 1} → statement M
 take-from-spec =
     tie.close
     (tie.spec
-    badge-requires
-    message-requires
+    thread-requires
+    thread-requires-2
     wake-from-requires
     accept-requires
     same-length

@@ -26,11 +26,11 @@ returns-2 c = running-outside _ (c .before .before .running .ensures) (c .if2 .t
 sub-t : tie.Need-sub-t
 sub-t c = search needs
 
-place-requires : tie.Need-place-requires
-place-requires c κs = search needs
+thread-requires : tie.Need-thread-requires
+thread-requires c κs = search needs
 
-priority-requires : tie.Need-priority-requires
-priority-requires c κs = search needs
+thread-requires-2 : tie.Need-thread-requires-2
+thread-requires-2 c κs = search needs
 
 above-requires-2 : tie.Need-above-requires-2
 above-requires-2 c κs = search needs
@@ -43,7 +43,7 @@ returns-3 c =
     let at-if1 = at-if2 .before in
     let at-running = at-if1 .before in
     running-somebody _ (at-running .running .ensures) (at-if1 .if1 .left) (at-if2 .if2 .left)
-    (at-place .place .ensures) (at-priority .priority .ensures) (c .above2 .ensures)
+    (at-place .thread .ensures) (at-priority .thread2 .ensures) (c .above2 .ensures)
 
 pub running-spec : {M : Type 1} → statement M
 running-spec =
@@ -55,7 +55,7 @@ running-spec =
     returns
     returns-2
     sub-t
-    place-requires
-    priority-requires
+    thread-requires
+    thread-requires-2
     above-requires-2
     returns-3)

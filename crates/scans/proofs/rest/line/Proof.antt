@@ -13,8 +13,8 @@ returns c = line-free _ _ (c .before .line .ensures) (c .if1 .taken)
 returns-2 : tie.Need-returns-2
 returns-2 c = line-far _ _ (c .before .before .line .ensures) (c .if2 .taken)
 
-place-requires : tie.Need-place-requires
-place-requires c κs = search needs
+thread-requires : tie.Need-thread-requires
+thread-requires c κs = search needs
 
 add-result : tie.Need-add-result
 add-result c = search needs
@@ -24,8 +24,8 @@ returns-3 c =
     let at-if2 = c .before in
     let at-if1 = at-if2 .before in
     let at-line = at-if1 .before in
-    line-waited _ _ (at-line .line .ensures) (at-if1 .if1 .left) (at-if2 .if2 .left) (c .place .ensures)
+    line-waited _ _ (at-line .line .ensures) (at-if1 .if1 .left) (at-if2 .if2 .left) (c .thread .ensures)
 
 pub line-spec : {M : Type 1} → statement M
 line-spec =
-    tie.close (tie.spec line-requires returns returns-2 place-requires add-result returns-3)
+    tie.close (tie.spec line-requires returns returns-2 thread-requires add-result returns-3)

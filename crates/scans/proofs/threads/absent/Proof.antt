@@ -4,26 +4,26 @@ use Rattle.checks.specs.Checks.{absentTest}
 use Rattle.scans.proofs.threads.absent.Statement.{statement}
 use Rattle.scans.proofs.threads.absent.Tie as tie
 
-priority-requires : tie.Need-priority-requires
-priority-requires c κs = search needs
+thread-requires : tie.Need-thread-requires
+thread-requires c κs = search needs
 
-ticks-requires : tie.Need-ticks-requires
-ticks-requires c κs = search needs
+thread-requires-2 : tie.Need-thread-requires-2
+thread-requires-2 c κs = search needs
 
-outcome-requires : tie.Need-outcome-requires
-outcome-requires c κs = search needs
+thread-requires-3 : tie.Need-thread-requires-3
+thread-requires-3 c κs = search needs
 
-badge-requires : tie.Need-badge-requires
-badge-requires c κs = search needs
+thread-requires-4 : tie.Need-thread-requires-4
+thread-requires-4 c κs = search needs
 
-message-requires : tie.Need-message-requires
-message-requires c κs = search needs
+thread-requires-5 : tie.Need-thread-requires-5
+thread-requires-5 c κs = search needs
 
-owes-requires : tie.Need-owes-requires
-owes-requires c κs = search needs
+thread-requires-6 : tie.Need-thread-requires-6
+thread-requires-6 c κs = search needs
 
-note-requires : tie.Need-note-requires
-note-requires c κs = search needs
+thread-requires-7 : tie.Need-thread-requires-7
+thread-requires-7 c κs = search needs
 
 returns : tie.Need-returns
 unfolding absentTest
@@ -33,11 +33,11 @@ pub absent-spec : {M : Type 1} → statement M
 absent-spec =
     tie.close
     (tie.spec
-    priority-requires
-    ticks-requires
-    outcome-requires
-    badge-requires
-    message-requires
-    owes-requires
-    note-requires
+    thread-requires
+    thread-requires-2
+    thread-requires-3
+    thread-requires-4
+    thread-requires-5
+    thread-requires-6
+    thread-requires-7
     returns)

@@ -4,23 +4,23 @@ use Rattle.checks.specs.Checks.{numbersTest}
 use Rattle.scans.proofs.threads.numbers.Statement.{statement}
 use Rattle.scans.proofs.threads.numbers.Tie as tie
 
-ticks-requires : tie.Need-ticks-requires
-ticks-requires c κs = search needs
+thread-requires : tie.Need-thread-requires
+thread-requires c κs = search needs
 
-place-requires : tie.Need-place-requires
-place-requires c κs = search needs
+thread-requires-2 : tie.Need-thread-requires-2
+thread-requires-2 c κs = search needs
 
-priority-requires : tie.Need-priority-requires
-priority-requires c κs = search needs
+thread-requires-3 : tie.Need-thread-requires-3
+thread-requires-3 c κs = search needs
 
-outcome-requires : tie.Need-outcome-requires
-outcome-requires c κs = search needs
+thread-requires-4 : tie.Need-thread-requires-4
+thread-requires-4 c κs = search needs
 
-badge-requires : tie.Need-badge-requires
-badge-requires c κs = search needs
+thread-requires-5 : tie.Need-thread-requires-5
+thread-requires-5 c κs = search needs
 
-message-requires : tie.Need-message-requires
-message-requires c κs = search needs
+thread-requires-6 : tie.Need-thread-requires-6
+thread-requires-6 c κs = search needs
 
 returns : tie.Need-returns
 unfolding numbersTest
@@ -30,10 +30,10 @@ pub numbers-spec : {M : Type 1} → statement M
 numbers-spec =
     tie.close
     (tie.spec
-    ticks-requires
-    place-requires
-    priority-requires
-    outcome-requires
-    badge-requires
-    message-requires
+    thread-requires
+    thread-requires-2
+    thread-requires-3
+    thread-requires-4
+    thread-requires-5
+    thread-requires-6
     returns)

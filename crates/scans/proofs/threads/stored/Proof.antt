@@ -4,17 +4,17 @@ use Rattle.checks.specs.Checks.{storedTest}
 use Rattle.scans.proofs.threads.stored.Statement.{statement}
 use Rattle.scans.proofs.threads.stored.Tie as tie
 
-place-requires : tie.Need-place-requires
-place-requires c κs = search needs
+thread-requires : tie.Need-thread-requires
+thread-requires c κs = search needs
 
-outcome-requires : tie.Need-outcome-requires
-outcome-requires c κs = search needs
+thread-requires-2 : tie.Need-thread-requires-2
+thread-requires-2 c κs = search needs
 
-badge-requires : tie.Need-badge-requires
-badge-requires c κs = search needs
+thread-requires-3 : tie.Need-thread-requires-3
+thread-requires-3 c κs = search needs
 
-message-requires : tie.Need-message-requires
-message-requires c κs = search needs
+thread-requires-4 : tie.Need-thread-requires-4
+thread-requires-4 c κs = search needs
 
 returns : tie.Need-returns
 unfolding storedTest
@@ -22,4 +22,4 @@ returns c = cc
 
 pub stored-spec : {M : Type 1} → statement M
 stored-spec =
-    tie.close (tie.spec place-requires outcome-requires badge-requires message-requires returns)
+    tie.close (tie.spec thread-requires thread-requires-2 thread-requires-3 thread-requires-4 returns)

@@ -9,11 +9,11 @@ add-result c = search needs
 add-result-2 : tie.Need-add-result-2
 add-result-2 c = search needs
 
-cursor-requires : tie.Need-cursor-requires
-cursor-requires c κs = search needs
+endpoint-requires : tie.Need-endpoint-requires
+endpoint-requires c κs = search needs
 
 returns : tie.Need-returns
 returns c = cc
 
 pub fits-spec : {M : Type 1} → statement M
-fits-spec = tie.close (tie.spec add-result add-result-2 cursor-requires returns)
+fits-spec = tie.close (tie.spec add-result add-result-2 endpoint-requires returns)

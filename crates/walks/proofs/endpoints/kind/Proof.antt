@@ -19,16 +19,16 @@ returns c = rw (← c .before .head .ensures) (kind-none _ _ _ (c .if1 .taken))
 returns-2 : tie.Need-returns-2
 returns-2 c = rw (← c .before .before .head .ensures) (kind-far _ _ _ (c .if2 .taken))
 
-sub-place : tie.Need-sub-place
-sub-place c = search needs
+sub-thread : tie.Need-sub-thread
+sub-thread c = search needs
 
-place-requires : tie.Need-place-requires
-place-requires c κs = search needs
+thread-requires : tie.Need-thread-requires
+thread-requires c κs = search needs
 
 returns-3 : tie.Need-returns-3
 returns-3 c =
     rw (← c .before .before .before .head .ensures)
-    (kind-first _ _ _ (c .before .before .if1 .left) (c .before .if2 .left) (c .place .ensures))
+    (kind-first _ _ _ (c .before .before .if1 .left) (c .before .if2 .left) (c .thread .ensures))
 
 pub kind-spec : {M : Type 1} → statement M
 kind-spec =
@@ -39,6 +39,6 @@ kind-spec =
     add-result
     returns
     returns-2
-    sub-place
-    place-requires
+    sub-thread
+    thread-requires
     returns-3)

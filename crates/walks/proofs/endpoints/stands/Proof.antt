@@ -6,11 +6,11 @@ use Rattle.walks.proofs.endpoints.stands.Tie as tie
 prev-requires : tie.Need-prev-requires
 prev-requires c κs = search needs
 
-place-requires : tie.Need-place-requires
-place-requires c κs = search needs
+thread-requires : tie.Need-thread-requires
+thread-requires c κs = search needs
 
-badge-requires : tie.Need-badge-requires
-badge-requires c κs = search needs
+thread-requires-2 : tie.Need-thread-requires-2
+thread-requires-2 c κs = search needs
 
 allowed-requires : tie.Need-allowed-requires
 allowed-requires c κs = search needs
@@ -20,4 +20,4 @@ returns c = cc
 
 pub stands-spec : {M : Type 1} → statement M
 stands-spec =
-    tie.close (tie.spec prev-requires place-requires badge-requires allowed-requires returns)
+    tie.close (tie.spec prev-requires thread-requires thread-requires-2 allowed-requires returns)

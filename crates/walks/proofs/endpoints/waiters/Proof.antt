@@ -15,11 +15,11 @@ Inv-loop tables scratch₀ e k cursor end banned f₀ x₀ y₀ left₀ scratch 
 abbrev μ-loop : tie.MeasureT-loop
 μ-loop tables scratch₀ e k cursor end banned f₀ x₀ y₀ left₀ scratch f x y left = left
 
-cursor-requires : tie.Need-cursor-requires Inv-loop μ-loop
-cursor-requires c κs = search needs
+endpoint-requires : tie.Need-endpoint-requires Inv-loop μ-loop
+endpoint-requires c κs = search needs
 
-end-requires : tie.Need-end-requires Inv-loop μ-loop
-end-requires c κs = search needs
+endpoint-requires-2 : tie.Need-endpoint-requires-2 Inv-loop μ-loop
+endpoint-requires-2 c κs = search needs
 
 banned-requires : tie.Need-banned-requires Inv-loop μ-loop
 banned-requires c κs = search needs
@@ -35,7 +35,7 @@ loop-holds c =
     let at-banned = c .before in
     let at-end = at-banned .before in
     let at-cursor = at-end .before in
-    waiters-holds _ _ _ _ (search needs) (at-cursor .cursor .ensures) (at-end .end .ensures)
+    waiters-holds _ _ _ _ (search needs) (at-cursor .endpoint .ensures) (at-end .endpoint2 .ensures)
     (at-banned .banned .ensures) (c .head .ensures)
 
 add-tail : tie.Need-add-tail Inv-loop μ-loop
@@ -133,8 +133,8 @@ waiters-spec =
     (tie.spec
     Inv-loop
     μ-loop
-    cursor-requires
-    end-requires
+    endpoint-requires
+    endpoint-requires-2
     banned-requires
     add-head
     head-requires

@@ -4,11 +4,11 @@ use Rattle.walks.proofs.Placing.{ready-is}
 use Rattle.walks.proofs.levels.ready.Statement.{statement}
 use Rattle.walks.proofs.levels.ready.Tie as tie
 
-place-requires : tie.Need-place-requires
-place-requires c κs = search needs
+thread-requires : tie.Need-thread-requires
+thread-requires c κs = search needs
 
-priority-requires : tie.Need-priority-requires
-priority-requires c κs = search needs
+thread-requires-2 : tie.Need-thread-requires-2
+thread-requires-2 c κs = search needs
 
 running-requires : tie.Need-running-requires
 running-requires c κs = search needs
@@ -30,4 +30,4 @@ returns c =
 pub ready-spec : {M : Type 1} → statement M
 ready-spec =
     tie.close
-    (tie.spec prev-requires place-requires priority-requires running-requires add-result returns)
+    (tie.spec prev-requires thread-requires thread-requires-2 running-requires add-result returns)

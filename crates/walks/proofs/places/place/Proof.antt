@@ -7,8 +7,8 @@ use Rattle.walks.proofs.places.place.Tie as tie
 marked-requires : tie.Need-marked-requires
 marked-requires c κs = search needs
 
-place-requires : tie.Need-place-requires
-place-requires c κs = search needs
+thread-requires : tie.Need-thread-requires
+thread-requires c κs = search needs
 
 running-requires : tie.Need-running-requires
 running-requires c κs = search needs
@@ -29,7 +29,7 @@ returns c =
     let at-place = at-running .before in
     let at-marked = at-place .before in
     let at-pre = at-marked .before .before .before in
-    placed-is _ _ (at-marked .marked .ensures .tells _ (at-pre .pre .2)) (at-place .place .ensures)
+    placed-is _ _ (at-marked .marked .ensures .tells _ (at-pre .pre .2)) (at-place .thread .ensures)
     (at-running .running .ensures) (at-next .next .ensures) (c .prev .ensures)
 
 pub place-spec : {M : Type 1} → statement M
@@ -37,7 +37,7 @@ place-spec =
     tie.close
     (tie.spec
     marked-requires
-    place-requires
+    thread-requires
     running-requires
     add-queued
     next-requires
