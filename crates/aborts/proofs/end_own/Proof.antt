@@ -24,7 +24,7 @@ returns c =
     let at-counted = at-accept .before in
     let at-if1 = at-counted .before .before in
     let at-cursor = at-if1 .before in
-    own-broken (at-cursor .cursor .ensures) (at-if1 .if1 .taken) (at-counted .counted .ensures)
+    own-broken (at-cursor .endpoint .ensures) (at-if1 .if1 .taken) (at-counted .counted .ensures)
     (at-accept .accept .ensures)
 
 drop-debt-requires : tie.Need-drop-debt-requires

@@ -24,7 +24,7 @@ returns c =
     let at-if1 = at-wake-from .before .before in
     let at-under-abort = at-if1 .before in
     let at-badge = at-under-abort .before .before in
-    look-removed (at-badge .badge .ensures) (at-under-abort .under-abort .ensures) (at-if1 .if1 .taken)
+    look-removed (at-badge .thread .ensures) (at-under-abort .under-abort .ensures) (at-if1 .if1 .taken)
     (at-wake-from .wake-from .ensures)
 
 keep-look-requires : tie.Need-keep-look-requires
@@ -39,7 +39,7 @@ returns-2 c =
     let at-if1 = at-keep-look .before .before in
     let at-under-abort = at-if1 .before in
     let at-badge = at-under-abort .before .before in
-    look-kept (at-badge .badge .ensures) (at-under-abort .under-abort .ensures) (at-if1 .if1 .left)
+    look-kept (at-badge .thread .ensures) (at-under-abort .under-abort .ensures) (at-if1 .if1 .left)
     (at-keep-look .keep-look .ensures)
 
 pub look-spec : {M : Type 1} → statement M

@@ -30,7 +30,7 @@ set-owes-requires c κs =
     let at-if1 = at-if2 .before in
     let at-owes = at-if1 .before in
     let at-start = at-owes .before .before .before in
-    owes-asked (at-owes .owes .ensures) (at-if1 .if1 .left) (at-if2 .if2 .taken) (at-start .pre)
+    owes-asked (at-owes .thread .ensures) (at-if1 .if1 .left) (at-if2 .if2 .taken) (at-start .pre)
     (at-set-owner .set-owner .ensures)
 
 same-length-2 : tie.Need-same-length-2
@@ -43,7 +43,7 @@ returns-2 c =
     let at-if2 = at-set-owner .before .before in
     let at-if1 = at-if2 .before in
     let at-owes = at-if1 .before in
-    drop-owned (at-owes .owes .ensures) (at-if1 .if1 .left) (at-if2 .if2 .taken) (at-set-owner .set-owner .ensures)
+    drop-owned (at-owes .thread .ensures) (at-if1 .if1 .left) (at-if2 .if2 .taken) (at-set-owner .set-owner .ensures)
     (at-set-owes .set-owes .ensures)
 
 set-owes-requires-2 : tie.Need-set-owes-requires-2

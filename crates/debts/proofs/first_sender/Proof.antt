@@ -34,14 +34,14 @@ returns-2 c =
     let at-place = c .before in
     let at-if1 = at-place .before in
     let at-first = at-if1 .before in
-    first-receives _ (at-first .first .ensures) (at-if1 .if1 .left) (at-place .place .ensures) (c .if2 .taken)
+    first-receives _ (at-first .first .ensures) (at-if1 .if1 .left) (at-place .thread .ensures) (c .if2 .taken)
 
 returns-3 : tie.Need-returns-3
 returns-3 c =
     let at-place = c .before in
     let at-if1 = at-place .before in
     let at-first = at-if1 .before in
-    first-sends _ (at-first .first .ensures) (at-if1 .if1 .left) (at-place .place .ensures) (c .if2 .left)
+    first-sends _ (at-first .first .ensures) (at-if1 .if1 .left) (at-place .thread .ensures) (c .if2 .left)
 
 pub first-sender-spec : {M : Type 1} → statement M
 first-sender-spec =

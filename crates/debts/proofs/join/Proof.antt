@@ -14,7 +14,7 @@ same-length c = search needs
 returns : tie.Need-returns
 returns c =
     let at-owner = c .before in
-    join-owned _ (at-owner .owner .ensures) (c .if1 .taken)
+    join-owned _ (at-owner .endpoint .ensures) (c .if1 .taken)
 
 add-set-owner : tie.Need-add-set-owner
 add-set-owner c = search needs
@@ -43,7 +43,7 @@ returns-2 c =
     let at-set-owner = at-set-owes .before .before .before .before in
     let at-if1 = at-set-owner .before .before in
     let at-owner = at-if1 .before in
-    join-free _ (at-owner .owner .ensures) (at-if1 .if1 .left) (at-set-owner .set-owner .ensures)
+    join-free _ (at-owner .endpoint .ensures) (at-if1 .if1 .left) (at-set-owner .set-owner .ensures)
     (at-set-owes .set-owes .ensures)
 
 pub join-spec : {M : Type 1} → statement M

@@ -41,7 +41,7 @@ returns-2 c =
     let at-aborted = at-set-owes .before .before in
     let at-if1 = at-aborted .before .before in
     let at-owner = at-if1 .before in
-    note-somebody (at-owner .owner .ensures) (at-if1 .if1 .left) (at-aborted .aborted .ensures)
+    note-somebody (at-owner .endpoint .ensures) (at-if1 .if1 .left) (at-aborted .endpoint2 .ensures)
     (at-set-owes .set-owes .ensures)
 
 pub note-owner-spec : {M : Type 1} → statement M

@@ -18,14 +18,14 @@ returns : tie.Need-returns
 returns c =
     let at-if1 = c .before in
     let at-status = at-if1 .before in
-    no-endpoint (at-status .status .ensures) _ (at-if1 .if1 .taken) (c .plain .ensures)
+    no-endpoint (at-status .endpoint .ensures) _ (at-if1 .if1 .taken) (c .plain .ensures)
 
 drop-debt-requires : tie.Need-drop-debt-requires
 drop-debt-requires c κs =
     let at-if1 = c .before in
     let at-status = at-if1 .before in
     let at-start = at-status .before .before .before in
-    drop-asked (at-status .status .ensures) (at-if1 .if1 .left) (at-start .pre)
+    drop-asked (at-status .endpoint .ensures) (at-if1 .if1 .left) (at-start .pre)
 
 end-abort-requires : tie.Need-end-abort-requires
 end-abort-requires c κs =
@@ -33,7 +33,7 @@ end-abort-requires c κs =
     let at-if1 = at-drop-debt .before .before in
     let at-status = at-if1 .before in
     let at-start = at-status .before .before .before in
-    end-asked (at-status .status .ensures) (at-if1 .if1 .left) (at-drop-debt .drop-debt .ensures) (at-start .pre)
+    end-asked (at-status .endpoint .ensures) (at-if1 .if1 .left) (at-drop-debt .drop-debt .ensures) (at-start .pre)
 
 delete-from-requires : tie.Need-delete-from-requires
 delete-from-requires c κs =

@@ -18,7 +18,7 @@ returns : tie.Need-returns
 returns c =
     let at-if1 = c .before in
     let at-place = at-if1 .before in
-    create-refused _ (at-place .place .ensures) (at-if1 .if1 .taken) (c .plain .ensures)
+    create-refused _ (at-place .thread .ensures) (at-if1 .if1 .taken) (c .plain .ensures)
 
 new-thread-requires : tie.Need-new-thread-requires
 new-thread-requires c κs = search needs

@@ -24,7 +24,7 @@ returns-2 : tie.Need-returns-2
 returns-2 c =
     let at-if1 = c .before in
     let at-place = at-if1 .before in
-    told-ready (at-place .place .ensures) (at-if1 .if1 .left) (c .running .ensures)
+    told-ready (at-place .thread .ensures) (at-if1 .if1 .left) (c .running .ensures)
 
 pub is-ready-spec : {M : Type 1} → statement M
 is-ready-spec =

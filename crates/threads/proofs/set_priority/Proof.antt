@@ -35,7 +35,7 @@ returns-2 c =
     let at-priority = at-if2 .before in
     let at-if1 = at-priority .before .before in
     let at-place = at-if1 .before in
-    priority-same _ (at-place .place .ensures) (at-if1 .if1 .left) (at-priority .priority .ensures)
+    priority-same _ (at-place .thread .ensures) (at-if1 .if1 .left) (at-priority .thread2 .ensures)
     (at-if2 .if2 .taken) (at-done .done .ensures)
 
 change-requires : tie.Need-change-requires

@@ -18,7 +18,7 @@ returns : tie.Need-returns
 returns c =
     let at-if1 = c .before in
     let at-status = at-if1 .before in
-    present-refused (at-status .status .ensures) (at-if1 .if1 .taken) (c .plain .ensures)
+    present-refused (at-status .endpoint .ensures) (at-if1 .if1 .taken) (c .plain .ensures)
 
 set-status-requires : tie.Need-set-status-requires
 set-status-requires c κs = search needs
@@ -28,7 +28,7 @@ done-requires c κs =
     let at-set-status = c .before .before .before in
     let at-status = at-set-status .before .before .before in
     let at-start = at-status .before .before .before in
-    made-asked (at-status .status .ensures) (at-set-status .set-status .ensures) (at-start .pre)
+    made-asked (at-status .endpoint .ensures) (at-set-status .set-status .ensures) (at-start .pre)
 
 same-length-2 : tie.Need-same-length-2
 same-length-2 c = search needs

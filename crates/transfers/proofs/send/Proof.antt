@@ -43,7 +43,7 @@ returns-3 c =
     let at-if2 = at-under-abort .before .before in
     let at-if1 = at-if2 .before in
     let at-status = at-if1 .before in
-    send-under (at-status .status .ensures) (at-if1 .if1 .left) (at-if2 .if2 .left)
+    send-under (at-status .endpoint .ensures) (at-if1 .if1 .left) (at-if2 .if2 .left)
     (at-under-abort .under-abort .ensures) (at-if3 .if3 .taken) (c .plain3 .ensures)
 
 drop-debt-requires : tie.Need-drop-debt-requires

@@ -28,7 +28,7 @@ returns c =
     let at-wake-from = at-accept .before .before .before .before in
     let at-message = at-wake-from .before .before in
     let at-badge = at-message .before .before in
-    taken (at-wake-from .wake-from .ensures) (at-badge .badge .ensures) (at-message .message .ensures)
+    taken (at-wake-from .wake-from .ensures) (at-badge .thread .ensures) (at-message .thread2 .ensures)
     (at-accept .accept .ensures)
 
 pub take-from-spec : {M : Type 1} → statement M

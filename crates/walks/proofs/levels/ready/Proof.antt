@@ -24,7 +24,7 @@ returns c =
     let at-priority = c .before in
     let at-place = at-priority .before in
     let at-prev = at-place .before in
-    ready-is _ _ _ _ (at-prev .prev .ensures) (at-place .place .ensures) (at-priority .priority .ensures)
+    ready-is _ _ _ _ (at-prev .prev .ensures) (at-place .thread .ensures) (at-priority .thread2 .ensures)
     (c .running .ensures)
 
 pub ready-spec : {M : Type 1} → statement M
