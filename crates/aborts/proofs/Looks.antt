@@ -11,12 +11,12 @@ use Rattle.machine.specs.State.{State}
 use Rattle.machine.specs.Endpoints.{underAbort, wakeFrom}
 use Rattle.machine.specs.Aborts.{Looked, hits, lookAt, look, after, pendingAt, lookUpTo}
 use Rattle.machine.proofs.Looking.{mid-look}
+use Rattle.layout.specs.declared.Field.{Field}
+use Rattle.layout.specs.declared.Part.{Part}
 use Rattle.layout.specs.Words.{firstOf}
 use Rattle.layout.specs.Shows.{Shows}
 use Rattle.store.specs.Steps.{Shown, Does, Tells}
 use Rattle.store.specs.Store.{IsThread, IsEndpoint}
-use Rattle.layout.specs.declared.Field.{Field}
-use Rattle.layout.specs.declared.Part.{Part}
 use Rattle.store.specs.Readings.{endpointIn, threadIn}
 use Rattle.queues.specs.Queues.{Waits}
 use Rattle.debts.specs.Debts.{Says, underIn, First}

@@ -18,11 +18,11 @@ use Rattle.machine.proofs.Debts.{mid-forget, mid-dropDebt, dropDebt-drops}
 use Rattle.machine.proofs.Looking.{mid-join}
 use Rattle.machine.specs.Mid.{clear, mine}
 use Rattle.machine.proofs.Aborting.{running-present, join-status, unowed, unowned, owns-this}
+use Rattle.layout.specs.declared.Part.{Part}
 use Rattle.layout.specs.Words.{statusCode, abortCode}
 use Rattle.layout.specs.Shows.{Shows}
 use Rattle.store.specs.Steps.{Shown, Does, Tells}
 use Rattle.store.specs.Store.{IsThread, IsEndpoint, owing, Owes}
-use Rattle.layout.specs.declared.Part.{Part}
 use Rattle.store.specs.Readings.{endpointIn}
 use Rattle.queues.specs.Queues.{Chooses}
 use Rattle.debts.specs.Debts.{Says, Calls, Joins, underIn, notedIn}

@@ -16,10 +16,10 @@ use Rattle.machine.proofs.Debts.{nothing-owns, live-present, mid-dropDebt, drop
 use Rattle.machine.proofs.Debts.{endAbort-runs, endAbort-debt}
 use Rattle.machine.proofs.Looking.{mid-begin, mid-lookUpTo, steady-lookUpTo}
 use Rattle.machine.proofs.Aborting.{running-present, begin-status}
+use Rattle.layout.specs.declared.Part.{Part}
 use Rattle.layout.specs.Shows.{Shows}
 use Rattle.store.specs.Steps.{Shown, Does, Tells}
 use Rattle.store.specs.Store.{IsEndpoint}
-use Rattle.layout.specs.declared.Part.{Part}
 use Rattle.store.specs.Readings.{endpointIn}
 use Rattle.queues.specs.Queues.{Chooses}
 use Rattle.debts.specs.Debts.{Debtor, Endable, Ends, Begins}

@@ -4,10 +4,10 @@ use Prim.Native.Nat.{ℕ, _-_}
 use mathlib.Core.Path.{_≡_, refl, sym, _∙_, ap, subst}
 use mathlib.Core.List.{List}
 use Rattle.machine.specs.State.{State, Thread, setThread, withTicks}
+use Rattle.layout.specs.declared.Field.{Field}
 use Rattle.layout.specs.Shows.{Shows}
 use Rattle.store.specs.Steps.{Shown, Does, Tells}
 use Rattle.store.specs.Store.{IsThread, placing, prioritising, ticking, Places, Owes}
-use Rattle.layout.specs.declared.Field.{Field}
 use Rattle.store.specs.Readings.{threadIn}
 use Rattle.store.proofs.Composed.{still, remade}
 use Rattle.blocks.specs.declared.Block.{Block}

@@ -33,14 +33,12 @@ use Rattle.checks.proofs.Reading.{Reads}
 abbrev Zeros : (Field → ℕ) → Type 0
 Zeros w =
     ((((((w Field.Priority ≡ 0) × (w Field.Ticks ≡ 0)) × (w Field.Outcome ≡ 0)) × (w Field.Badge ≡ 0))
-    × (w Field.Message ≡ 0)) × (w Field.Owes ≡ 0))
-    × (w Field.Note ≡ 0)
+    × (w Field.Message ≡ 0)) × (w Field.Owes ≡ 0)) × (w Field.Note ≡ 0)
 
 abbrev Counted : (Field → ℕ) → Type 0
 Counted w =
     (((((w Field.Place ≤ 161) × (w Field.Priority ≤ 255)) × ((1 ≤ w Field.Ticks) × (w Field.Ticks ≤ 5)))
-    × (w Field.Outcome ≤ 5))
-    × (w Field.Badge < 2 ^ 28)) × (w Field.Message < 2 ^ 28)
+    × (w Field.Outcome ≤ 5)) × (w Field.Badge < 2 ^ 28)) × (w Field.Message < 2 ^ 28)
 
 abbrev Kept : (Field → ℕ) → Type 0
 Kept w =

@@ -7,8 +7,8 @@ use lib.Dec.{eqb, leb, ltb}
 use Rattle.machine.specs.Lists.{pick}
 use Rattle.summary.specs.Levels.{wordOf, topOf}
 use Rattle.layout.specs.declared.Field.{Field}
-use Rattle.layout.specs.Addresses.{ofThread}
 use Rattle.layout.specs.declared.Part.{Part}
+use Rattle.layout.specs.Addresses.{ofThread}
 use Rattle.layout.specs.Addresses.{ofEndpoint}
 use Rattle.layout.specs.Addresses.{ofLine, summary, top, running, unused, next, prev, head, at, linkAt, word}
 use Rattle.layout.specs.Addresses.{afterAt, beforeAt}

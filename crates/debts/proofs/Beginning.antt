@@ -12,6 +12,7 @@ use Rattle.machine.specs.State.{State, Thread, sending, receiving, owns, Abort}
 use Rattle.machine.specs.Endpoints.{isSending, senders, setAbort}
 use Rattle.machine.specs.Aborts.{begin}
 use Rattle.machine.proofs.Lists.{only-nil, only-all, only-none}
+use Rattle.layout.specs.declared.Field.{Field}
 use Rattle.layout.specs.Words.{placeCode, firstOf, lastOf, queuesOf}
 use Rattle.layout.specs.Shows.{Shows}
 use Rattle.layout.proofs.Standing.{queues-endpoint}
@@ -19,7 +20,6 @@ use Rattle.links.specs.Links.{First, Last}
 use Rattle.layout.proofs.Chains.{first-zero}
 use Rattle.store.specs.Steps.{Shown, Does, Tells}
 use Rattle.store.specs.Store.{IsThread, Owes, Aborts}
-use Rattle.layout.specs.declared.Field.{Field}
 use Rattle.store.specs.Readings.{threadIn}
 use Rattle.debts.specs.Debts.{AllAt, Alike, Begins, firstSender, lastSender}
 

@@ -9,11 +9,11 @@ use native.Mathlib.Omega.{arith}
 use Rattle.machine.specs.State.{State, Debt, nothing, owns, noted}
 use Rattle.machine.specs.Endpoints.{dropped, dropDebt}
 use Rattle.machine.specs.Aborts.{dropUnless, dropOther}
+use Rattle.layout.specs.declared.Field.{Field}
 use Rattle.layout.specs.Words.{debtCode}
 use Rattle.layout.specs.Shows.{Shows}
 use Rattle.store.specs.Steps.{Shown, Does, Tells}
 use Rattle.store.specs.Store.{IsThread, HasAbort, owned, Owes, Owners}
-use Rattle.layout.specs.declared.Field.{Field}
 use Rattle.store.specs.Readings.{threadIn}
 use Rattle.debts.specs.Debts.{Says, Debtor, Calls, ownsIn}
 

@@ -9,11 +9,11 @@ use Rattle.machine.specs.Lists.{put}
 use Rattle.machine.specs.State.{State, noted, Abort, Status, Endpoint, setEndpoint}
 use Rattle.machine.specs.Endpoints.{ownerOf, setAbort, noteTo, note, endAbort}
 use Rattle.machine.proofs.Lists.{Same, same, other, same?, put-same, put-other}
+use Rattle.layout.specs.declared.Part.{Part}
 use Rattle.layout.specs.Words.{linkOf, badgeCode}
 use Rattle.layout.specs.Shows.{Shows}
 use Rattle.store.specs.Steps.{Shown, Does, Tells}
 use Rattle.store.specs.Store.{IsThread, IsEndpoint, standing, Owes, Stands, Aborts}
-use Rattle.layout.specs.declared.Part.{Part}
 use Rattle.store.specs.Readings.{endpointIn}
 use Rattle.store.proofs.Composed.{shown-after}
 use Rattle.debts.specs.Debts.{Endable, noting, Ends}

@@ -9,11 +9,11 @@ use native.Mathlib.Omega.{arith}
 use Rattle.machine.specs.State.{State, owns}
 use Rattle.machine.specs.Endpoints.{ownerOf}
 use Rattle.machine.specs.Aborts.{joinAs, join}
+use Rattle.layout.specs.declared.Part.{Part}
 use Rattle.layout.specs.Words.{linkOf}
 use Rattle.layout.specs.Shows.{Shows}
 use Rattle.store.specs.Steps.{Shown, Does, Tells}
 use Rattle.store.specs.Store.{IsThread, IsEndpoint, owned, Owes, Owners}
-use Rattle.layout.specs.declared.Part.{Part}
 use Rattle.store.specs.Readings.{endpointIn}
 use Rattle.debts.specs.Debts.{Joins}
 

@@ -12,6 +12,7 @@ use Rattle.machine.specs.State.{State, Abort}
 use Rattle.machine.specs.Endpoints.{ownerOf, pendingOf, passing, setAbort}
 use Rattle.machine.specs.Aborts.{lookAt}
 use Rattle.machine.proofs.Lists.{distinct-left, distinct-right, without-first}
+use Rattle.layout.specs.declared.Part.{Part}
 use Rattle.layout.specs.Words.{linkOf, firstOf, lastOf, badgeCode, queuesOf}
 use Rattle.layout.specs.Shows.{Shows}
 use Rattle.layout.proofs.Standing.{queues-endpoint}
@@ -19,7 +20,6 @@ use Rattle.layout.proofs.Walks.{last-in}
 use Rattle.links.specs.Links.{Next}
 use Rattle.store.specs.Steps.{Does, Tells}
 use Rattle.store.specs.Store.{IsEndpoint, Aborts}
-use Rattle.layout.specs.declared.Part.{Part}
 use Rattle.store.specs.Readings.{endpointIn}
 use Rattle.debts.specs.Debts.{First, cursorWithout, endWithout}
 

@@ -11,11 +11,11 @@ use borrow.Author.Tests.{eq-eqb, ne-eqb}
 use Rattle.machine.specs.State.{Debt, nothing, owns, noted, Abort}
 use Rattle.machine.specs.Endpoints.{underAbort}
 use Rattle.machine.specs.Aborts.{hasNote, ownsThis}
+use Rattle.layout.specs.declared.Field.{Field}
+use Rattle.layout.specs.declared.Part.{Part}
 use Rattle.layout.specs.Words.{debtCode, noteCode, abortCode, badgeCode}
 use Rattle.store.specs.Steps.{Tells}
 use Rattle.store.specs.Store.{IsThread, IsEndpoint}
-use Rattle.layout.specs.declared.Field.{Field}
-use Rattle.layout.specs.declared.Part.{Part}
 use Rattle.store.specs.Readings.{endpointIn, threadIn}
 use Rattle.debts.specs.Debts.{Says, Calls, underIn, notedIn, ownsIn}
 

@@ -11,12 +11,12 @@ use Rattle.machine.specs.Results.{Result, plain, counted, accept, refuse}
 use Rattle.machine.specs.Aborts.{deleted, deleteFrom, deleteAt, delete}
 use Rattle.machine.proofs.Mid.{sound-mid}
 use Rattle.machine.proofs.Debts.{mid-dropDebt}
+use Rattle.layout.specs.declared.Part.{Part}
 use Rattle.layout.specs.Words.{statusCode}
 use Rattle.layout.specs.Shows.{Shows}
 use Rattle.links.specs.Links.{First}
 use Rattle.store.specs.Steps.{Shown, Does, Tells}
 use Rattle.store.specs.Store.{IsEndpoint, Stands}
-use Rattle.layout.specs.declared.Part.{Part}
 use Rattle.store.specs.Readings.{endpointIn}
 use Rattle.queues.specs.Queues.{Chooses}
 use Rattle.debts.specs.Debts.{Debtor, Endable, Ends}

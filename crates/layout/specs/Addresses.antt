@@ -94,9 +94,8 @@ unfoldable pub inThread : ℕ → ℕ → Name
 inThread t k =
     getD
     (slot (ofThread Field.Place t) ∷ slot (ofThread Field.Priority t) ∷ slot (ofThread Field.Ticks t)
-    ∷ slot (ofThread Field.Outcome t)
-    ∷ slot (ofThread Field.Badge t) ∷ slot (ofThread Field.Message t) ∷ link (next t) ∷ link (prev t)
-    ∷ slot (ofThread Field.Owes t) ∷ slot (ofThread Field.Note t) ∷ []) k (slot top)
+    ∷ slot (ofThread Field.Outcome t) ∷ slot (ofThread Field.Badge t) ∷ slot (ofThread Field.Message t)
+    ∷ link (next t) ∷ link (prev t) ∷ slot (ofThread Field.Owes t) ∷ slot (ofThread Field.Note t) ∷ []) k (slot top)
 
 unfoldable pub inQueue : ℕ → ℕ → Name
 inQueue q k = getD (link (head q) ∷ link (tail q) ∷ []) k (slot top)

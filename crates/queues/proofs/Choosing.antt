@@ -19,13 +19,13 @@ use Rattle.summary.specs.declared.Level.{Level}
 use Rattle.summary.specs.declared.Level.the-variants.{At, Nothing}
 use Rattle.summary.proofs.Tops.{highest-levels}
 use Rattle.summary.specs.Levels.{levelOf, IsSummary, Finds}
+use Rattle.layout.specs.declared.Field.{Field}
 use Rattle.layout.specs.Words.{linkOf, firstOf, queuesOf, occupiedIn}
 use Rattle.layout.specs.Shows.{Shows}
 use Rattle.layout.proofs.Standing.{queues-level}
 use Rattle.links.specs.Links.{First}
 use Rattle.store.specs.Steps.{Shown, Does, Tells}
 use Rattle.store.specs.Store.{IsThread, Any, Runs}
-use Rattle.layout.specs.declared.Field.{Field}
 use Rattle.store.specs.Readings.{threadIn, runningIn}
 use Rattle.store.specs.Marks.{Loads}
 use Rattle.queues.specs.Queues.{Loose, StandsAt, Chooses, leaveLevel, highestLink}

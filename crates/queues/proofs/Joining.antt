@@ -12,13 +12,13 @@ use Rattle.machine.specs.State.{State, Place, able, setRuns}
 use Rattle.machine.specs.Scheduling.{enqueue, standDown, wake, block, occupied}
 use Rattle.machine.specs.Endpoints.{joinEndpoint}
 use Rattle.machine.proofs.Lists.{put-same}
+use Rattle.layout.specs.declared.Field.{Field}
 use Rattle.layout.specs.Words.{queuesOf}
 use Rattle.layout.specs.Shows.{Linked, Shows}
 use Rattle.layout.proofs.Standing.{queues-level, queues-endpoint}
 use Rattle.links.specs.Links.{Joinable, Joins}
 use Rattle.store.specs.Steps.{Shown, Does, Tells}
 use Rattle.store.specs.Store.{IsThread, placing, Places, Runs}
-use Rattle.layout.specs.declared.Field.{Field}
 use Rattle.store.specs.Readings.{threadIn}
 use Rattle.store.specs.Marks.{MarksIn}
 use Rattle.queues.specs.Queues.{Loose, Comes, Blocks}

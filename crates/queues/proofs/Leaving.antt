@@ -10,6 +10,7 @@ use Rattle.machine.specs.State.{State, Endpoint, setEndpoint}
 use Rattle.machine.specs.Scheduling.{unqueue, wake, occupied}
 use Rattle.machine.specs.Endpoints.{leaveEndpoint, wakeFrom}
 use Rattle.machine.proofs.Lists.{Same, same, other, same?, put-same, put-other}
+use Rattle.layout.specs.declared.Field.{Field}
 use Rattle.layout.specs.Words.{firstOf, queuesOf}
 use Rattle.layout.specs.Shows.{Linked, Shows}
 use Rattle.layout.proofs.Standing.{queues-level, queues-endpoint as endpoint-queue}
@@ -18,7 +19,6 @@ use Rattle.links.proofs.Neatness.{linked-neat, free-leave}
 use Rattle.layout.proofs.Chains.{first-zero}
 use Rattle.store.specs.Steps.{Shown, Does, Tells}
 use Rattle.store.specs.Store.{IsThread}
-use Rattle.layout.specs.declared.Field.{Field}
 use Rattle.store.specs.Readings.{threadIn}
 use Rattle.store.specs.Marks.{MarksIn}
 use Rattle.queues.specs.Queues.{Loose, Stands, StandsAt, Waits, leaveLevel, passingAt}

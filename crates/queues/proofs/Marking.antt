@@ -8,6 +8,7 @@ use native.Mathlib.Omega.{arith}
 use Rattle.machine.specs.Lists.{without, Distinct}
 use Rattle.machine.specs.State.{State, Abort}
 use Rattle.machine.proofs.Lists.{distinct-left, distinct-right}
+use Rattle.layout.specs.declared.Part.{Part}
 use Rattle.layout.specs.Addresses.{at}
 use Rattle.layout.specs.Words.{firstOf, lastOf, queuesOf}
 use Rattle.layout.specs.Shows.{Shows}
@@ -15,7 +16,6 @@ use Rattle.layout.proofs.Standing.{queues-endpoint}
 use Rattle.links.specs.Links.{Next, Prev}
 use Rattle.store.specs.Steps.{Does, Tells}
 use Rattle.store.specs.Store.{IsEndpoint, Looks}
-use Rattle.layout.specs.declared.Part.{Part}
 use Rattle.store.specs.Readings.{endpointIn}
 use Rattle.store.proofs.Sites.{parts, site-shows, site-start}
 use Rattle.queues.specs.Queues.{Waits, passingAt}

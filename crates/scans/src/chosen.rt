@@ -30,7 +30,7 @@ fn word(tables: &[u32], w: usize) -> usize
     let mut bit: usize = 1;
     let mut sum: usize = 0;
     while k < 32 {
-        sum += share(reads::head(tables, 32 * w + k), bit);
+        sum += share(words::head(tables, 32 * w + k), bit);
         bit += bit;
         k += 1;
     }
@@ -46,14 +46,14 @@ pub fn summary(tables: &[u32]) -> bool
     let mut sum: usize = 0;
     while w < 8 {
         let word = word(tables, w);
-        if reads::summary(tables, w) != word {
+        if words::summary(tables, w) != word {
             return false;
         }
         sum += share(word, bit);
         bit += bit;
         w += 1;
     }
-    reads::top(tables) == sum
+    words::top(tables) == sum
 }
 
 // No level above p is occupied.
@@ -64,7 +64,7 @@ fn above(tables: &[u32], p: usize) -> bool
     let mut i = p;
     while i < 255 {
         i += 1;
-        if reads::head(tables, i) != 0 {
+        if words::head(tables, i) != 0 {
             return false;
         }
     }
@@ -75,14 +75,14 @@ pub fn running(tables: &[u32]) -> bool
     requires { ⌜ length (now tables) ≡ 4096 ⌝ }
     ensures { λ r. ⌜ r ≡ runningTest (now (tables .entry)) ⌝ }
 {
-    let running = reads::running(tables);
+    let running = words::running(tables);
     if running == 0 {
-        return (reads::head(tables, 0) == 0) & above(tables, 0);
+        return (words::head(tables, 0) == 0) & above(tables, 0);
     }
     if 256 < running {
         return false;
     }
     let t = running - 1;
-    (reads::thread(tables, Field::Place, t) == 1)
-        & above(tables, reads::thread(tables, Field::Priority, t))
+    (words::thread(tables, Field::Place, t) == 1)
+        & above(tables, words::thread(tables, Field::Priority, t))
 }

@@ -11,14 +11,14 @@ fn line(tables: &[u32], l: usize) -> bool
     requires { ⌜ (length (now tables) ≡ 4096) × (l ≤ 31) ⌝ }
     ensures { λ r. ⌜ r ≡ lineTest (now (tables .entry)) l ⌝ }
 {
-    let line = reads::line(tables, l);
+    let line = words::line(tables, l);
     if line < 2 {
         return true;
     }
     if 257 < line {
         return false;
     }
-    reads::thread(tables, Field::Place, line - 2) == 130 + l
+    words::thread(tables, Field::Place, line - 2) == 130 + l
 }
 
 pub fn lines(tables: &[u32]) -> bool
@@ -42,7 +42,7 @@ pub fn unused(tables: &[u32]) -> bool
 {
     let mut i = 0;
     while i < 470 {
-        if reads::unused(tables, i) != 0 {
+        if words::unused(tables, i) != 0 {
             return false;
         }
         i += 1;

@@ -15,13 +15,13 @@ fn absent(tables: &[u32], t: usize) -> bool
     requires { ⌜ (length (now tables) ≡ 4096) × (t ≤ 255) ⌝ }
     ensures { λ r. ⌜ r ≡ absentTest (now (tables .entry)) t ⌝ }
 {
-    (reads::thread(tables, Field::Priority, t) == 0)
-        & (reads::thread(tables, Field::Ticks, t) == 0)
-        & (reads::thread(tables, Field::Outcome, t) == 0)
-        & (reads::thread(tables, Field::Badge, t) == 0)
-        & (reads::thread(tables, Field::Message, t) == 0)
-        & (reads::thread(tables, Field::Owes, t) == 0)
-        & (reads::thread(tables, Field::Note, t) == 0)
+    (words::thread(tables, Field::Priority, t) == 0)
+        & (words::thread(tables, Field::Ticks, t) == 0)
+        & (words::thread(tables, Field::Outcome, t) == 0)
+        & (words::thread(tables, Field::Badge, t) == 0)
+        & (words::thread(tables, Field::Message, t) == 0)
+        & (words::thread(tables, Field::Owes, t) == 0)
+        & (words::thread(tables, Field::Note, t) == 0)
 }
 
 // A present thread's numbers are in range.
@@ -29,13 +29,13 @@ fn numbers(tables: &[u32], t: usize) -> bool
     requires { ⌜ (length (now tables) ≡ 4096) × (t ≤ 255) ⌝ }
     ensures { λ r. ⌜ r ≡ numbersTest (now (tables .entry)) t ⌝ }
 {
-    let ticks = reads::thread(tables, Field::Ticks, t);
-    (reads::thread(tables, Field::Place, t) <= 161)
-        & (reads::thread(tables, Field::Priority, t) <= 255)
+    let ticks = words::thread(tables, Field::Ticks, t);
+    (words::thread(tables, Field::Place, t) <= 161)
+        & (words::thread(tables, Field::Priority, t) <= 255)
         & ((1 <= ticks) & (ticks <= 5))
-        & (reads::thread(tables, Field::Outcome, t) <= 5)
-        & (reads::thread(tables, Field::Badge, t) < 0x1000_0000)
-        & (reads::thread(tables, Field::Message, t) < 0x1000_0000)
+        & (words::thread(tables, Field::Outcome, t) <= 5)
+        & (words::thread(tables, Field::Badge, t) < 0x1000_0000)
+        & (words::thread(tables, Field::Message, t) < 0x1000_0000)
 }
 
 // Outcome, badge and message stand only where a thread stores them.
@@ -43,10 +43,10 @@ fn stored(tables: &[u32], t: usize) -> bool
     requires { ⌜ (length (now tables) ≡ 4096) × (t ≤ 255) ⌝ }
     ensures { λ r. ⌜ r ≡ storedTest (now (tables .entry)) t ⌝ }
 {
-    let place = reads::thread(tables, Field::Place, t);
-    let outcome = reads::thread(tables, Field::Outcome, t);
-    let nothing = (reads::thread(tables, Field::Badge, t) == 0)
-        & (reads::thread(tables, Field::Message, t) == 0);
+    let place = words::thread(tables, Field::Place, t);
+    let outcome = words::thread(tables, Field::Outcome, t);
+    let nothing = (words::thread(tables, Field::Badge, t) == 0)
+        & (words::thread(tables, Field::Message, t) == 0);
     ((place == 1) | (outcome == 0)) & ((outcome == 2) | ((2 <= place) & (place < 66)) | nothing)
 }
 
@@ -55,11 +55,11 @@ fn waits(tables: &[u32], t: usize) -> bool
     requires { ⌜ (length (now tables) ≡ 4096) × (t ≤ 255) × (threadIn (now tables) Field.Place t ≤ 161) ⌝ }
     ensures { λ r. ⌜ r ≡ waitsTest (now (tables .entry)) t ⌝ }
 {
-    let place = reads::thread(tables, Field::Place, t);
+    let place = words::thread(tables, Field::Place, t);
     if place < 130 {
         return true;
     }
-    reads::line(tables, place - 130) == t + 2
+    words::line(tables, place - 130) == t + 2
 }
 
 // What a thread owes: nothing, an abort that names it as owner, or a note.
@@ -67,13 +67,13 @@ fn owing(tables: &[u32], t: usize) -> bool
     requires { ⌜ (length (now tables) ≡ 4096) × (t ≤ 255) ⌝ }
     ensures { λ r. ⌜ r ≡ owesTest (threadIn (now (tables .entry)) Field.Owes t) (now (tables .entry)) t ⌝ }
 {
-    let owes = reads::thread(tables, Field::Owes, t);
-    let note = reads::thread(tables, Field::Note, t);
+    let owes = words::thread(tables, Field::Owes, t);
+    let note = words::thread(tables, Field::Note, t);
     if owes == 0 {
         return note == 0;
     }
     if owes <= 64 {
-        return (note == 0) & (reads::endpoint(tables, Part::Owner, owes - 1) == t + 1);
+        return (note == 0) & (words::endpoint(tables, Part::Owner, owes - 1) == t + 1);
     }
     (owes <= 128) & (note < 0x1000_0000)
 }
@@ -93,7 +93,7 @@ fn block(tables: &[u32], t: usize) -> bool
     requires { ⌜ (length (now tables) ≡ 4096) × (t ≤ 255) ⌝ }
     ensures { λ r. ⌜ r ≡ blockTest (now (tables .entry)) t ⌝ }
 {
-    if reads::thread(tables, Field::Place, t) == 0 {
+    if words::thread(tables, Field::Place, t) == 0 {
         return absent(tables, t);
     }
     present(tables, t)

@@ -11,10 +11,10 @@ use Rattle.machine.specs.Results.{plain, done}
 use Rattle.machine.specs.Machine.{isAbsent, createIf, createThread}
 use Rattle.machine.proofs.Mid.{sound-mid}
 use Rattle.machine.proofs.Sites.{differ}
+use Rattle.layout.specs.declared.Field.{Field}
 use Rattle.layout.specs.Shows.{Shows}
 use Rattle.store.specs.Steps.{Shown, Does, Tells}
 use Rattle.store.specs.Store.{IsThread, newThread, creating}
-use Rattle.layout.specs.declared.Field.{Field}
 use Rattle.store.specs.Readings.{threadIn}
 use Rattle.queues.specs.Queues.{Loose, Chooses}
 use Rattle.queues.proofs.Joining.{shown-next, and-then}

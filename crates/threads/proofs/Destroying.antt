@@ -15,11 +15,11 @@ use Rattle.machine.proofs.Lists.{clash}
 use Rattle.machine.proofs.Mid.{sound-mid}
 use Rattle.machine.proofs.Keeping.{keeps-place}
 use Rattle.machine.proofs.Debts.{mid-dropDebt, dropDebt-drops}
+use Rattle.layout.specs.declared.Field.{Field}
 use Rattle.layout.specs.Words.{placeCode}
 use Rattle.layout.specs.Shows.{Shows}
 use Rattle.store.specs.Steps.{Shown, Does, Tells}
 use Rattle.store.specs.Store.{IsThread, clearing}
-use Rattle.layout.specs.declared.Field.{Field}
 use Rattle.store.specs.Readings.{threadIn}
 use Rattle.queues.specs.Queues.{Chooses}
 use Rattle.queues.proofs.Joining.{shown-next, and-then}

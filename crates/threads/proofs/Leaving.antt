@@ -17,12 +17,12 @@ use Rattle.machine.specs.Sound.{Present, Queued}
 use Rattle.machine.specs.Mid.{Mid}
 use Rattle.machine.proofs.Sites.{not-awaited}
 use Rattle.machine.proofs.Threads.{not-running}
+use Rattle.layout.specs.declared.Field.{Field}
 use Rattle.layout.specs.Words.{placeCode}
 use Rattle.layout.specs.Shows.{Shows}
 use Rattle.layout.proofs.Addresses.{below?}
 use Rattle.store.specs.Steps.{Shown, Does}
 use Rattle.store.specs.Store.{IsThread, IsLine, Runs, Lines}
-use Rattle.layout.specs.declared.Field.{Field}
 use Rattle.store.specs.Readings.{threadIn}
 use Rattle.queues.specs.Queues.{Stands, Waits}
 use Rattle.debts.specs.Debts.{Says}

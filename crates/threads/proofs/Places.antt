@@ -13,10 +13,10 @@ use Rattle.machine.specs.Machine.{isAbsent, isAble, isRunning}
 use Rattle.machine.specs.Sound.{Ready}
 use Rattle.machine.proofs.Lists.{Same, same, other, same?, clash}
 use Rattle.machine.proofs.Threads.{not-running}
+use Rattle.layout.specs.declared.Field.{Field}
 use Rattle.layout.specs.Words.{placeCode, linkOf}
 use Rattle.store.specs.Steps.{Tells}
 use Rattle.store.specs.Store.{IsThread, Any}
-use Rattle.layout.specs.declared.Field.{Field}
 use Rattle.store.specs.Readings.{threadIn, runningIn}
 use Rattle.debts.specs.Debts.{Says}
 use Rattle.threads.specs.Threads.{readyIn}

@@ -13,10 +13,10 @@ use Rattle.machine.specs.Results.{plain, done}
 use Rattle.machine.specs.Machine.{isAbsent, moveReady, changeUnless, priorityIf, setPriority}
 use Rattle.machine.proofs.Lists.{clash}
 use Rattle.machine.proofs.Mid.{sound-mid}
+use Rattle.layout.specs.declared.Field.{Field}
 use Rattle.layout.specs.Shows.{Shows}
 use Rattle.store.specs.Steps.{Shown, Does, Tells}
 use Rattle.store.specs.Store.{IsThread, prioritising}
-use Rattle.layout.specs.declared.Field.{Field}
 use Rattle.store.specs.Readings.{threadIn}
 use Rattle.queues.specs.Queues.{Loose, Stands, Chooses}
 use Rattle.queues.proofs.Joining.{shown-next, and-then}

@@ -15,10 +15,10 @@ use Rattle.machine.proofs.Mid.{sound-mid}
 use Rattle.machine.proofs.Lists.{put-all}
 use Rattle.machine.proofs.Sites.{not-at}
 use Rattle.machine.proofs.Debts.{live-present}
+use Rattle.layout.specs.declared.Part.{Part}
 use Rattle.layout.specs.Words.{statusCode}
 use Rattle.store.specs.Steps.{Shown, Does, Tells}
 use Rattle.store.specs.Store.{IsEndpoint, standing, Stands}
-use Rattle.layout.specs.declared.Part.{Part}
 use Rattle.store.specs.Readings.{endpointIn}
 use Rattle.queues.specs.Queues.{Loose, Chooses}
 use Rattle.results.specs.Results.{Asked, Performs}

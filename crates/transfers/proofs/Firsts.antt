@@ -15,13 +15,13 @@ use Rattle.machine.proofs.Lists.{only-nil, only-all, only-none, mem-only}
 use Rattle.machine.specs.Mid.{Mid}
 use Rattle.machine.proofs.Keeping.{Keeps, keeps-place}
 use Rattle.machine.proofs.Debts.{dropDebt-drops}
+use Rattle.layout.specs.declared.Field.{Field}
 use Rattle.layout.specs.Words.{placeCode, firstOf}
 use Rattle.layout.specs.Shows.{Shows}
 use Rattle.links.specs.Links.{First}
 use Rattle.layout.proofs.Chains.{first-zero}
 use Rattle.store.specs.Steps.{Tells}
 use Rattle.store.specs.Store.{IsThread}
-use Rattle.layout.specs.declared.Field.{Field}
 use Rattle.store.specs.Readings.{threadIn}
 use Rattle.debts.specs.Debts.{AllAt, Alike}
 use Rattle.debts.proofs.Beginning.{first-waits, first-waiter, waits, small}

@@ -14,11 +14,11 @@ use Rattle.machine.specs.Results.{plain, done}
 use Rattle.machine.specs.Machine.{sendTo, sendUnless, sendAt, send}
 use Rattle.machine.specs.Sound.{Queued}
 use Rattle.machine.proofs.Waking.{mid-wakeFrom}
+use Rattle.layout.specs.declared.Part.{Part}
 use Rattle.layout.specs.Words.{statusCode}
 use Rattle.layout.specs.Shows.{Shows}
 use Rattle.store.specs.Steps.{Shown, Does, Tells}
 use Rattle.store.specs.Store.{IsEndpoint}
-use Rattle.layout.specs.declared.Part.{Part}
 use Rattle.store.specs.Readings.{endpointIn}
 use Rattle.queues.specs.Queues.{Chooses, Comes, Waits}
 use Rattle.debts.specs.Debts.{Says, Debtor, underIn}

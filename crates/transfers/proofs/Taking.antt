@@ -12,12 +12,12 @@ use Rattle.machine.specs.Endpoints.{isSending, senders, joinEndpoint, wakeFrom,
 use Rattle.machine.specs.Results.{plain}
 use Rattle.machine.specs.Machine.{receiveFrom, receiveAt, receive}
 use Rattle.machine.proofs.Waking.{mid-wakeFrom}
+use Rattle.layout.specs.declared.Field.{Field}
+use Rattle.layout.specs.declared.Part.{Part}
 use Rattle.layout.specs.Words.{statusCode}
 use Rattle.layout.specs.Shows.{Shows}
 use Rattle.store.specs.Steps.{Shown, Does, Tells}
 use Rattle.store.specs.Store.{IsThread, IsEndpoint}
-use Rattle.layout.specs.declared.Field.{Field}
-use Rattle.layout.specs.declared.Part.{Part}
 use Rattle.store.specs.Readings.{endpointIn, threadIn}
 use Rattle.queues.specs.Queues.{Chooses, Comes, Waits}
 use Rattle.debts.specs.Debts.{Debtor, firstSender}

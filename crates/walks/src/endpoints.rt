@@ -19,10 +19,10 @@ fn status(tables: &[u32], e: usize) -> bool
     requires { ⌜ (length (now tables) ≡ 4096) × (e ≤ 63) ⌝ }
     ensures { λ r. ⌜ r ≡ statusTest (endpointIn (now (tables .entry)) Part.Status e) (now (tables .entry)) e ⌝ }
 {
-    let status = reads::endpoint(tables, Part::Status, e);
-    let aborting = reads::endpoint(tables, Part::Aborting, e);
+    let status = words::endpoint(tables, Part::Status, e);
+    let aborting = words::endpoint(tables, Part::Aborting, e);
     if status == 0 {
-        return (reads::head(tables, 256 + e) == 0) & (aborting == 0);
+        return (words::head(tables, 256 + e) == 0) & (aborting == 0);
     }
     if status == 1 {
         return true;
@@ -35,14 +35,14 @@ fn owner(tables: &[u32], e: usize) -> bool
     requires { ⌜ (length (now tables) ≡ 4096) × (e ≤ 63) ⌝ }
     ensures { λ r. ⌜ r ≡ ownerTest (endpointIn (now (tables .entry)) Part.Owner e) (now (tables .entry)) e ⌝ }
 {
-    let owner = reads::endpoint(tables, Part::Owner, e);
+    let owner = words::endpoint(tables, Part::Owner, e);
     if owner == 0 {
         return true;
     }
     if 256 < owner {
         return false;
     }
-    reads::thread(tables, Field::Owes, owner - 1) == e + 1
+    words::thread(tables, Field::Owes, owner - 1) == e + 1
 }
 
 // No abort, or one of a badge in range.
@@ -50,13 +50,13 @@ fn abort(tables: &[u32], e: usize) -> bool
     requires { ⌜ (length (now tables) ≡ 4096) × (e ≤ 63) ⌝ }
     ensures { λ r. ⌜ r ≡ abortTest (endpointIn (now (tables .entry)) Part.Aborting e) (now (tables .entry)) e ⌝ }
 {
-    let aborting = reads::endpoint(tables, Part::Aborting, e);
-    let badge = reads::endpoint(tables, Part::Aborted, e);
-    let cursor = reads::endpoint(tables, Part::Cursor, e);
-    let end = reads::endpoint(tables, Part::End, e);
+    let aborting = words::endpoint(tables, Part::Aborting, e);
+    let badge = words::endpoint(tables, Part::Aborted, e);
+    let cursor = words::endpoint(tables, Part::Cursor, e);
+    let end = words::endpoint(tables, Part::End, e);
     if aborting == 0 {
         return (badge == 0)
-            & (reads::endpoint(tables, Part::Owner, e) == 0)
+            & (words::endpoint(tables, Part::Owner, e) == 0)
             & (cursor == 0)
             & (end == 0);
     }
@@ -71,14 +71,14 @@ fn kind(tables: &[u32], e: usize) -> usize
     requires { ⌜ (length (now tables) ≡ 4096) × (e ≤ 63) ⌝ }
     ensures { λ r. ⌜ r ≡ kindOf (word (now (tables .entry)) (linkAt (head (256 + e)))) (now (tables .entry)) e ⌝ }
 {
-    let y = reads::head(tables, 256 + e);
+    let y = words::head(tables, 256 + e);
     if y == 0 {
         return 2 + e;
     }
     if 256 < y {
         return 0;
     }
-    reads::thread(tables, Field::Place, y - 1)
+    words::thread(tables, Field::Place, y - 1)
 }
 
 // The badge that may not stand outside the marks, 2^28 where there is none.
@@ -86,8 +86,8 @@ fn banned(tables: &[u32], e: usize, k: usize) -> usize
     requires { ⌜ (length (now tables) ≡ 4096) × (e ≤ 63) ⌝ }
     ensures { λ r. ⌜ r ≡ bannedOf (now (tables .entry)) e k ⌝ }
 {
-    if (reads::endpoint(tables, Part::Aborting, e) == 1) & (k == 2 + e) {
-        return reads::endpoint(tables, Part::Aborted, e);
+    if (words::endpoint(tables, Part::Aborting, e) == 1) & (k == 2 + e) {
+        return words::endpoint(tables, Part::Aborted, e);
     }
     0x1000_0000
 }
@@ -97,9 +97,9 @@ fn stands(tables: &[u32], k: usize, b: usize, x: usize, t: usize, f: Phase) -> b
     requires { ⌜ (length (now tables) ≡ 4096) × (t ≤ 255) ⌝ }
     ensures { λ r. ⌜ r ≡ standsBehind (now (tables .entry)) k b (phaseOf f) x t ⌝ }
 {
-    let prev = reads::prev(tables, t);
-    let place = reads::thread(tables, Field::Place, t);
-    let badge = reads::thread(tables, Field::Badge, t);
+    let prev = words::prev(tables, t);
+    let place = words::thread(tables, Field::Place, t);
+    let badge = words::thread(tables, Field::Badge, t);
     (prev == x) & (place == k) & crate::phases::allowed(f, b, badge)
 }
 
@@ -108,16 +108,16 @@ fn waiters(tables: &[u32], scratch: &mut [u32], e: usize, k: usize) -> bool
     ensures { λ r. ⌜ Walk (now (scratch .entry)) (now (scratch .exit)) (met (now (tables .entry)) (256 + e))
         (waitersAs (now (tables .entry)) e k) r ⌝ }
 {
-    let cursor = reads::endpoint(tables, Part::Cursor, e);
-    let end = reads::endpoint(tables, Part::End, e);
+    let cursor = words::endpoint(tables, Part::Cursor, e);
+    let end = words::endpoint(tables, Part::End, e);
     let banned = banned(tables, e, k);
     let mut f = Phase::Ahead;
     let mut x: usize = 0;
-    let mut y = reads::head(tables, 256 + e);
+    let mut y = words::head(tables, 256 + e);
     let mut left: usize = 257;
     while 0 < left {
         if y == 0 {
-            return (reads::tail(tables, 256 + e) == x) & crate::phases::complete(f, cursor);
+            return (words::tail(tables, 256 + e) == x) & crate::phases::complete(f, cursor);
         }
         if 256 < y {
             return false;
@@ -130,7 +130,7 @@ fn waiters(tables: &[u32], scratch: &mut [u32], e: usize, k: usize) -> bool
         crate::marks::mark(scratch, t);
         f = crate::phases::leave(here, end, y);
         x = y;
-        y = reads::next(tables, t);
+        y = words::next(tables, t);
         left -= 1;
     }
     false
@@ -141,7 +141,7 @@ fn fits(tables: &[u32], e: usize, k: usize) -> bool
     requires { ⌜ (length (now tables) ≡ 4096) × (e ≤ 63) ⌝ }
     ensures { λ r. ⌜ r ≡ kindFits (now (tables .entry)) e k ⌝ }
 {
-    (k == 2 + e) | ((k == 66 + e) & (reads::endpoint(tables, Part::Cursor, e) == 0))
+    (k == 2 + e) | ((k == 66 + e) & (words::endpoint(tables, Part::Cursor, e) == 0))
 }
 
 fn endpoint(tables: &[u32], scratch: &mut [u32], e: usize) -> bool

@@ -14,10 +14,10 @@ fn ready(tables: &[u32], p: usize, x: usize, t: usize) -> bool
     requires { ⌜ (length (now tables) ≡ 4096) × (t ≤ 255) ⌝ }
     ensures { λ r. ⌜ r ≡ readyBehind (now (tables .entry)) p x t ⌝ }
 {
-    let prev = reads::prev(tables, t);
-    let place = reads::thread(tables, Field::Place, t);
-    let priority = reads::thread(tables, Field::Priority, t);
-    let running = reads::running(tables);
+    let prev = words::prev(tables, t);
+    let place = words::thread(tables, Field::Place, t);
+    let priority = words::thread(tables, Field::Priority, t);
+    let running = words::running(tables);
     (prev == x) & ((place == 1) & (priority == p) & (running != t + 1))
 }
 
@@ -27,11 +27,11 @@ fn level(tables: &[u32], scratch: &mut [u32], p: usize) -> bool
         (levelTest (now (tables .entry)) p) r ⌝ }
 {
     let mut x: usize = 0;
-    let mut y = reads::head(tables, p);
+    let mut y = words::head(tables, p);
     let mut left: usize = 257;
     while 0 < left {
         if y == 0 {
-            return reads::tail(tables, p) == x;
+            return words::tail(tables, p) == x;
         }
         if 256 < y {
             return false;
@@ -42,7 +42,7 @@ fn level(tables: &[u32], scratch: &mut [u32], p: usize) -> bool
         }
         crate::marks::mark(scratch, t);
         x = y;
-        y = reads::next(tables, t);
+        y = words::next(tables, t);
         left -= 1;
     }
     false

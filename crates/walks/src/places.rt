@@ -14,10 +14,10 @@ fn place(tables: &[u32], scratch: &[u32], t: usize) -> bool
     ensures { λ r. ⌜ r ≡ placedTest (now (tables .entry)) t ⌝ }
 {
     let met = crate::marks::marked(scratch, t);
-    let place = reads::thread(tables, Field::Place, t);
-    let running = reads::running(tables);
+    let place = words::thread(tables, Field::Place, t);
+    let running = words::running(tables);
     let queued = ((place == 1) & (running != t + 1)) | ((2 <= place) & (place < 130));
-    let bare = (reads::next(tables, t) == 0) & (reads::prev(tables, t) == 0);
+    let bare = (words::next(tables, t) == 0) & (words::prev(tables, t) == 0);
     (met == queued) & (met | bare)
 }
 

@@ -1,5 +1,5 @@
-// The addresses of the lent words, and the two functions that read and write one. The arithmetic of the layout
-// stands here and in specs/Addresses of crate layout, and nowhere else.
+// The addresses of the lent words, the two functions that read and write one, and the words read by name. The
+// arithmetic of the layout stands here and in specs/Addresses of crate layout, and nowhere else.
 ghost use mathlib.Core.Path.{_≡_};
 ghost use Prim.Native.Nat.{_≤_, _<_};
 ghost use lib.ListN.{length, set};
@@ -161,4 +161,95 @@ pub fn before_at(q: usize, x: usize) -> usize
         return tail_at(q);
     }
     prev_at(x - 1)
+}
+
+// The words by name, as numbers of the machine's width: what the check reads. Each function is the address of its word
+// and a read of it, so that code above has no address and no cast.
+
+// A word of thread t.
+pub fn thread(tables: &[u32], f: Field, t: usize) -> usize
+    requires { ⌜ (length (now tables) ≡ 4096) × (t ≤ 255) ⌝ }
+    ensures { λ r. ⌜ r ≡ word (now (tables .entry)) (at (ofThread f t)) ⌝ }
+{
+    get(tables, thread_at(f, t)) as usize
+}
+
+// A word of endpoint e.
+pub fn endpoint(tables: &[u32], p: Part, e: usize) -> usize
+    requires { ⌜ (length (now tables) ≡ 4096) × (e ≤ 63) ⌝ }
+    ensures { λ r. ⌜ r ≡ word (now (tables .entry)) (at (ofEndpoint p e)) ⌝ }
+{
+    get(tables, endpoint_at(p, e)) as usize
+}
+
+// Line l.
+pub fn line(tables: &[u32], l: usize) -> usize
+    requires { ⌜ (length (now tables) ≡ 4096) × (l ≤ 31) ⌝ }
+    ensures { λ r. ⌜ r ≡ word (now (tables .entry)) (at (ofLine l)) ⌝ }
+{
+    get(tables, line_at(l)) as usize
+}
+
+// Word w of the summary.
+pub fn summary(tables: &[u32], w: usize) -> usize
+    requires { ⌜ (length (now tables) ≡ 4096) × (w ≤ 7) ⌝ }
+    ensures { λ r. ⌜ r ≡ word (now (tables .entry)) (at (summary w)) ⌝ }
+{
+    get(tables, summary_at(w)) as usize
+}
+
+// The top word of the summary.
+pub fn top(tables: &[u32]) -> usize
+    requires { ⌜ length (now tables) ≡ 4096 ⌝ }
+    ensures { λ r. ⌜ r ≡ word (now (tables .entry)) (at top) ⌝ }
+{
+    get(tables, top_at()) as usize
+}
+
+// The link to the running thread.
+pub fn running(tables: &[u32]) -> usize
+    requires { ⌜ length (now tables) ≡ 4096 ⌝ }
+    ensures { λ r. ⌜ r ≡ word (now (tables .entry)) (at running) ⌝ }
+{
+    get(tables, running_at()) as usize
+}
+
+// Unused word i.
+pub fn unused(tables: &[u32], i: usize) -> usize
+    requires { ⌜ (length (now tables) ≡ 4096) × (i ≤ 469) ⌝ }
+    ensures { λ r. ⌜ r ≡ word (now (tables .entry)) (at (unused i)) ⌝ }
+{
+    get(tables, unused_at(i)) as usize
+}
+
+// The link of thread t to the next in its queue.
+pub fn next(tables: &[u32], t: usize) -> usize
+    requires { ⌜ (length (now tables) ≡ 4096) × (t ≤ 255) ⌝ }
+    ensures { λ r. ⌜ r ≡ word (now (tables .entry)) (linkAt (next t)) ⌝ }
+{
+    get(tables, next_at(t)) as usize
+}
+
+// The link of thread t to the one before it in its queue.
+pub fn prev(tables: &[u32], t: usize) -> usize
+    requires { ⌜ (length (now tables) ≡ 4096) × (t ≤ 255) ⌝ }
+    ensures { λ r. ⌜ r ≡ word (now (tables .entry)) (linkAt (prev t)) ⌝ }
+{
+    get(tables, prev_at(t)) as usize
+}
+
+// The link to the first of queue q.
+pub fn head(tables: &[u32], q: usize) -> usize
+    requires { ⌜ (length (now tables) ≡ 4096) × (q ≤ 319) ⌝ }
+    ensures { λ r. ⌜ r ≡ word (now (tables .entry)) (linkAt (head q)) ⌝ }
+{
+    get(tables, head_at(q)) as usize
+}
+
+// The link to the last of queue q.
+pub fn tail(tables: &[u32], q: usize) -> usize
+    requires { ⌜ (length (now tables) ≡ 4096) × (q ≤ 319) ⌝ }
+    ensures { λ r. ⌜ r ≡ word (now (tables .entry)) (linkAt (tail q)) ⌝ }
+{
+    get(tables, tail_at(q)) as usize
 }

@@ -1,7 +1,7 @@
 -- The word that is read is the one of that name. Assumes nothing.
 use borrow.Author.Needs.{needs}
-use Rattle.reads.proofs.line.Statement.{statement}
-use Rattle.reads.proofs.line.Tie as tie
+use Rattle.words.proofs.line.Statement.{statement}
+use Rattle.words.proofs.line.Tie as tie
 
 line-at-requires : tie.Need-line-at-requires
 line-at-requires c κs = search needs

@@ -1,7 +1,7 @@
 -- The word that is read is the one of that name. Assumes nothing.
 use borrow.Author.Needs.{needs}
-use Rattle.reads.proofs.unused.Statement.{statement}
-use Rattle.reads.proofs.unused.Tie as tie
+use Rattle.words.proofs.unused.Statement.{statement}
+use Rattle.words.proofs.unused.Tie as tie
 
 unused-at-requires : tie.Need-unused-at-requires
 unused-at-requires c κs = search needs

@@ -1,7 +1,7 @@
 -- The word that is read is the one of that name. Assumes nothing.
 use borrow.Author.Needs.{needs}
-use Rattle.reads.proofs.endpoint.Statement.{statement}
-use Rattle.reads.proofs.endpoint.Tie as tie
+use Rattle.words.proofs.endpoint.Statement.{statement}
+use Rattle.words.proofs.endpoint.Tie as tie
 
 endpoint-at-requires : tie.Need-endpoint-at-requires
 endpoint-at-requires c κs = search needs

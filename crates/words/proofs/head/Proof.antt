@@ -1,7 +1,7 @@
 -- The word that is read is the one of that name. Assumes nothing.
 use borrow.Author.Needs.{needs}
-use Rattle.reads.proofs.head.Statement.{statement}
-use Rattle.reads.proofs.head.Tie as tie
+use Rattle.words.proofs.head.Statement.{statement}
+use Rattle.words.proofs.head.Tie as tie
 
 head-at-requires : tie.Need-head-at-requires
 head-at-requires c κs = search needs

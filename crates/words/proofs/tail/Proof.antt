@@ -1,7 +1,7 @@
 -- The word that is read is the one of that name. Assumes nothing.
 use borrow.Author.Needs.{needs}
-use Rattle.reads.proofs.tail.Statement.{statement}
-use Rattle.reads.proofs.tail.Tie as tie
+use Rattle.words.proofs.tail.Statement.{statement}
+use Rattle.words.proofs.tail.Tie as tie
 
 tail-at-requires : tie.Need-tail-at-requires
 tail-at-requires c κs = search needs

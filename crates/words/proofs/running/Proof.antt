@@ -1,7 +1,7 @@
 -- The word that is read is the one of that name. Assumes nothing.
 use borrow.Author.Needs.{needs}
-use Rattle.reads.proofs.running.Statement.{statement}
-use Rattle.reads.proofs.running.Tie as tie
+use Rattle.words.proofs.running.Statement.{statement}
+use Rattle.words.proofs.running.Tie as tie
 
 running-at-requires : tie.Need-running-at-requires
 running-at-requires c κs = search needs

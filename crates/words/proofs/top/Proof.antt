@@ -1,7 +1,7 @@
 -- The word that is read is the one of that name. Assumes nothing.
 use borrow.Author.Needs.{needs}
-use Rattle.reads.proofs.top.Statement.{statement}
-use Rattle.reads.proofs.top.Tie as tie
+use Rattle.words.proofs.top.Statement.{statement}
+use Rattle.words.proofs.top.Tie as tie
 
 top-at-requires : tie.Need-top-at-requires
 top-at-requires c κs = search needs

@@ -1,7 +1,7 @@
 -- The word that is read is the one of that name. Assumes nothing.
 use borrow.Author.Needs.{needs}
-use Rattle.reads.proofs.next.Statement.{statement}
-use Rattle.reads.proofs.next.Tie as tie
+use Rattle.words.proofs.next.Statement.{statement}
+use Rattle.words.proofs.next.Tie as tie
 
 next-at-requires : tie.Need-next-at-requires
 next-at-requires c κs = search needs

@@ -1,7 +1,7 @@
 -- The word that is read is the one of that name. Assumes nothing.
 use borrow.Author.Needs.{needs}
-use Rattle.reads.proofs.summary.Statement.{statement}
-use Rattle.reads.proofs.summary.Tie as tie
+use Rattle.words.proofs.summary.Statement.{statement}
+use Rattle.words.proofs.summary.Tie as tie
 
 summary-at-requires : tie.Need-summary-at-requires
 summary-at-requires c κs = search needs

@@ -1,7 +1,7 @@
 -- The word that is read is the one of that name. Assumes nothing.
 use borrow.Author.Needs.{needs}
-use Rattle.reads.proofs.thread.Statement.{statement}
-use Rattle.reads.proofs.thread.Tie as tie
+use Rattle.words.proofs.thread.Statement.{statement}
+use Rattle.words.proofs.thread.Tie as tie
 
 thread-at-requires : tie.Need-thread-at-requires
 thread-at-requires c κs = search needs

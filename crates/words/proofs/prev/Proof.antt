@@ -1,7 +1,7 @@
 -- The word that is read is the one of that name. Assumes nothing.
 use borrow.Author.Needs.{needs}
-use Rattle.reads.proofs.prev.Statement.{statement}
-use Rattle.reads.proofs.prev.Tie as tie
+use Rattle.words.proofs.prev.Statement.{statement}
+use Rattle.words.proofs.prev.Tie as tie
 
 prev-at-requires : tie.Need-prev-at-requires
 prev-at-requires c κs = search needs
