@@ -20,7 +20,7 @@ use Rattle.rows.specs.Turns.{Turned, turned}
 use Rattle.lister.specs.declared.Lister.{Lister}
 use Rattle.lister.specs.declared.Fed.{Fed}
 use Rattle.lister.specs.Feeding.{Standing, Told, ready, holding, toldOf, toldBy, offered, byteTo, fed}
-use Rattle.lister.specs.Buffers.{standingOf, held, taking, Tells}
+use Rattle.lister.specs.Buffers.{standingOf, withByte, taking, Tells}
 use Rattle.lister.proofs.Writing.{wrote-nothing}
 use Rattle.lister.proofs.Answering.{fedTo}
 
@@ -103,7 +103,7 @@ stays l b m x out used g =
     (holding (take (l .held) (l .bytes)) (standingOf l m x))) g))
     (record { after = refl; text = wrote-nothing out used })
 
-module _ (l : Lister) (b : ℕ) (small : l .held < 12) (long : length (l .bytes) ≡ 12) (k : Lister) (is : k ≡ held l b)
+module _ (l : Lister) (b : ℕ) (small : l .held < 12) (long : length (l .bytes) ≡ 12) (k : Lister) (is : k ≡ withByte l b)
   where
     pub one-held : k .held ≡ l .held + 1
     one-held = ap (λ (j : Lister). j .held) is
