@@ -1,8 +1,8 @@
 #!/bin/sh
 # journals.sh PROGRAM: runs the program `trace` on every journal of tests/journals and compares its listings with those
 # there. Each journal comes once as a file and once byte by byte, so that words arrive in pieces. Then the example comes
-# by a slow pipe, whose first calls must be listed while it is open. The last line is 'journals: N passed, M failed'; the
-# exit status is 0 only where nothing failed.
+# by a slow pipe, whose first calls must be listed while it is open. The last line is
+# 'journals: N passed, M failed'; the exit status is 0 only where nothing failed.
 set -u
 if [ $# -ne 1 ] || [ ! -x "$1" ]; then
     echo "usage: journals.sh PROGRAM, the path of the program trace" >&2
