@@ -20,7 +20,7 @@ use Rattle.rows.specs.Turns.{Turned, turned}
 use Rattle.lister.specs.declared.Lister.{Lister}
 use Rattle.lister.specs.declared.Fed.{Fed}
 use Rattle.lister.specs.Feeding.{Standing, Told, ready, holding, toldOf, toldBy, offered, byteTo, fed}
-use Rattle.lister.specs.Buffers.{standingOf, held, taking, Tells}
+use Rattle.lister.specs.Buffers.{standingOf, withByte, taking, Tells}
 use Rattle.lister.proofs.Writing.{wrote-nothing}
 use Rattle.lister.proofs.Answering.{fedTo}
 
@@ -103,7 +103,7 @@ stays l b m x out used g =
     (holding (take (l .held) (l .bytes)) (standingOf l m x))) g))
     (record { after = refl; text = wrote-nothing out used })
 
-module _ (l : Lister) (b : ℕ) (small : l .held < 12) (long : length (l .bytes) ≡ 12) (k : Lister) (is : k ≡ held l b)
+module _ (l : Lister) (b : ℕ) (h : l .held < 12) (long : length (l .bytes) ≡ 12) (k : Lister) (is : k ≡ withByte l b)
   where
     pub one-held : k .held ≡ l .held + 1
     one-held = ap (λ (j : Lister). j .held) is
@@ -116,10 +116,10 @@ module _ (l : Lister) (b : ℕ) (small : l .held < 12) (long : length (l .bytes)
         let one : l .held + 1 ≡ suc (l .held) = omega arith in
         ap (λ (j : Lister). take (j .held) (j .bytes)) is
         ∙ ap (λ (n : ℕ). take n (set (l .bytes) (l .held) b)) one
-        ∙ take-suc-set (l .bytes) (l .held) b (omega (arith, small, long))
+        ∙ take-suc-set (l .bytes) (l .held) b (omega (arith, h, long))
 
     pub many : length (take (k .held) (k .bytes)) ≡ k .held
-    many = length-take-le (k .held) (k .bytes) (omega (arith, one-held, small, as-long))
+    many = length-take-le (k .held) (k .bytes) (omega (arith, one-held, h, as-long))
 
     pub still-few : ready (take (k .held) (k .bytes)) ≡ false → k .held < 12
     still-few e = omega (arith, few (take (k .held) (k .bytes)) e, many)

@@ -26,8 +26,8 @@ standingOf l m x =
     }
 
 -- One byte more is held, behind the others.
-abbrev pub held : Lister → ℕ → Lister
-held l byte =
+abbrev pub withByte : Lister → ℕ → Lister
+withByte l byte =
     record {
       bytes = set (l .bytes) (l .held) byte;
       held = l .held + 1;

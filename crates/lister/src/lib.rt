@@ -8,7 +8,7 @@ ghost use Rattle.machine.specs.Results.{threadOf};
 ghost use Rattle.listing.specs.Line.{lineOf};
 ghost use Rattle.listing.specs.Buffer.{Counts, Wrote};
 ghost use Rattle.lister.specs.Feeding.{ready, byteTo, fed, ending};
-ghost use Rattle.lister.specs.Buffers.{standingOf, held, emptied, stopping, taking, Tells};
+ghost use Rattle.lister.specs.Buffers.{standingOf, withByte, emptied, stopping, taking, Tells};
 use journal::taken::words_taken;
 use machine::Answer;
 use machine::Runner;
@@ -67,7 +67,7 @@ fn whole(bytes: &[u8]) -> bool
 // Holds one byte more.
 fn hold(l: Lister, byte: u8) -> Lister
     requires { ⌜ (l .held < 12) × (length (l .bytes) ≡ 12) ⌝ }
-    ensures { λ r. ⌜ r ≡ held l byte ⌝ }
+    ensures { λ r. ⌜ r ≡ withByte l byte ⌝ }
 {
     let mut bytes = l.bytes;
     let place = l.held;
