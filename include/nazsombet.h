@@ -132,8 +132,8 @@ uint32_t nazsombet_read(const uint32_t *journal, size_t journal_length, size_t *
 uint32_t nazsombet_write(const struct nazsombet_numbers *call, uint32_t words[3], size_t *count);
 
 /*
- * The thread that runs, 0 to 255, or 256 if none does. The tables are not checked: of unsound ones it answers some
- * number, of tables that are not 4,096 words 256.
+ * The thread that runs, 0 to 255, or 256 if none does, and no other number, whatever the words are. The tables are not
+ * checked: of unsound ones it answers one of these, of tables that are not 4,096 words 256.
  */
 uint32_t nazsombet_running(const uint32_t *tables, size_t tables_length);
 

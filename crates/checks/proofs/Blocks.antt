@@ -14,8 +14,7 @@ use Rattle.machine.specs.Sound.{Stores}
 use Rattle.machine.proofs.Lists.{Same, same, other, same?}
 use Rattle.layout.specs.declared.Field.{Field}
 use Rattle.layout.specs.declared.Part.{Part}
-use Rattle.layout.specs.Addresses.{ofThread}
-use Rattle.layout.specs.Addresses.{ofEndpoint, ofLine, at, word}
+use Rattle.layout.specs.Addresses.{ofThread, ofEndpoint, ofLine, at, word}
 use Rattle.layout.specs.Words.{linkOf, placeCode, debtCode, noteCode, lineCode, threadWord}
 use Rattle.layout.specs.Decode.{placeOf, threadFrom}
 use Rattle.layout.proofs.Addresses.{below?}

@@ -12,8 +12,7 @@ use Rattle.machine.specs.State.{State, owns, Abort, Status, missing, live, clos
 use Rattle.machine.specs.Endpoints.{ownerOf, pendingOf}
 use Rattle.layout.specs.declared.Field.{Field}
 use Rattle.layout.specs.declared.Part.{Part}
-use Rattle.layout.specs.Addresses.{ofThread}
-use Rattle.layout.specs.Addresses.{ofEndpoint, head, linkAt, word}
+use Rattle.layout.specs.Addresses.{ofThread, ofEndpoint, head, linkAt, word}
 use Rattle.layout.specs.Words.{linkOf, firstOf, lastOf, debtCode, statusCode, abortCode, badgeCode, endpointWord}
 use Rattle.layout.specs.Shows.{Chain}
 use Rattle.layout.specs.Decode.{linked, between, abortAt, endpointAt, endpointFrom}

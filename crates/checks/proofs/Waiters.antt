@@ -14,8 +14,7 @@ use Rattle.machine.specs.State.{State, Place, absent, sending, receiving, Abort
 use Rattle.machine.specs.Endpoints.{pendingOf}
 use Rattle.layout.specs.declared.Field.{Field}
 use Rattle.layout.specs.declared.Part.{Part}
-use Rattle.layout.specs.Addresses.{ofThread, ofEndpoint, head, linkAt}
-use Rattle.layout.specs.Addresses.{word, afterAt}
+use Rattle.layout.specs.Addresses.{ofThread, ofEndpoint, head, linkAt, word, afterAt}
 use Rattle.layout.specs.Words.{firstOf, lastOf, placeCode, abortCode, badgeCode}
 use Rattle.layout.specs.Shows.{Chain}
 use Rattle.layout.specs.Decode.{between, queueFrom}

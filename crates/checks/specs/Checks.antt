@@ -8,10 +8,8 @@ use Rattle.machine.specs.Lists.{pick}
 use Rattle.summary.specs.Levels.{wordOf, topOf}
 use Rattle.layout.specs.declared.Field.{Field}
 use Rattle.layout.specs.declared.Part.{Part}
-use Rattle.layout.specs.Addresses.{ofThread}
-use Rattle.layout.specs.Addresses.{ofEndpoint}
-use Rattle.layout.specs.Addresses.{ofLine, summary, top, running, unused, next, prev, head, at, linkAt, word}
-use Rattle.layout.specs.Addresses.{afterAt, beforeAt}
+use Rattle.layout.specs.Addresses.{ofThread, ofEndpoint, ofLine, summary, top, running, unused, next, prev, head, at}
+use Rattle.layout.specs.Addresses.{linkAt, word, afterAt, beforeAt}
 use Rattle.layout.specs.Tests.{all, member, same}
 
 -- The words by name.

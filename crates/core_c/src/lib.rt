@@ -153,7 +153,7 @@ pub extern "C" fn nazsombet_write(call: &[u32; 5], words: &mut [u32; 3], count: 
     written.code
 }
 
-// The thread that runs, or NOBODY.
+// The thread that runs, 0 to 255, or NOBODY, whatever the words are.
 #[no_mangle]
 pub extern "C" fn nazsombet_running(tables: &[u32]) -> u32
     ensures { λ r. ⌜ r ≡ threadOf (runningLink (now (tables .entry))) ⌝ }

@@ -3,7 +3,7 @@ use Prim.Native.Nat.{ℕ}
 use mathlib.Core.Bool.{_&&_}
 use mathlib.Core.Option.{Option, none, some}
 use mathlib.Core.List.{List}
-use lib.Dec.{eqb}
+use lib.Dec.{eqb, leb}
 use lib.ListN.{length}
 use Rattle.machine.specs.declared.Answer.{Answer}
 use Rattle.machine.specs.declared.Call.{Call}
@@ -34,6 +34,10 @@ called m scratch c =
     pick (eqb (length m) 4096 && eqb (length scratch) 256) (taken (stateOf m) m c)
     (record { answer = plain 16; tables = m; scratch = scratch })
 
+-- A word as a link to a thread: 0, to nobody, where it is none.
+abbrev pub asLink : ℕ → ℕ
+asLink w = pick (leb w 256) w 0
+
 -- The link to the thread that runs: t + 1 for thread t, 0 for nobody, and 0 for tables not of 4,096 words.
 unfoldable pub runningLink : List ℕ → ℕ
-runningLink m = pick (eqb (length m) 4096) (word m (at running)) 0
+runningLink m = pick (eqb (length m) 4096) (asLink (word m (at running))) 0

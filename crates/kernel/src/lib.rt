@@ -99,12 +99,16 @@ pub fn call(tables: &mut [u32], scratch: &mut [u32], c: Call) -> Answer
     step(tables, c)
 }
 
-// The link to the thread that runs: t + 1 for thread t, 0 for nobody.
+// The link to the thread that runs: t + 1 for thread t, 0 for nobody; 256 at most, whatever the words are.
 pub fn running(tables: &[u32]) -> u32
     ensures { λ r. ⌜ r ≡ runningLink (now (tables .entry)) ⌝ }
 {
     if tables.len() != 4096 {
         return 0;
     }
-    words::get(tables, words::running_at())
+    let link = words::get(tables, words::running_at());
+    if link > 256 {
+        return 0;
+    }
+    link
 }

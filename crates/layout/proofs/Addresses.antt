@@ -12,10 +12,9 @@ use lib.Seq.{getD-set-same, getD-set-other}
 use borrow.Author.Tests.{lt-ltb, le-ltb, ltb-true, ltb-false}
 use Rattle.layout.specs.declared.Field.{Field}
 use Rattle.layout.specs.declared.Part.{Part}
-use Rattle.layout.specs.Addresses.{Slot, ofThread, ofEndpoint}
-use Rattle.layout.specs.Addresses.{ofLine, summary, top, running, unused, Link, next, prev, head, tail, Name}
-use Rattle.layout.specs.Addresses.{slot, link, ValidSlot, ValidLink, Valid, column, offset, at, linkAt, address}
-use Rattle.layout.specs.Addresses.{inThread, inQueue, inEndpoint, nameOf, word}
+use Rattle.layout.specs.Addresses.{Slot, ofThread, ofEndpoint, ofLine, summary, top, running, unused, Link, next}
+use Rattle.layout.specs.Addresses.{prev, head, tail, Name, slot, link, ValidSlot, ValidLink, Valid, column}
+use Rattle.layout.specs.Addresses.{offset, at, linkAt, address, inThread, inQueue, inEndpoint, nameOf, word}
 
 -- The name of word k of a row.
 

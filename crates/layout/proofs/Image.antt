@@ -16,9 +16,8 @@ use Rattle.machine.proofs.Lists.{mem?}
 use Rattle.summary.specs.Levels.{wordOf, topOf, bits}
 use Rattle.layout.specs.declared.Field.{Field}
 use Rattle.layout.specs.declared.Part.{Part}
-use Rattle.layout.specs.Addresses.{ofThread, ofEndpoint, ofLine}
-use Rattle.layout.specs.Addresses.{summary, top, running, unused, next, prev, head, tail, Name, slot, link, Valid}
-use Rattle.layout.specs.Addresses.{address, at, linkAt, nameOf, word}
+use Rattle.layout.specs.Addresses.{ofThread, ofEndpoint, ofLine, summary, top, running, unused, next, prev, head}
+use Rattle.layout.specs.Addresses.{tail, Name, slot, link, Valid, address, at, linkAt, nameOf, word}
 use Rattle.layout.specs.Words.{firstOf, lastOf, threadWord, endpointWord, afterIn, beforeIn, queuesOf, queueOf}
 use Rattle.layout.specs.Words.{wordAt, tabulate, image, occupiedIn}
 use Rattle.layout.specs.Shows.{Chain, Shows}

@@ -10,8 +10,7 @@ use Rattle.machine.specs.State.{noted, Abort, live, closing, Endpoint, Line, qu
 use Rattle.machine.specs.State.{missingEndpoint}
 use Rattle.layout.specs.declared.Field.{Field}
 use Rattle.layout.specs.declared.Part.{Part}
-use Rattle.layout.specs.Addresses.{ofThread, ofEndpoint, ofLine}
-use Rattle.layout.specs.Addresses.{running, next, head, at, linkAt, word}
+use Rattle.layout.specs.Addresses.{ofThread, ofEndpoint, ofLine, running, next, head, at, linkAt, word}
 
 -- The number if it is at most the one given, otherwise 0.
 unfoldable pub within : ℕ → ℕ → ℕ

@@ -12,9 +12,8 @@ use Rattle.machine.specs.Endpoints.{ownerOf, pendingOf}
 use Rattle.summary.specs.Levels.{wordOf, topOf}
 use Rattle.layout.specs.declared.Field.{Field}
 use Rattle.layout.specs.declared.Part.{Part}
-use Rattle.layout.specs.Addresses.{Slot, ofThread, ofEndpoint}
-use Rattle.layout.specs.Addresses.{ofLine, summary, top, running, unused, Link, next, prev, head, tail, Name}
-use Rattle.layout.specs.Addresses.{slot, link, nameOf}
+use Rattle.layout.specs.Addresses.{Slot, ofThread, ofEndpoint, ofLine, summary, top, running, unused, Link, next}
+use Rattle.layout.specs.Addresses.{prev, head, tail, Name, slot, link, nameOf}
 
 -- None is 0, and thread t is t + 1.
 abbrev pub linkOf : Option ℕ → ℕ

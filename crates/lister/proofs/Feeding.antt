@@ -22,6 +22,7 @@ use Rattle.layout.specs.Words.{image, linkOf}
 use Rattle.tables.specs.Entries.{zeros}
 use Rattle.listing.specs.Line.{lineOf}
 use Rattle.kernel.specs.Entry.{Called, runningLink}
+use Rattle.machine.proofs.Steps.{step-sound}
 use Rattle.kernel.proofs.Runner.{running-image}
 use Rattle.kernel.proofs.Turns.{called-image}
 use Rattle.input.specs.Words.{wordsIn}
@@ -106,8 +107,8 @@ linked : (o : Option ℕ) → threadOf (runnerOf (linkOf o)) ≡ o
 linked none = refl
 linked (some t) = refl
 
-runs-image : (s : State) → threadOf (runnerOf (runningLink (image s))) ≡ s .runs
-runs-image s = ap (λ (link : ℕ). threadOf (runnerOf link)) (running-image s) ∙ linked (s .runs)
+runs-image : (s : State) → Sound s → threadOf (runnerOf (runningLink (image s))) ≡ s .runs
+runs-image s S = ap (λ (link : ℕ). threadOf (runnerOf link)) (running-image s S) ∙ linked (s .runs)
 
 -- What a call tells that was answered so.
 abbrev callTold : ℕ → Call → Called → ℕ → Option ℕ → Told
@@ -131,7 +132,7 @@ call-told c next held i s x S n h =
     ap (λ (k : Called). callTold i c k ((i + 1) % 2 ^ 64) (threadOf (runnerOf (runningLink (k .tables)))))
     (called-image s x c S n)
     ∙ ap (λ (j : ℕ). callTold i c k j (threadOf (runnerOf (runningLink (image s′))))) index
-    ∙ ap (λ (running : Option ℕ). callTold i c k (suc i) running) (runs-image s′)
+    ∙ ap (λ (running : Option ℕ). callTold i c k (suc i) running) (runs-image s′ (step-sound s c S))
 
 -- A refusal tells the last row's line, and the listing stops.
 abbrev pub stopped : ℕ → State → List ℕ → Standing
@@ -141,16 +142,16 @@ abbrev pub lastTold : ℕ → ℕ → State → List ℕ → Told
 lastTold i code s x = record { after = stopped i s x; text = lineFor (lastRow i code (s .runs)) }
 
 pub last-told :
-    (code at : ℕ) (held : List ℕ) (i : ℕ) (s : State) (x : List ℕ)
+    (code at : ℕ) (held : List ℕ) (i : ℕ) (s : State) (x : List ℕ) → Sound s
     → toldBy (turned (Refused code at) (image s) x) (on held i s x) ≡ lastTold i code s x
-last-told code at held i s x =
+last-told code at held i s x S =
     ap
     (λ (running : Option ℕ). record { after = stopped i s x; text = lineOf i 0 (plain code) running })
-    (runs-image s)
+    (runs-image s S)
 
 -- Bytes held at the end tell the last row's line.
 pub ending-held :
-    (b : ℕ) (held : List ℕ) (i : ℕ) (s : State) (x : List ℕ)
+    (b : ℕ) (held : List ℕ) (i : ℕ) (s : State) (x : List ℕ) → Sound s
     → ending (on (b ∷ held) i s x) ≡ lineFor (lastRow i 18 (s .runs))
 unfolding ending
-ending-held b held i s x = ap (λ (running : Option ℕ). lineOf i 0 (plain 18) running) (runs-image s)
+ending-held b held i s x S = ap (λ (running : Option ℕ). lineOf i 0 (plain 18) running) (runs-image s S)

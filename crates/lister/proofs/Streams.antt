@@ -42,15 +42,15 @@ alike {t} {u} {rows} {rows′} {odd} {odd′} e f g v =
 
 -- No byte is left.
 at-end :
-    (held : List ℕ) (n i : ℕ) (s : State) (x : List ℕ) → ready held ≡ false
+    (held : List ℕ) (n i : ℕ) (s : State) (x : List ℕ) → Sound s → ready held ≡ false
     → Streams (fed [] (on held i s x)) (rowsOn (suc n) i held s) (oddOn (suc n) i held s)
 unfolding fed ending rowsFrom readAt readFrom wordsIn
-at-end [] n i s x e = record { whole = refl; begun = record { more = []; whole = refl } }
-at-end (b ∷ held) n i s x e =
+at-end [] n i s x S e = record { whole = refl; begun = record { more = []; whole = refl } }
+at-end (b ∷ held) n i s x S e =
     let v = held-rows (b ∷ held) n i s e (omega arith) in
     record {
       whole =
-          ending-held b held i s x
+          ending-held b held i s x S
           ∙ sym (append-nil (lineFor (lastRow i 18 (s .runs))))
           ∙ sym (ap linesOf (v .last));
       begun =
@@ -132,7 +132,7 @@ module _ (b : ℕ) (bytes held : List ℕ) (n i : ℕ) (s : State) (x : List ℕ
   none-read e v code at f =
       alike
       (fed-first b bytes (on held i s x) (lastTold i code s x)
-      (byte-taken b held i s x e (Refused code at) f ∙ last-told code at held i s x))
+      (byte-taken b held i s x e (Refused code at) f ∙ last-told code at held i s x S))
       (rows-refused longer bytes v n i s code at f)
       (odd-refused longer bytes v n i s code at f)
       (one-refused i code s x bytes)
@@ -181,7 +181,7 @@ pub streams :
 streams bytes held zero i s x S k e words few = absurd (omega (arith, words))
 streams [] held (suc n) i s x S k e words few =
     subst (λ (l : List ℕ). Streams (fed [] (on held i s x)) (rowsOn (suc n) i l s) (oddOn (suc n) i l s))
-    (sym (append-nil held)) (at-end held n i s x e)
+    (sym (append-nil held)) (at-end held n i s x S e)
 streams (b ∷ bytes) held (suc n) i s x S k e words few =
     let longer = held ++ (b ∷ []) in
     let same : longer ++ bytes ≡ held ++ (b ∷ bytes) = append-snoc held b bytes in

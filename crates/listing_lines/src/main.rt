@@ -1,8 +1,8 @@
 // Lines of the listing, printed: the header, small and large numbers, a running thread and nobody.
 // The bytes that they must be stand in stdout.
 use libc::STDOUT_FILENO;
-use machine::Runner;
 use machine::Answer;
+use machine::Runner;
 
 fn show_head() {
     let mut buffer = [0u8; 96];

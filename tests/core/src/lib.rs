@@ -137,7 +137,7 @@ impl Core {
         answer
     }
 
-    /// The thread that runs, where the tables are sound.
+    /// The thread that runs; of unsound tables some thread, or nobody.
     pub fn running(&self) -> Option<u32> {
         // SAFETY: the pointer and length are a slice's.
         let thread = unsafe { entries::nazsombet_running(self.tables.as_ptr(), self.tables.len()) };

@@ -56,6 +56,17 @@ fn twelve_lines() {
     assert_eq!(Core::read(&JOURNAL, at), Read::Ended);
 }
 
+/// The word of the running thread, with any number in it.
+#[test]
+fn any_word_runs_a_thread_or_nobody() {
+    for word in (0..600).chain([5000, u32::MAX - 1, u32::MAX]) {
+        let mut core = Core { tables: vec![0; TABLES], scratch: vec![0; SCRATCH] };
+        core.tables[3625] = word;
+        let thread = if (1..=256).contains(&word) { Some(word - 1) } else { None };
+        assert_eq!(core.running(), thread);
+    }
+}
+
 #[test]
 fn lengths() {
     for tables in [0, 1, TABLES - 1, TABLES, TABLES + 1] {

@@ -1,12 +1,12 @@
--- One word, in tables of the right length. Assumes nothing.
-use Rattle.kernel.proofs.Runner.{no-tables, running-read}
+-- One word, in tables of the right length, if it is a link.
+use Rattle.kernel.proofs.Runner.{no-tables, running-read, no-link}
+use native.Mathlib.Omega.{arith}
 use borrow.Author.Needs.{needs}
 use Rattle.kernel.proofs.running.Statement.{statement}
 use Rattle.kernel.proofs.running.Tie as tie
 
 returns : tie.Need-returns
-returns c =
-    no-tables _ (c .if1 .taken)
+returns c = no-tables _ (c .if1 .taken)
 
 running-at-requires : tie.Need-running-at-requires
 running-at-requires c κs = search needs
@@ -16,7 +16,13 @@ get-requires c κs = search needs
 
 returns-2 : tie.Need-returns-2
 returns-2 c =
-    running-read _ _ (c .before .before .if1 .left) (c .before .running-at .ensures) (c .get .ensures)
+    no-link _ _ (c .before .before .before .if1 .left) (c .before .before .running-at .ensures)
+    (c .before .get .ensures) (c .if2 .taken)
+
+returns-3 : tie.Need-returns-3
+returns-3 c =
+    running-read _ _ (c .before .before .before .if1 .left) (c .before .before .running-at .ensures)
+    (c .before .get .ensures) (omega (arith, c .if2 .left))
 
 pub running-spec : {M : Type 1} → statement M
-running-spec = tie.close (tie.spec returns running-at-requires get-requires returns-2)
+running-spec = tie.close (tie.spec returns running-at-requires get-requires returns-2 returns-3)
