@@ -2,61 +2,27 @@
 -- Assumes nothing.
 use mathlib.Core.Path.{_≡_, refl, sym, ap, subst, _∙_}
 use mathlib.Core.Bool.{Bool, true, false}
-use mathlib.Core.List.{List, [], _∷_, _++_, append-assoc}
+use mathlib.Core.List.{List, [], _∷_, _++_}
 use mathlib.Core.Option.{Option, none, some, Option·none-ne-some}
 use Prim.Native.Nat.{ℕ, zero, suc, _+_, _≤_, _<_}
 use native.Mathlib.Omega.{arith}
 use native.Mathlib.Nat.{add-assoc}
 use borrow.Author.Tests.{eqb-true}
 use lib.Dec.{eqb}
-use lib.ListN.{length, drop, length-drop, take-append-drop}
-use lib.Seq.{drop-append-le, drop-drop}
+use lib.ListN.{length, drop}
+use lib.Seq.{drop-drop}
 use Rattle.machine.specs.declared.Call.{Call}
 use Rattle.machine.specs.Calls.{inRange}
 use Rattle.machine.specs.Lists.{pick}
 use Rattle.journal.specs.declared.types.Read.{Read}
 use Rattle.journal.specs.declared.types.Read.the-variants.{Found, Refused, Ended}
 use Rattle.journal.specs.Words.{topBits, topByte, callNumber, subject, argument, unused, sendOf, abortOf}
-use Rattle.journal.specs.Words.{wordsTaken, wordsOf, callOf, callAt, judged, readFrom, readAt}
+use Rattle.journal.specs.Words.{wordsTaken, callOf, callAt, judged, readFrom, readAt}
 use Rattle.journal.proofs.Parts.{byte-of}
 use Rattle.journal.proofs.Numbers.{by-number}
-use Rattle.journal.proofs.Naming.{in-range-fits, call-read}
 use Rattle.journal.proofs.Causes.{caused}
 use Rattle.journal.proofs.Causes.Cause.{wrong-word, missing}
-use Rattle.journal.proofs.RoundTrip.{writes-what-was-read}
 use Rattle.journal.proofs.Refusals.{eighteen-first}
-
--- A call that was read is read there whatever is appended.
-pub found-appended :
-    (journal more : List ℕ) (at : ℕ) (c : Call) (next : ℕ) → at ≤ length journal →
-    readAt journal at ≡ Found c next → readAt (journal ++ more) at ≡ Found c next
-unfolding readAt
-found-appended journal more at c next h e =
-    let r = writes-what-was-read journal at c next e in
-    let n = length (wordsOf c) in
-    let behind = drop n (drop at journal) in
-    let begins : drop at journal ≡ wordsOf c ++ behind =
-    sym (take-append-drop n (drop at journal)) ∙ ap (λ (l : List ℕ). l ++ behind) (r .words) in
-    ap (readFrom at)
-    (drop-append-le at journal more h ∙ ap (λ (l : List ℕ). l ++ more) begins ∙ append-assoc (wordsOf c) behind more)
-    ∙ call-read at c (in-range-fits c (r .in-range)) (behind ++ more)
-    ∙ rw (r .in-range) (ap (λ (k : ℕ). Found c k) (sym (r .up-to)))
-
--- No call has more than three words,
-three-words : (at : ℕ) (l more : List ℕ) → 3 ≤ length l → readFrom at (l ++ more) ≡ readFrom at l
-unfolding readFrom callAt callOf
-three-words at [] more h = absurd (omega arith)
-three-words at (u ∷ []) more h = absurd (omega arith)
-three-words at (u ∷ v ∷ []) more h = absurd (omega arith)
-three-words at (u ∷ v ∷ w ∷ l) more h = refl
-
--- so where there are three, nothing appended changes the reading.
-pub enough-appended :
-    (journal more : List ℕ) (at : ℕ) → at + 3 ≤ length journal → readAt (journal ++ more) at ≡ readAt journal at
-unfolding readAt
-enough-appended journal more at h =
-    ap (readFrom at) (drop-append-le at journal more (omega arith))
-    ∙ three-words at (drop at journal) more (omega (arith, h, length-drop at journal))
 
 -- A call's number asks for these words; nothing behind them names it,
 number-appended :
