@@ -18,40 +18,37 @@ use Rattle.layout.specs.Shows.{Shows}
 use Rattle.store.specs.Steps.{Shown, Does, Tells}
 use Rattle.store.specs.Store.{IsThread, IsEndpoint}
 use Rattle.store.specs.Readings.{endpointIn, threadIn}
-use Rattle.queues.specs.Queues.{Waits}
-use Rattle.debts.specs.Debts.{Says, underIn, First}
+use Rattle.queues.specs.Queues.{Waits, passingAt}
+use Rattle.debts.specs.Debts.{Says, underIn}
 use Rattle.results.proofs.Ends.{shown-for}
-use Rattle.results.proofs.Conditions.{pending-queued, pending-first, queued-waits}
+use Rattle.results.proofs.Conditions.{pending-queued, pending-endpoint, queued-waits}
 use Rattle.aborts.specs.Aborts.{Cursor, Within, looked, Looks}
 
 -- One look.
 
 module _ {e w : ℕ} {s : State} (C : Cursor e w s) where
-  cursor-first : First w e s
-  cursor-first = pending-first (C .mid) (C .first)
+  cursor-endpoint : e ≤ 63
+  cursor-endpoint = pending-endpoint (C .mid) (C .first)
 
   cursor-waits : Waits w e s
-  cursor-waits = queued-waits (C .mid) (inl (pending-queued (C .mid) (C .first))) (cursor-first .endpoint)
+  cursor-waits = queued-waits (C .mid) (inl (pending-queued (C .mid) (C .first))) cursor-endpoint
 
 module _ {m : List ℕ} {e w : ℕ} where
   pub thread-asked : Shown m (Cursor e w) → Shown m (IsThread w)
-  thread-asked S = shown-for S (λ s C. cursor-first C .thread)
+  thread-asked S = shown-for S (λ s C. cursor-waits C .thread)
 
   pub endpoint-asked : Shown m (Cursor e w) → Shown m (IsEndpoint e)
-  endpoint-asked S = shown-for S (λ s C. cursor-first C .endpoint)
+  endpoint-asked S = shown-for S (λ s C. cursor-endpoint C)
 
   pub waits-asked : Shown m (Cursor e w) → Shown m (Waits w e)
   waits-asked S = shown-for S (λ s C. cursor-waits C)
-
-  pub first-asked : Shown m (Cursor e w) → Shown m (First w e)
-  first-asked S = shown-for S (λ s C. cursor-first C)
 
   module _ {b : ℕ} {u : Bool} (B : Tells m (IsThread w) b (threadIn Field.Badge w))
       (U : Says m (IsEndpoint e) u (underIn e b)) where
     says-hit : (s : State) → Shows m s → Cursor e w s → u ≡ underAbort (s .threads w .badge) (s .endpoints e .abort)
     says-hit s M C =
-        U .says s M (cursor-first C .endpoint)
-        ∙ ap (λ (x : ℕ). underAbort x (s .endpoints e .abort)) (B .tells s M (cursor-first C .thread))
+        U .says s M (cursor-endpoint C)
+        ∙ ap (λ (x : ℕ). underAbort x (s .endpoints e .abort)) (B .tells s M (cursor-waits C .thread))
 
     pub look-removed :
         {n : List ℕ} → u ≡ true → Does m n (Waits w e) (wakeFrom e w 3 0 0) → Does m n (Cursor e w) (look e w)
@@ -63,12 +60,12 @@ module _ {m : List ℕ} {e w : ℕ} where
         }
 
     pub look-kept :
-        {n : List ℕ} → u ≡ false → Does m n (First w e) (lookAt false e w) → Does m n (Cursor e w) (look e w)
-    unfolding look hits
+        {n : List ℕ} → u ≡ false → Does m n (Waits w e) (passingAt w e) → Does m n (Cursor e w) (look e w)
+    unfolding look lookAt hits
     look-kept {n} h D =
         record {
           shows = λ s M C.
-              subst (λ (x : Bool). Shows n (lookAt x e w s)) (sym h ∙ says-hit s M C) (D .shows s M (cursor-first C));
+              subst (λ (x : Bool). Shows n (lookAt x e w s)) (sym h ∙ says-hit s M C) (D .shows s M (cursor-waits C));
         }
 
 -- The cursor's link is 0 exactly where nothing is pending.

@@ -26,7 +26,7 @@ fn look(tables: &mut [u32], e: usize, w: usize)
         queues::wake_from(tables, e, w, 3, 0, 0);
         return;
     }
-    debts::keep_look(tables, e, w);
+    queues::pass_marks(tables, w, e);
 }
 
 // As many looks as the allowance lets, until nothing is left to look at; how many they were.

@@ -4,4 +4,3 @@ pub mod Dropping
 pub mod Joining
 pub mod Ending
 pub mod Beginning
-pub mod Keeping

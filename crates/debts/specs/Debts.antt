@@ -5,10 +5,10 @@ use mathlib.Core.Path.{_≡_}
 use mathlib.Core.Bool.{Bool}
 use mathlib.Core.Option.{Option}
 use mathlib.Core.Logic.{_⊎_}
-use mathlib.Core.List.{List, _∷_, _++_}
-use Rattle.machine.specs.Lists.{Mem, without}
+use mathlib.Core.List.{List}
+use Rattle.machine.specs.Lists.{Mem}
 use Rattle.machine.specs.State.{State, Place, sending, receiving, owns, Abort, Status}
-use Rattle.machine.specs.Endpoints.{senders, underAbort, ownerOf, note, endAbort, pendingOf}
+use Rattle.machine.specs.Endpoints.{senders, underAbort, ownerOf, note, endAbort}
 use Rattle.machine.specs.Aborts.{hasNote, ownsThis}
 use Rattle.layout.specs.Words.{statusCode, firstOf, lastOf}
 use Rattle.layout.specs.Shows.{Shows}
@@ -77,22 +77,3 @@ firstSender e s = firstOf (senders (s .threads) (s .endpoints e .waiters))
 
 abbrev pub lastSender : ℕ → State → ℕ
 lastSender e s = lastOf 0 (senders (s .threads) (s .endpoints e .waiters))
-
--- w is the first that the abort at e has to look at, and what is pending is a part of the waiters.
-pub record First (w e : ℕ) (s : State) : Type 0 where
-  pub thread : w ≤ 255
-  pub endpoint : e ≤ 63
-  pub abort : Abort
-  pub stands : s .endpoints e .abort ≡ Option.some abort
-  pub rest : List ℕ
-  pub first : abort .pending ≡ w ∷ rest
-  pub before : List ℕ
-  pub behind : List ℕ
-  pub within : s .endpoints e .waiters ≡ before ++ (abort .pending ++ behind)
-
--- The links to the first and the last that are left to look at without w.
-abbrev pub cursorWithout : ℕ → ℕ → State → ℕ
-cursorWithout w e s = firstOf (without w (pendingOf (s .endpoints e .abort)))
-
-abbrev pub endWithout : ℕ → ℕ → State → ℕ
-endWithout w e s = lastOf 0 (without w (pendingOf (s .endpoints e .abort)))

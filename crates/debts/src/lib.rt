@@ -1,12 +1,11 @@
 // Who owns an abort and who has a note of one: dropping them, beginning, joining and ending an abort, and passing a
 // waiter that is kept. Each is a few steps of the store, and does what the machine's operation of its name does.
-ghost use mathlib.Core.Bool.{false};
 ghost use Rattle.machine.specs.Endpoints.{dropDebt};
-ghost use Rattle.machine.specs.Aborts.{dropOther, join, begin, lookAt};
+ghost use Rattle.machine.specs.Aborts.{dropOther, join, begin};
 ghost use Rattle.store.specs.Steps.{Shown, Does, Tells};
 ghost use Rattle.store.specs.Store.{IsEndpoint};
 ghost use Rattle.debts.specs.Debts.{Says, Debtor, Calls, underIn, notedIn, ownsIn, Joins, Endable, noting, Ends};
-ghost use Rattle.debts.specs.Debts.{Alike, Begins, firstSender, lastSender, First, cursorWithout, endWithout};
+ghost use Rattle.debts.specs.Debts.{Alike, Begins, firstSender, lastSender};
 use layout::Field;
 use layout::Part;
 
@@ -153,42 +152,4 @@ pub fn begin(tables: &mut [u32], t: usize, e: usize, badge: u32)
     let end = last_sender(tables, e);
     store::set_abort(tables, e, 1, badge, (t + 1) as u32, cursor, end);
     store::set_owes(tables, t, (1 + e) as u32, 0);
-}
-
-// The link to the waiter that the abort at endpoint e looks at behind w, its first; 0 for none.
-fn next_cursor(tables: &[u32], e: usize, w: usize) -> u32
-    requires { ⌜ Shown (now tables) (First w e) ⌝ }
-    ensures { λ r. ⌜ Tells (now (tables .entry)) (First w e) r (cursorWithout w e) ⌝ }
-{
-    let end = store::endpoint(tables, Part::End, e);
-    let link = (w + 1) as u32;
-    if end == link {
-        return 0;
-    }
-    links::next(tables, w)
-}
-
-// The link to the last waiter that the abort at endpoint e looks at, without w, its first; 0 for none.
-fn next_end(tables: &[u32], e: usize, w: usize) -> u32
-    requires { ⌜ Shown (now tables) (First w e) ⌝ }
-    ensures { λ r. ⌜ Tells (now (tables .entry)) (First w e) r (endWithout w e) ⌝ }
-{
-    let end = store::endpoint(tables, Part::End, e);
-    let link = (w + 1) as u32;
-    if end == link {
-        return 0;
-    }
-    end
-}
-
-// A look that keeps w, the first that the abort at endpoint e has to look at: the cursor moves on.
-pub fn keep_look(tables: &mut [u32], e: usize, w: usize)
-    requires { ⌜ Shown (now tables) (First w e) ⌝ }
-    ensures { λ _. ⌜ Does (now (tables .entry)) (now (tables .exit)) (First w e) (lookAt false e w) ⌝ }
-{
-    let cursor = next_cursor(tables, e, w);
-    let end = next_end(tables, e, w);
-    let badge = store::endpoint(tables, Part::Aborted, e);
-    let owner = store::endpoint(tables, Part::Owner, e);
-    store::set_abort(tables, e, 1, badge, owner, cursor, end);
 }

@@ -133,7 +133,7 @@ pub fn join_endpoint(tables: &mut [u32], t: usize, e: usize)
 }
 
 // Thread t goes from those that the abort at endpoint e has to look at: a mark that it is passes to its neighbour.
-fn pass_marks(tables: &mut [u32], t: usize, e: usize)
+pub fn pass_marks(tables: &mut [u32], t: usize, e: usize)
     requires { ⌜ Shown (now tables) (Waits t e) ⌝ }
     ensures { λ _. ⌜ Does (now (tables .entry)) (now (tables .exit)) (Waits t e) (passingAt t e) ⌝ }
 {

@@ -22,7 +22,7 @@ use Rattle.layout.proofs.Standing.{queue?, Queue, level, endpoint, queues-level
 use Rattle.links.specs.Links.{Free}
 use Rattle.store.specs.Store.{creating, prioritising}
 use Rattle.queues.specs.Queues.{Loose, Stands, Chooses, Comes, Waits}
-use Rattle.debts.specs.Debts.{Debtor, Calls, Joins, Endable, AllAt, Alike, Begins, First}
+use Rattle.debts.specs.Debts.{Debtor, Calls, Joins, Endable, AllAt, Alike, Begins}
 
 -- A thread is in no queue if it is in no level's and no endpoint's.
 pub free-of :
@@ -180,25 +180,12 @@ module _ {s : State} (M : Mid s) where
       go (some a) j i =
           M .marks .part e a j .sends w (subst (λ (x : List ℕ). Mem w x) (sym i) (inl refl))
 
-  pub pending-first :
-      {w e : ℕ} {l : List ℕ} → pendingOf (s .endpoints e .abort) ≡ w ∷ l → First w e s
-  pending-first {w} {e} {l} k = go (s .endpoints e .abort) refl k
+  pub pending-endpoint : {w e : ℕ} {l : List ℕ} → pendingOf (s .endpoints e .abort) ≡ w ∷ l → e ≤ 63
+  pending-endpoint {w} {e} {l} k = go (s .endpoints e .abort) refl k
     where
-      go : (x : Option Abort) → s .endpoints e .abort ≡ x → pendingOf x ≡ w ∷ l → First w e s
+      go : (x : Option Abort) → s .endpoints e .abort ≡ x → pendingOf x ≡ w ∷ l → e ≤ 63
       go none j i = let z : _≡_ {A = ℕ} 0 1 = cc in absurd (omega arith)
-      go (some a) j i =
-          let p = M .marks .part e a j in
-          record {
-            thread = present-thread (queued-present (inl (pending-queued k)));
-            endpoint = stands-small j;
-            abort = a;
-            stands = j;
-            rest = l;
-            first = i;
-            before = p .before;
-            behind = p .behind;
-            within = p .within;
-          }
+      go (some a) j i = stands-small j
 
 -- A thread just made, one woken from its line, and a ready one that has left its level's queue to get another priority.
 

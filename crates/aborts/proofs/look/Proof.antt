@@ -1,6 +1,6 @@
 -- A waiter under the badge is woken, another passed.
 -- Assumes nothing.
-use Rattle.aborts.proofs.Looks.{thread-asked, endpoint-asked, waits-asked, first-asked, look-removed}
+use Rattle.aborts.proofs.Looks.{thread-asked, endpoint-asked, waits-asked, look-removed}
 use Rattle.aborts.proofs.Looks.{look-kept}
 use borrow.Author.Needs.{needs}
 use Rattle.aborts.proofs.look.Statement.{statement}
@@ -27,20 +27,20 @@ returns c =
     look-removed (at-badge .thread .ensures) (at-under-abort .under-abort .ensures) (at-if1 .if1 .taken)
     (at-wake-from .wake-from .ensures)
 
-keep-look-requires : tie.Need-keep-look-requires
-keep-look-requires c κs = search first-asked
+pass-marks-requires : tie.Need-pass-marks-requires
+pass-marks-requires c κs = search waits-asked
 
 same-length-2 : tie.Need-same-length-2
 same-length-2 c = search needs
 
 returns-2 : tie.Need-returns-2
 returns-2 c =
-    let at-keep-look = c .before .before in
-    let at-if1 = at-keep-look .before .before in
+    let at-pass-marks = c .before .before in
+    let at-if1 = at-pass-marks .before .before in
     let at-under-abort = at-if1 .before in
     let at-badge = at-under-abort .before .before in
     look-kept (at-badge .thread .ensures) (at-under-abort .under-abort .ensures) (at-if1 .if1 .left)
-    (at-keep-look .keep-look .ensures)
+    (at-pass-marks .pass-marks .ensures)
 
 pub look-spec : {M : Type 1} → statement M
 look-spec =
@@ -51,6 +51,6 @@ look-spec =
     wake-from-requires
     same-length
     returns
-    keep-look-requires
+    pass-marks-requires
     same-length-2
     returns-2)
