@@ -3,4 +3,5 @@ pub mod Told
 pub mod Dropping
 pub mod Joining
 pub mod Ending
+pub mod Firsts
 pub mod Beginning

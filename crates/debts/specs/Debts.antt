@@ -1,6 +1,6 @@
 -- What the steps on ownerships, notes and aborts ask of the state, and what they tell of it.
 -- Assumes nothing.
-use Prim.Native.Nat.{ℕ, _≤_}
+use Prim.Native.Nat.{ℕ, _+_, _≤_}
 use mathlib.Core.Path.{_≡_}
 use mathlib.Core.Bool.{Bool}
 use mathlib.Core.Option.{Option}
@@ -8,11 +8,11 @@ use mathlib.Core.Logic.{_⊎_}
 use mathlib.Core.List.{List}
 use Rattle.machine.specs.Lists.{Mem}
 use Rattle.machine.specs.State.{State, Place, sending, receiving, owns, Abort, Status}
-use Rattle.machine.specs.Endpoints.{senders, underAbort, ownerOf, note, endAbort}
+use Rattle.machine.specs.Endpoints.{senders, receivers, underAbort, ownerOf, note, endAbort}
 use Rattle.machine.specs.Aborts.{hasNote, ownsThis}
 use Rattle.layout.specs.Words.{statusCode, firstOf, lastOf}
 use Rattle.layout.specs.Shows.{Shows}
-use Rattle.store.specs.Steps.{Does}
+use Rattle.store.specs.Steps.{Does, Tells}
 use Rattle.store.specs.Store.{HasAbort}
 
 -- r is what f says of each state that the memory shows and of which P holds.
@@ -77,3 +77,12 @@ firstSender e s = firstOf (senders (s .threads) (s .endpoints e .waiters))
 
 abbrev pub lastSender : ℕ → State → ℕ
 lastSender e s = lastOf 0 (senders (s .threads) (s .endpoints e .waiters))
+
+-- The link to the first receiver at e.
+abbrev pub firstReceiver : ℕ → State → ℕ
+firstReceiver e s = firstOf (receivers (s .threads) (s .endpoints e .waiters))
+
+-- A place enters the code as its number; r is the link to the first waiter at whatever place it is the number of.
+pub record FirstAt (m : List ℕ) (e code r : ℕ) : Type 0 where
+  pub sends : code ≡ 2 + e → Tells m (Alike e) r (firstSender e)
+  pub receives : code ≡ 66 + e → Tells m (Alike e) r (firstReceiver e)

@@ -5,7 +5,7 @@ ghost use Rattle.machine.specs.Aborts.{dropOther, join, begin};
 ghost use Rattle.store.specs.Steps.{Shown, Does, Tells};
 ghost use Rattle.store.specs.Store.{IsEndpoint};
 ghost use Rattle.debts.specs.Debts.{Says, Debtor, Calls, underIn, notedIn, ownsIn, Joins, Endable, noting, Ends};
-ghost use Rattle.debts.specs.Debts.{Alike, Begins, firstSender, lastSender};
+ghost use Rattle.debts.specs.Debts.{Alike, Begins, FirstAt, lastSender};
 use layout::Field;
 use layout::Part;
 
@@ -114,21 +114,21 @@ pub fn end_abort(tables: &mut [u32], e: usize, status: u32)
     store::set_status(tables, e, status);
 }
 
-// The link to the first sender at endpoint e, whose waiters all send or all receive; 0 for none.
-fn first_sender(tables: &[u32], e: usize) -> u32
+// The link to the first waiter at endpoint e if it is at this place, sending or receiving; otherwise 0, and no waiter
+// is, since all are alike.
+pub fn first_at(tables: &[u32], e: usize, place: u32) -> u32
     requires { ⌜ Shown (now tables) (Alike e) ⌝ }
-    ensures { λ r. ⌜ Tells (now (tables .entry)) (Alike e) r (firstSender e) ⌝ }
+    ensures { λ r. ⌜ FirstAt (now (tables .entry)) e place r ⌝ }
 {
-    let first = links::first(tables, 256 + e);
-    if first == 0 {
+    let link = links::first(tables, 256 + e);
+    if link == 0 {
         return 0;
     }
-    let place = store::thread(tables, Field::Place, (first - 1) as usize);
-    let sends = (2 + e) as u32;
-    if place != sends {
+    let at = store::thread(tables, Field::Place, (link - 1) as usize);
+    if at != place {
         return 0;
     }
-    first
+    link
 }
 
 // The link to the last sender at endpoint e; 0 for none.
@@ -136,7 +136,7 @@ fn last_sender(tables: &[u32], e: usize) -> u32
     requires { ⌜ Shown (now tables) (Alike e) ⌝ }
     ensures { λ r. ⌜ Tells (now (tables .entry)) (Alike e) r (lastSender e) ⌝ }
 {
-    let first = first_sender(tables, e);
+    let first = first_at(tables, e, (2 + e) as u32);
     if first == 0 {
         return 0;
     }
@@ -148,7 +148,7 @@ pub fn begin(tables: &mut [u32], t: usize, e: usize, badge: u32)
     requires { ⌜ Shown (now tables) (Begins t e) ⌝ }
     ensures { λ _. ⌜ Does (now (tables .entry)) (now (tables .exit)) (Begins t e) (begin t e badge) ⌝ }
 {
-    let cursor = first_sender(tables, e);
+    let cursor = first_at(tables, e, (2 + e) as u32);
     let end = last_sender(tables, e);
     store::set_abort(tables, e, 1, badge, (t + 1) as u32, cursor, end);
     store::set_owes(tables, t, (1 + e) as u32, 0);

@@ -21,11 +21,11 @@ use Rattle.store.specs.Steps.{Shown, Does, Tells}
 use Rattle.store.specs.Store.{IsEndpoint}
 use Rattle.store.specs.Readings.{endpointIn}
 use Rattle.queues.specs.Queues.{Chooses, Comes, Waits}
-use Rattle.debts.specs.Debts.{Says, Debtor, underIn}
+use Rattle.debts.specs.Debts.{Says, Debtor, underIn, FirstAt, firstReceiver}
 use Rattle.results.specs.Results.{Calling, Performs}
 use Rattle.results.proofs.Ends.{refused, performs-as, performs-after}
 use Rattle.results.proofs.Conditions.{mid-chooses, mid-alike, queued-waits}
-use Rattle.transfers.specs.Transfers.{Dropped, FirstAt, Suspends, firstReceiver, handing}
+use Rattle.transfers.specs.Transfers.{Dropped, Suspends, handing}
 use Rattle.queues.proofs.Joining.{shown-next}
 use Rattle.transfers.proofs.Callers.{dropped-mid, dropped-first}
 use Rattle.transfers.proofs.Firsts.{first-none, first-some, first-queued, kind-kept}

@@ -20,11 +20,11 @@ use Rattle.store.specs.Steps.{Shown, Does, Tells}
 use Rattle.store.specs.Store.{IsThread, IsEndpoint}
 use Rattle.store.specs.Readings.{endpointIn, threadIn}
 use Rattle.queues.specs.Queues.{Chooses, Comes, Waits}
-use Rattle.debts.specs.Debts.{Debtor, firstSender}
+use Rattle.debts.specs.Debts.{Debtor, FirstAt, firstSender}
 use Rattle.results.specs.Results.{Calling, Performs, Accepts, answerOf}
 use Rattle.results.proofs.Ends.{refused, performs-as, performs-for, shown-for}
 use Rattle.results.proofs.Conditions.{mid-chooses, mid-alike, queued-waits, queued-present, present-thread}
-use Rattle.transfers.specs.Transfers.{Dropped, Takes, FirstAt, Suspends, taking, takingFrom}
+use Rattle.transfers.specs.Transfers.{Dropped, Takes, Suspends, taking, takingFrom}
 use Rattle.queues.proofs.Joining.{shown-next}
 use Rattle.transfers.proofs.Callers.{dropped-mid, dropped-first}
 use Rattle.transfers.proofs.Firsts.{first-none, first-some, first-queued, kind-kept}

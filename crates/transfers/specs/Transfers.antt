@@ -1,5 +1,5 @@
 -- The inner steps of the calls that hand messages over and wait: what they ask, what they do, and who is first.
-use Prim.Native.Nat.{ℕ, _+_, _≤_}
+use Prim.Native.Nat.{ℕ, _≤_}
 use mathlib.Core.Path.{_≡_}
 use mathlib.Core.List.{List, []}
 use Rattle.machine.specs.declared.Answer.{Answer}
@@ -10,10 +10,8 @@ use Rattle.machine.specs.Endpoints.{senders, receivers, wakeFrom, dropDebt}
 use Rattle.machine.specs.Results.{Result, accept, blocked}
 use Rattle.machine.specs.Machine.{fire, sendTo, receiveFrom}
 use Rattle.machine.specs.Sound.{Queued}
-use Rattle.layout.specs.Words.{placeCode, firstOf}
-use Rattle.store.specs.Steps.{Tells}
+use Rattle.layout.specs.Words.{placeCode}
 use Rattle.store.specs.Store.{IsThread}
-use Rattle.debts.specs.Debts.{Alike, firstSender}
 use Rattle.results.specs.Results.{Calling, Performs, answerOf}
 
 -- The running thread t makes a call, and its ownership or note has gone.
@@ -27,15 +25,6 @@ pub record Takes (u e : ℕ) (s : State) : Type 0 where
   pub caller : ℕ
   pub dropped : Dropped caller (e ≤ 63) s
   pub waits : Queued s u e
-
--- The link to the first receiver at e.
-abbrev pub firstReceiver : ℕ → State → ℕ
-firstReceiver e s = firstOf (receivers (s .threads) (s .endpoints e .waiters))
-
--- A place enters the code as its number; r is the link to the first waiter at whatever place it is the number of.
-pub record FirstAt (m : List ℕ) (e code r : ℕ) : Type 0 where
-  pub sends : code ≡ 2 + e → Tells m (Alike e) r (firstSender e)
-  pub receives : code ≡ 66 + e → Tells m (Alike e) r (firstReceiver e)
 
 -- The running thread t blocks at whatever place has this number, and the answer is code 1.
 pub record Suspends (m : List ℕ) (t code badge message : ℕ) (a : Answer) (m′ : List ℕ) : Type 0 where

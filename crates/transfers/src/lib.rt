@@ -8,7 +8,7 @@ ghost use Rattle.store.specs.Store.{IsThread};
 ghost use Rattle.queues.specs.Queues.{Chooses};
 ghost use Rattle.debts.specs.Debts.{Alike};
 ghost use Rattle.results.specs.Results.{Asked, Calling, Performs};
-ghost use Rattle.transfers.specs.Transfers.{Dropped, Takes, FirstAt, Suspends, firing, handing, taking};
+ghost use Rattle.transfers.specs.Transfers.{Dropped, Takes, Suspends, firing, handing, taking};
 ghost use Rattle.transfers.specs.Transfers.{takingFrom};
 use layout::Field;
 use layout::Part;
@@ -63,30 +63,13 @@ pub fn interrupt(tables: &mut [u32], l: usize) -> Answer
     results::done(tables)
 }
 
-// The link to the first waiter at endpoint e if it is at this place, sending or receiving; otherwise 0, and no waiter
-// is, since all are alike.
-fn first_at(tables: &[u32], e: usize, place: u32) -> u32
-    requires { ⌜ Shown (now tables) (Alike e) ⌝ }
-    ensures { λ r. ⌜ FirstAt (now (tables .entry)) e place r ⌝ }
-{
-    let link = links::first(tables, 256 + e);
-    if link == 0 {
-        return 0;
-    }
-    let at = store::thread(tables, Field::Place, (link - 1) as usize);
-    if at != place {
-        return 0;
-    }
-    link
-}
-
 // The message goes to the first receiver at endpoint e; without one the caller t waits there to send it.
 fn hand(tables: &mut [u32], t: usize, e: usize, badge: u32, message: u32) -> Answer
     requires { ⌜ Shown (now tables) (Dropped t ((e ≤ 63) × (badge < 2 ^ 28) × (message < 2 ^ 28))) ⌝ }
     ensures { λ r. ⌜ Performs (now (tables .entry)) (now (tables .exit)) r
         (Dropped t ((e ≤ 63) × (badge < 2 ^ 28) × (message < 2 ^ 28))) (handing t e badge message) ⌝ }
 {
-    let link = first_at(tables, e, (66 + e) as u32);
+    let link = debts::first_at(tables, e, (66 + e) as u32);
     if link == 0 {
         queues::join_endpoint(tables, t, e);
         return suspend(tables, t, (2 + e) as u32, badge, message);
@@ -138,7 +121,7 @@ fn take(tables: &mut [u32], t: usize, e: usize) -> Answer
     requires { ⌜ Shown (now tables) (Dropped t (e ≤ 63)) ⌝ }
     ensures { λ r. ⌜ Performs (now (tables .entry)) (now (tables .exit)) r (Dropped t (e ≤ 63)) (taking t e) ⌝ }
 {
-    let link = first_at(tables, e, (2 + e) as u32);
+    let link = debts::first_at(tables, e, (2 + e) as u32);
     if link == 0 {
         queues::join_endpoint(tables, t, e);
         return suspend(tables, t, (66 + e) as u32, 0, 0);

@@ -1,12 +1,17 @@
 -- The abort that stands has the senders to look at, and it and its owner name each other.
--- Assumes nothing.
 use borrow.Author.Needs.{needs}
 use Rattle.debts.proofs.Beginning.{beginner-asked, begins}
 use Rattle.debts.proofs.begin.Statement.{statement}
 use Rattle.debts.proofs.begin.Tie as tie
 
-first-sender-requires : tie.Need-first-sender-requires
-first-sender-requires c κs = search needs
+add-first-at : tie.Need-add-first-at
+add-first-at c = search needs
+
+cast-first-at : tie.Need-cast-first-at
+cast-first-at c = search needs
+
+first-at-requires : tie.Need-first-at-requires
+first-at-requires c κs = search needs
 
 last-sender-requires : tie.Need-last-sender-requires
 last-sender-requires c κs = search needs
@@ -31,7 +36,7 @@ set-owes-requires c κs =
     let a = c .before .before .before in
     let l = a .before .before in
     let f = l .before .before in
-    beginner-asked (f .first-sender .ensures) (l .last-sender .ensures) (a .set-abort .ensures)
+    beginner-asked (f .first-at .ensures) (l .last-sender .ensures) (a .set-abort .ensures)
     (f .before .before .before .pre)
 
 same-length : tie.Need-same-length
@@ -44,7 +49,9 @@ pub begin-spec : {M : Type 1} → statement M
 begin-spec =
     tie.close
     (tie.spec
-    first-sender-requires
+    add-first-at
+    cast-first-at
+    first-at-requires
     last-sender-requires
     add-set-abort
     cast-set-abort

@@ -1,12 +1,17 @@
 -- Where there is a sender, all waiters send, and the last of them is the last sender.
--- Assumes nothing.
 use borrow.Author.Needs.{needs}
 use Rattle.debts.proofs.Beginning.{last-none, last-sends}
 use Rattle.debts.proofs.last_sender.Statement.{statement}
 use Rattle.debts.proofs.last_sender.Tie as tie
 
-first-sender-requires : tie.Need-first-sender-requires
-first-sender-requires c κs = search needs
+add-first-at : tie.Need-add-first-at
+add-first-at c = search needs
+
+cast-first-at : tie.Need-cast-first-at
+cast-first-at c = search needs
+
+first-at-requires : tie.Need-first-at-requires
+first-at-requires c κs = search needs
 
 returns : tie.Need-returns
 returns c = search last-none
@@ -23,4 +28,4 @@ returns-2 c = search last-sends
 pub last-sender-spec : {M : Type 1} → statement M
 last-sender-spec =
     tie.close
-    (tie.spec first-sender-requires returns add-last last-requires returns-2)
+    (tie.spec add-first-at cast-first-at first-at-requires returns add-last last-requires returns-2)

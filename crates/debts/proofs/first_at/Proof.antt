@@ -1,10 +1,9 @@
 -- The first waiter's place tells whether all are at it, or none is.
 -- Assumes nothing.
-use Rattle.transfers.proofs.Firsts.{at-empty, at-other, at-place}
-use Rattle.debts.proofs.Beginning.{place-asked}
+use Rattle.debts.proofs.Firsts.{place-asked, at-empty, at-other, at-place}
 use borrow.Author.Needs.{needs}
-use Rattle.transfers.proofs.first_at.Statement.{statement}
-use Rattle.transfers.proofs.first_at.Tie as tie
+use Rattle.debts.proofs.first_at.Statement.{statement}
+use Rattle.debts.proofs.first_at.Tie as tie
 
 add-first : tie.Need-add-first
 add-first c = search needs
