@@ -1,5 +1,4 @@
 -- Looks: one, and as many as the allowance lets. What remains to do is told by the state that the memory shows.
--- Assumes nothing.
 use Prim.Native.Nat.{ℕ, zero, suc, _+_, _-_, _≤_, _<_}
 use mathlib.Core.Path.{_≡_, refl, sym, _∙_, ap, subst}
 use mathlib.Core.Logic.{inl}

@@ -1,5 +1,4 @@
 -- The way into the work: the note, the status, the caller's other debts, and the abort that stands at the endpoint.
--- Assumes nothing.
 use Prim.Native.Nat.{ℕ, _≤_, _<_, _^_}
 use mathlib.Core.Path.{_≡_, refl, sym, _∙_, ap}
 use mathlib.Core.Bool.{Bool, true, false}

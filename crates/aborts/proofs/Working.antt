@@ -1,5 +1,4 @@
 -- An abort's work in one call: the call's own after its earlier looks, and another badge's that is finished first.
--- Assumes nothing.
 use Prim.Native.Nat.{ℕ, zero, suc, _+_, _-_, _≤_, _<_, _^_}
 use mathlib.Core.Path.{_≡_, refl, sym, _∙_, ap, subst}
 use mathlib.Core.List.{List, [], _++_}

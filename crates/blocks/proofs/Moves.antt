@@ -1,5 +1,4 @@
 -- A block out of the tables and into them: the eight words are those of the thread, and the four steps make the thread.
--- Assumes nothing.
 use Prim.Native.Nat.{ℕ, _-_}
 use mathlib.Core.Path.{_≡_, refl, sym, _∙_, ap, subst}
 use mathlib.Core.List.{List}

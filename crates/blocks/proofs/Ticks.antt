@@ -1,5 +1,4 @@
 -- The ticks of a block after a tick: 5 where none is left, and one less otherwise.
--- Assumes nothing.
 use Prim.Native.Nat.{ℕ, zero, suc, _-_, _<_, _≤_}
 use mathlib.Core.Path.{_≡_, refl, ap}
 use native.Mathlib.Omega.{arith}

@@ -1,5 +1,5 @@
 -- A thread's block: where its test passes its words are those of the thread read off them; and what is left of the test
--- once they are a neat thread's: the line that it waits on, and the abort that it owns. Assumes nothing.
+-- once they are a neat thread's: the line that it waits on, and the abort that it owns.
 use Prim.Native.Nat.{ℕ, zero, suc, _+_, _-_, _^_, _≤_, _<_}
 use mathlib.Core.Path.{_≡_, refl, sym, _∙_, ap, subst, fun-ext}
 use mathlib.Core.Logic.{_⊎_, inl, inr, ⊎-elim}

@@ -1,5 +1,4 @@
 -- The phases of a walk through an abort's queue against the part of the queue from the cursor to the end mark.
--- Assumes nothing.
 use Prim.Native.Nat.{ℕ, suc}
 use mathlib.Core.Path.{_≡_, refl, sym, _∙_, ap, subst}
 use mathlib.Core.Logic.{inl, inr, ⊎-elim}

@@ -1,5 +1,5 @@
 -- A test that holds for each number below a bound, and the loops that try it: all below i and i itself give all below
--- i + 1, and one that fails settles it. Assumes nothing.
+-- i + 1, and one that fails settles it.
 use Prim.Native.Nat.{ℕ, zero, suc, _<_}
 use mathlib.Core.Bool.{Bool, true, false, _&&_}
 use mathlib.Core.Logic.{⊎-elim}

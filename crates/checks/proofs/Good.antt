@@ -1,5 +1,4 @@
 -- The tests of the check hold exactly where the memory shows a sound state.
--- Assumes nothing.
 use Prim.Native.Nat.{ℕ}
 use mathlib.Core.Path.{_≡_}
 use mathlib.Core.Logic.{_↔_}

@@ -1,5 +1,5 @@
 -- Lines, the running thread, the summary: where their tests pass the words are those of what is read off them; and what
--- the tests tell of a memory that is read as a neat state. Assumes nothing.
+-- the tests tell of a memory that is read as a neat state.
 use Prim.Native.Nat.{ℕ, zero, suc, _+_, _≤_, _<_}
 use mathlib.Core.Path.{_≡_, refl, sym, _∙_, ap, subst}
 use mathlib.Core.Logic.{_⊎_}

@@ -1,5 +1,5 @@
 -- From the tests to a state: where they pass, the words are those of the state decoded from them, and the links join
--- its queues. Assumes nothing.
+-- its queues.
 use Prim.Native.Nat.{ℕ, _+_, _≤_}
 use mathlib.Core.Path.{_≡_, sym, _∙_, ap}
 use mathlib.Core.Bool.{true}

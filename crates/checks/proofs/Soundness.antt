@@ -1,5 +1,5 @@
 -- What is left of the tests of a memory that is read as a neat state is what Sound asks beyond neatness, and that
--- threads in no queue have links 0. Assumes nothing.
+-- threads in no queue have links 0.
 use Prim.Native.Nat.{ℕ, _+_, _^_, _≤_, _<_}
 use mathlib.Core.Path.{_≡_, refl, sym, _∙_, ap, subst}
 use mathlib.Core.Logic.{_⊎_, inl, inr, _↔_, ⊎-elim}

@@ -1,5 +1,4 @@
 -- More tests that tell facts: of order, by cases, of each index below a bound and of each in a list.
--- Assumes nothing.
 use Prim.Native.Nat.{ℕ, _<_}
 use mathlib.Core.Path.{_≡_, refl, sym, subst}
 use mathlib.Core.Logic.{_⊎_, inl, inr, ⊎-elim}

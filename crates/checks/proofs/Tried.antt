@@ -1,5 +1,4 @@
 -- All tests at once: each of them passes; and what is left of them where the memory is read as a neat state.
--- Assumes nothing.
 use Prim.Native.Nat.{ℕ, _<_}
 use mathlib.Core.Path.{_≡_}
 use mathlib.Core.Logic.{_⊎_, _↔_}

@@ -1,5 +1,5 @@
 -- The queue of an endpoint: the test of its walk finds the queue with its marks; and what it tells of a memory that is
--- read as a neat state. Assumes nothing.
+-- read as a neat state.
 use Prim.Native.Nat.{ℕ, _+_, _^_, _≤_, _<_}
 use mathlib.Core.Path.{_≡_, refl, sym, _∙_, ap, subst}
 use mathlib.Core.Logic.{_⊎_, inl, inr, ⊎-elim}

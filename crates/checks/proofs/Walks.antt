@@ -1,5 +1,5 @@
 -- The walks of the check against chains: what a walk tests of the links, apart from what it tests of the threads; and
--- that in a chain from the queue itself nobody stands twice. Assumes nothing.
+-- that in a chain from the queue itself nobody stands twice.
 use Prim.Native.Nat.{ℕ, zero, suc, _≤_, _<_}
 use mathlib.Core.Path.{_≡_, refl, sym, _∙_, ap, subst}
 use mathlib.Core.Logic.{inl, inr, ⊎-elim}

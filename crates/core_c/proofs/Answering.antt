@@ -1,5 +1,4 @@
 -- What a call that passes as numbers comes to: a refusal behind the check, the core's call, and the four numbers.
--- Assumes nothing.
 use Prim.Native.Nat.{ℕ, zero, suc}
 use mathlib.Core.Path.{_≡_, refl, sym, ap, _∙_}
 use mathlib.Core.List.{List}

@@ -1,5 +1,4 @@
 -- The three ways that five numbers name a call, or none.
--- Assumes nothing.
 use Prim.Native.Nat.{ℕ}
 use mathlib.Core.Path.{_≡_}
 use mathlib.Core.List.{List, []}

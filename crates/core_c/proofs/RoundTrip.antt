@@ -1,5 +1,4 @@
 -- The five numbers of a call name that call: what the reader gives, a call takes, and the writer too.
--- Assumes nothing.
 use mathlib.Core.Path.{_≡_, refl}
 use mathlib.Core.Option.{some}
 use Rattle.machine.specs.declared.Call.{Call}

@@ -1,4 +1,4 @@
--- The thread of a link to who runs. Assumes nothing.
+-- The thread of a link to who runs.
 use Prim.Native.Nat.{ℕ, zero, suc, _-_, _≤_}
 use mathlib.Core.Path.{_≡_, refl, sym, ap, _∙_}
 use mathlib.Core.List.{List}

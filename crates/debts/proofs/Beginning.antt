@@ -1,5 +1,4 @@
 -- Beginning an abort: the first and the last sender of a queue in which all send or all receive.
--- Assumes nothing.
 use Prim.Native.Nat.{ℕ, _+_, _-_, _≤_}
 use mathlib.Core.Path.{_≡_, refl, sym, _∙_, ap}
 use mathlib.Core.Logic.{_⊎_, inl, inr}

@@ -1,5 +1,4 @@
 -- Dropping an ownership or a note: what the steps ask, and that together they are the machine's.
--- Assumes nothing.
 use Prim.Native.Nat.{ℕ, _-_, _≤_, _<_}
 use mathlib.Core.Path.{_≡_, refl, sym, _∙_, subst}
 use mathlib.Core.Bool.{Bool, true, false}

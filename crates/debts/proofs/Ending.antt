@@ -1,5 +1,4 @@
 -- Ending an abort: its owner gets a note, and the endpoint has no abort and the status given, as one step.
--- Assumes nothing.
 use Prim.Native.Nat.{ℕ, _+_, _-_, _≤_}
 use mathlib.Core.Path.{_≡_, refl, sym, _∙_, ap, subst}
 use mathlib.Core.Option.{Option, none, some}

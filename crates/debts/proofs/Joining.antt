@@ -1,5 +1,4 @@
 -- Joining an abort: the joiner becomes the owner where there is none.
--- Assumes nothing.
 use Prim.Native.Nat.{ℕ, _+_}
 use mathlib.Core.Path.{_≡_, refl, sym}
 use mathlib.Core.Option.{Option, none, some}

@@ -1,5 +1,4 @@
 -- What the numbers of an abort and of a debt tell: the badge under abort, the note and the ownership of a thread.
--- Assumes nothing.
 use Prim.Native.Nat.{ℕ, _+_, _≤_}
 use mathlib.Core.Path.{_≡_, refl, ap}
 use mathlib.Core.Bool.{Bool, false}

@@ -1,5 +1,4 @@
 -- What the steps on ownerships, notes and aborts ask of the state, and what they tell of it.
--- Assumes nothing.
 use Prim.Native.Nat.{ℕ, _+_, _≤_}
 use mathlib.Core.Path.{_≡_}
 use mathlib.Core.Bool.{Bool}

@@ -1,5 +1,4 @@
 -- A closing endpoint in the middle of a call: it stays so while waiters leave, and empty it may be missing.
--- Assumes nothing.
 use Prim.Native.Nat.{ℕ, zero, suc, _≤_}
 use mathlib.Core.Path.{_≡_, refl, sym, _∙_, ap, subst}
 use mathlib.Core.Logic.{inl}

@@ -1,6 +1,5 @@
 -- The removal of waiters from the head, turn by turn. What is left to do from the state reached, added to what has been
 -- done, is what was to do from the beginning.
--- Assumes nothing.
 use Prim.Native.Nat.{ℕ, zero, suc, _+_, _-_, _≤_, _<_}
 use mathlib.Core.Path.{_≡_, refl, sym, _∙_, ap, subst}
 use mathlib.Core.List.{List, [], _∷_}

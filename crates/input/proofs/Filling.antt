@@ -1,6 +1,5 @@
 -- A buffer that is filled with words from the front: after one store more, one word more is right; all of them are the
 -- words in the bytes.
--- Assumes nothing.
 use Prim.Native.Nat.{ℕ, zero, suc, _+_, _*_, _/_, _≤_, _<_}
 use mathlib.Core.Path.{_≡_, refl, ap, subst, _∙_}
 use mathlib.Core.List.{List, [], _∷_}

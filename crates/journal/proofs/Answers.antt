@@ -1,5 +1,4 @@
 -- What the code's enums say, where the specification has an option; what a part of the journal holds.
--- Assumes nothing.
 use mathlib.Core.Path.{_≡_, refl, sym, ap, _∙_}
 use mathlib.Core.Bool.{Bool, true, false}
 use mathlib.Core.List.{List, []}

@@ -1,5 +1,4 @@
 -- What stays of a reading where words are appended to the journal, and where words are dropped from its front.
--- Assumes nothing.
 use mathlib.Core.Path.{_≡_, refl, sym, ap, subst, _∙_}
 use mathlib.Core.Bool.{Bool, true, false}
 use mathlib.Core.List.{List, [], _∷_, _++_}

@@ -1,5 +1,4 @@
 -- Call numbers: the calls go by cases on them, and so do the words that a top byte takes.
--- Assumes nothing.
 use mathlib.Core.Path.{_≡_}
 use mathlib.Core.Bool.{Bool, true, false, _&&_}
 use Prim.Native.Nat.{ℕ, zero, suc, _≤_, _<_}

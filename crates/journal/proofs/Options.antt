@@ -1,5 +1,4 @@
 -- Laws of `unused`, `given` and `numberIn`: when they give a value, and when none.
--- Assumes nothing.
 use mathlib.Core.Path.{_≡_, refl, sym, ap, _∙_}
 use mathlib.Core.Bool.{Bool, true, false}
 use mathlib.Core.List.{List, [], _∷_}

@@ -1,5 +1,4 @@
 -- The parts of the words that calls are written with, and a word put together from its parts.
--- Assumes nothing.
 use mathlib.Core.Path.{_≡_}
 use Prim.Native.Nat.{ℕ, _+_, _*_, _^_, _%_, _<_}
 use native.Mathlib.Omega.{arith}

@@ -1,5 +1,4 @@
 -- What a refusal says, that 18 comes before 19, and when the journal has ended.
--- Assumes nothing.
 use mathlib.Core.Path.{_≡_, sym, ap, _∙_}
 use mathlib.Core.Bool.{false}
 use mathlib.Core.List.{List, _∷_}

@@ -1,5 +1,4 @@
 -- What the functions that name a call answer, where the code has an enum for what may be missing.
--- Assumes nothing.
 use Prim.Native.Nat.{ℕ}
 use mathlib.Core.Option.{Option, none, some}
 use Rattle.machine.specs.declared.Call.{Call}

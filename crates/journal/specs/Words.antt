@@ -1,6 +1,5 @@
 -- The words of the journal: the parts of a word, the call that words name, the words of a call, reading and writing.
 -- The comments quote document 01, "Memory and calls", in its order.
--- Assumes nothing.
 use Prim.Native.Nat.{ℕ, zero, suc, _+_, _*_, _^_, _/_, _%_}
 use mathlib.Core.Bool.{_&&_}
 use mathlib.Core.List.{List, [], _∷_}

@@ -1,5 +1,4 @@
 -- Demand 1 bites: of each wrong core of document 01's checklist, in its pure form, it is false.
--- Assumes nothing.
 use Prim.Native.Nat.{ℕ, _≤_}
 use mathlib.Core.Path.{_≡_, sym, _∙_, ap}
 use mathlib.Core.List.{List, [], _∷_}

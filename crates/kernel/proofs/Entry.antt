@@ -1,5 +1,4 @@
 -- The entry: where the check refuses the call comes to the check's number; else to the machine's step.
--- Assumes nothing.
 use Prim.Native.Nat.{ℕ}
 use mathlib.Core.Path.{_≡_, refl, ap}
 use mathlib.Core.Bool.{Bool, true, false, _&&_}

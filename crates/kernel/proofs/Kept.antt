@@ -1,5 +1,4 @@
 -- Demand 1 of the entry: for any words lent and any call, one of document 01's cases, and no other result is one.
--- Assumes nothing.
 use Prim.Native.Nat.{ℕ}
 use mathlib.Core.Path.{_≡_, refl, sym, _∙_, ap, subst}
 use mathlib.Core.Bool.{Bool, true, false, _&&_}

@@ -1,5 +1,4 @@
 -- What a call in range says of its numbers, and which calls the running thread makes.
--- Assumes nothing.
 use Prim.Native.Nat.{ℕ, _≤_, _<_, _^_}
 use mathlib.Core.Bool.{_&&_}
 use lib.Dec.{leb, ltb}

@@ -1,5 +1,5 @@
 -- Lists of calls through the entry, each with any scratch: from fresh tables the answers and the tables are those of
--- the machine's run of the calls that had a scratch of 256 words. Assumes nothing.
+-- the machine's run of the calls that had a scratch of 256 words.
 use Prim.Native.Nat.{ℕ}
 use mathlib.Core.Path.{_≡_, refl, sym, _∙_, ap}
 use mathlib.Core.Bool.{Bool, true, false}

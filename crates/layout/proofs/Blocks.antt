@@ -1,5 +1,4 @@
 -- A thread's block: what is read of it meets what Sound asks of one thread alone, and a thread that does is read back.
--- Assumes nothing.
 use Prim.Native.Nat.{ℕ, _-_, _^_, _≤_, _<_}
 use mathlib.Core.Path.{_≡_, refl, sym, _∙_, ap}
 use mathlib.Core.Logic.{_⊎_, inl, inr}

@@ -1,5 +1,4 @@
 -- A chain of links against the links that are read off its list: the first, the last, the one after and the one before.
--- Assumes nothing.
 use Prim.Native.Nat.{ℕ, suc}
 use mathlib.Core.Path.{_≡_, refl, sym, _∙_, ap, subst}
 use mathlib.Core.Logic.{inl, inr}

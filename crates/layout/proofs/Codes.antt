@@ -1,5 +1,4 @@
 -- The codes of places, debts, lines and links: what is read is in range, and reading what was written gives it back.
--- Assumes nothing.
 use Prim.Native.Nat.{ℕ, zero, suc, _+_, _-_, _^_, _≤_, _<_}
 use mathlib.Core.Path.{_≡_, refl, ap}
 use mathlib.Core.Bool.{Bool, true, false}

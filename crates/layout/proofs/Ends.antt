@@ -1,5 +1,5 @@
 -- An endpoint's words: what is read of them meets what Sound asks of one endpoint alone, and an endpoint that does is
--- read back. Assumes nothing.
+-- read back.
 use Prim.Native.Nat.{ℕ, zero, suc, _-_, _^_, _≤_, _<_}
 use mathlib.Core.Path.{_≡_, refl, sym, _∙_, ap}
 use mathlib.Core.Option.{Option, none, some}

@@ -1,5 +1,4 @@
 -- Each state with sound numbers and queues has one memory, its image; and the fresh state's is all 0.
--- Assumes nothing.
 use Prim.Native.Nat.{ℕ, zero, suc, _≤_, _<_}
 use mathlib.Core.Path.{_≡_, refl, sym, _∙_, ap, subst}
 use mathlib.Core.Logic.{_⊎_, inl, inr}

@@ -1,5 +1,4 @@
 -- Neat: what Sound asks of each thread, endpoint, line and number alone. Sound states are neat, as are decoded ones.
--- Assumes nothing.
 use Prim.Native.Nat.{ℕ, _^_, _≤_, _<_}
 use mathlib.Core.Path.{_≡_, refl, sym, _∙_, ap, subst}
 use mathlib.Core.Logic.{_⊎_, inl, inr}

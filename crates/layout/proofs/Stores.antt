@@ -1,5 +1,4 @@
 -- What a memory shows after a store: a store to one slot changes that slot alone, and no link.
--- Assumes nothing.
 use Prim.Native.Nat.{ℕ, zero, suc, _≤_}
 use mathlib.Core.Path.{_≡_, refl, sym, _∙_, ap}
 use mathlib.Core.Logic.{inl, inr}

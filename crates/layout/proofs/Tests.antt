@@ -1,5 +1,4 @@
 -- A test tells a fact: it is true exactly where the fact holds. Tests of joined facts, and of facts about each index.
--- Assumes nothing.
 use Prim.Native.Nat.{ℕ, zero, suc, _+_, _≤_, _<_}
 use mathlib.Core.Path.{_≡_, refl, sym, _∙_, ap, subst}
 use mathlib.Core.Logic.{_⊎_, inl, inr, _↔_, ⊎-elim}

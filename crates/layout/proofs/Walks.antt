@@ -1,5 +1,4 @@
 -- The list walked off a chain is the chain's, and the part between two of its links is the one with these ends.
--- Assumes nothing.
 use Prim.Native.Nat.{ℕ, zero, suc, _≤_, _<_}
 use mathlib.Core.Path.{_≡_, refl, _∙_, ap, subst}
 use mathlib.Core.Logic.{inl, inr}

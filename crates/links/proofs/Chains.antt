@@ -1,5 +1,4 @@
 -- Chains in two memories that differ in the links after p and before w of one queue and in the links of one thread t.
--- Assumes nothing.
 use Prim.Native.Nat.{ℕ, zero, suc, _≤_}
 use mathlib.Core.Path.{_≡_, refl, sym, _∙_, ap, subst}
 use mathlib.Core.Logic.{inl, inr}

@@ -1,5 +1,4 @@
 -- The three stores of push_tail: what they ask of the words and what the links are after them.
--- Assumes nothing.
 use Prim.Native.Nat.{ℕ, suc, _+_, _≤_}
 use mathlib.Core.Path.{_≡_, sym, _∙_, ap, subst}
 use mathlib.Core.List.{List}

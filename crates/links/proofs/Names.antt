@@ -1,5 +1,4 @@
 -- The links around a link by name: the link after x and the link before x of a queue, and which other links they are.
--- Assumes nothing.
 use Prim.Native.Nat.{ℕ, zero, suc, _≤_}
 use mathlib.Core.Path.{_≡_, refl, sym, ap}
 use native.Mathlib.Omega.{arith}

@@ -1,5 +1,4 @@
 -- Tables of queues stay neat where a thread joins a queue or leaves it, and who has left is free.
--- Assumes nothing.
 use Prim.Native.Nat.{ℕ, _≤_}
 use mathlib.Core.Path.{_≡_, refl, sym, subst}
 use mathlib.Core.Logic.{_⊎_, inl, inr}

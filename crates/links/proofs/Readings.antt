@@ -1,5 +1,4 @@
 -- What the links hold where they join a table of queues: the ends of a queue, and the neighbours of a thread in it.
--- Assumes nothing.
 use Prim.Native.Nat.{ℕ, suc, _≤_}
 use mathlib.Core.Path.{_≡_, sym, _∙_, ap, subst}
 use mathlib.Core.Logic.{inr}

@@ -1,5 +1,4 @@
 -- The ends of a list of threads as links, and a list split at one of its threads.
--- Assumes nothing.
 use Prim.Native.Nat.{ℕ, zero, suc, _≤_}
 use mathlib.Core.Path.{_≡_, refl, sym, ap, subst}
 use mathlib.Core.Logic.{inl, inr}

@@ -1,5 +1,4 @@
 -- A store to one link, by name: what it leaves and what it changes.
--- Assumes nothing.
 use Prim.Native.Nat.{ℕ}
 use mathlib.Core.Path.{_≡_, sym, _∙_, ap, subst}
 use mathlib.Core.List.{List}

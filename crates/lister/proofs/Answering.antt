@@ -1,5 +1,4 @@
 -- What a call's bytes come to, from what the functions promise: a call's line, the last line, or nothing; and the end.
--- Assumes nothing.
 use Prim.Native.Nat.{ℕ, zero, suc, _+_, _%_, _^_}
 use mathlib.Core.Path.{_≡_, refl, sym, _∙_, ap, subst}
 use mathlib.Core.Logic.{inl, inr}

@@ -1,5 +1,4 @@
 -- The rows of the words in bytes: those of whole bytes come first, and the rest are the rows of what comes behind them.
--- Assumes nothing.
 use Prim.Native.Nat.{ℕ, zero, suc, _+_, _%_, _≤_, _<_}
 use mathlib.Core.Path.{_≡_, refl, sym, ap, _∙_}
 use mathlib.Core.Bool.{Bool, true, false}

@@ -1,5 +1,4 @@
 -- The listing of a journal does not depend on how its bytes are divided into parts.
--- Assumes nothing.
 use Prim.Native.Nat.{ℕ, suc, _%_, _^_, _<_}
 use mathlib.Core.Path.{_≡_, refl, sym, ap, subst, _∙_}
 use mathlib.Core.Option.{none}

@@ -1,6 +1,5 @@
 -- Bytes fed in parts are fed in one; a byte is held or makes the bytes ready; what a call does to tables that show a
 -- sound state.
--- Assumes nothing.
 use Prim.Native.Nat.{ℕ, suc, _+_, _%_, _^_, _<_}
 use mathlib.Core.Path.{_≡_, refl, sym, ap, _∙_}
 use mathlib.Core.Bool.{Bool, true, false}

@@ -1,5 +1,4 @@
 -- One byte: whether the bytes held are ready with it, and that they are held or taken; and a part, byte by byte.
--- Assumes nothing.
 use Prim.Native.Nat.{ℕ, suc, _+_, _*_, _≤_, _<_}
 use mathlib.Core.Path.{_≡_, refl, sym, _∙_, ap, subst}
 use mathlib.Core.Bool.{Bool, true, false, _&&_, not}

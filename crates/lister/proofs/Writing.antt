@@ -1,5 +1,4 @@
 -- A line behind the bytes used: the bytes in the whole buffer, from those in the part of 96 bytes lent for it.
--- Assumes nothing.
 use Prim.Native.Nat.{ℕ, _+_, _≤_}
 use mathlib.Core.Path.{_≡_, sym, _∙_, ap}
 use mathlib.Core.List.{List, [], _++_, append-assoc}

@@ -1,5 +1,4 @@
 -- Two lines of the listing, computed: an answer with a badge and a message, and a word that does not read.
--- Assumes nothing.
 use mathlib.Core.Path.{_≡_, refl}
 use mathlib.Core.Option.{none, some}
 use mathlib.Core.List.{[], _∷_}

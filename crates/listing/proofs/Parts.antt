@@ -1,5 +1,4 @@
 -- The parts of a line: how long they are, and that writing them one after the other writes the whole.
--- Assumes nothing.
 use Prim.Native.Nat.{ℕ, _+_, _^_, _≤_, _<_}
 use mathlib.Core.Path.{_≡_, refl, sym, _∙_, ap}
 use mathlib.Core.Option.{Option, none, some}

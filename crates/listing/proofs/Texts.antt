@@ -1,5 +1,4 @@
 -- Texts written into a buffer: the laws of pasted, two texts in a row, and a number's digits, the last one first.
--- Assumes nothing.
 use Prim.Native.Nat.{ℕ, suc, _+_, _/_, _%_, _≤_, _<_}
 use mathlib.Core.Path.{_≡_, sym, _∙_, ap}
 use mathlib.Core.List.{List, [], _∷_, _++_, append-assoc, append-nil}

@@ -1,5 +1,4 @@
 -- Call 12: each way through it keeps Mid up to the chooser, so the whole call keeps tables sound.
--- Assumes nothing.
 use Prim.Native.Nat.{ℕ, zero, suc, _≤_, _<_, _-_, _^_}
 use mathlib.Core.Path.{_≡_, refl, _∙_, ap}
 use mathlib.Core.Bool.{Bool, true, false, _&&_}

@@ -1,5 +1,4 @@
 -- Call 12 carries what holds of the history on: refused, answered from a note, or worked on.
--- Assumes nothing.
 use Prim.Native.Nat.{ℕ, suc, _≤_, _<_, _^_}
 use mathlib.Core.Path.{_≡_, refl, sym, _∙_, ap, subst}
 use mathlib.Core.Logic.{inl}

@@ -1,5 +1,4 @@
 -- The answers: what the paper says of refusals, codes, counts, and calls that are broken off.
--- Assumes nothing.
 use Prim.Native.Nat.{ℕ, _+_, _≤_}
 use mathlib.Core.Path.{_≡_, refl, sym, _∙_, ap, subst}
 use mathlib.Core.Logic.{_⊎_, inl, inr, _↔_}

@@ -1,5 +1,4 @@
 -- The claim bites: each machine that goes wrong makes it, or another statement, false on a short list of calls.
--- Assumes nothing.
 use Prim.Native.Nat.{ℕ}
 use mathlib.Core.Path.{_≡_, refl, _∙_, ap}
 use mathlib.Core.Logic.{inl, inr}

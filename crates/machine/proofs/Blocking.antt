@@ -1,5 +1,4 @@
 -- The chooser changes nothing that Core reads; a caller that blocks becomes a waiter with a new name.
--- Assumes nothing.
 use Prim.Native.Nat.{ℕ, suc, _≤_}
 use mathlib.Core.Path.{_≡_, refl, sym, _∙_, ap, subst}
 use mathlib.Core.Logic.{_⊎_}

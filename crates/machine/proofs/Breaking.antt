@@ -1,5 +1,4 @@
 -- Calls 11 and 12 carry what holds of the history from the list so far to the list with one more call.
--- Assumes nothing.
 use Prim.Native.Nat.{ℕ, suc, _≤_}
 use mathlib.Core.Path.{_≡_, refl, sym, _∙_, ap, subst}
 use mathlib.Core.Logic.{_⊎_, inl, inr}

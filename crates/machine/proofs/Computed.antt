@@ -1,5 +1,4 @@
 -- One name to open the machine and the history by, where a run of given calls is computed.
--- Assumes nothing.
 use Rattle.machine.specs.Lists.{put, without, only}
 use Rattle.machine.specs.Scheduling.{enqueue, unqueue, standDown, wake, block, highestBelow, highest}
 use Rattle.machine.specs.Scheduling.{dispatchHead, dispatchAt, dispatch, displace, chooseFor, choose}

@@ -1,5 +1,4 @@
 -- Ownerships and notes: dropping a thread's debt and ending an abort keep Mid, and what these steps leave as it was.
--- Assumes nothing.
 use Prim.Native.Nat.{ℕ, _≤_, _<_, _^_}
 use mathlib.Core.Path.{_≡_, refl, sym, _∙_, ap, subst}
 use mathlib.Core.Logic.{_↔_}

@@ -1,5 +1,4 @@
 -- Call 11: the removal of waiters keeps Mid, and the whole call keeps tables sound.
--- Assumes nothing.
 use Prim.Native.Nat.{ℕ, zero, suc, _≤_}
 use mathlib.Core.Path.{_≡_, refl, sym, _∙_, ap}
 use mathlib.Core.Logic.{inl}

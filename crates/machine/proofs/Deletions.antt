@@ -1,5 +1,4 @@
 -- Call 11 ends the abort of its endpoint and removes waiters, in the machine and in the history.
--- Assumes nothing.
 use Prim.Native.Nat.{ℕ, zero, suc}
 use mathlib.Core.Path.{_≡_, refl, sym, _∙_, ap, subst}
 use mathlib.Core.Bool.{true}

@@ -1,5 +1,4 @@
 -- The beginning and the end of an abort, in the machine and in the history at once, keep Core.
--- Assumes nothing.
 use Prim.Native.Nat.{ℕ, _≤_, _<_}
 use mathlib.Core.Path.{_≡_, refl, sym, _∙_, ap, subst}
 use mathlib.Core.Logic.{_⊎_, inl, inr}

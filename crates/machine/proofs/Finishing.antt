@@ -1,5 +1,4 @@
 -- Another badge's abort in a call 12 is finished first, against the history's walk; then the call's own begins.
--- Assumes nothing.
 use Prim.Native.Nat.{ℕ, zero, suc, _≤_, _<_, _-_, _^_}
 use mathlib.Core.Path.{_≡_, refl, sym, _∙_, ap, subst}
 use mathlib.Core.Bool.{false}

@@ -1,5 +1,4 @@
 -- Call 8 answered 0: it takes the sender queued longest, and hands over that message alone.
--- Assumes nothing.
 use Prim.Native.Nat.{ℕ, suc}
 use mathlib.Core.Path.{_≡_, refl, sym, _∙_, ap, subst}
 use mathlib.Core.Logic.{inl, inr}

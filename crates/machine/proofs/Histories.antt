@@ -1,5 +1,5 @@
 -- Histories as the checker computes them, compared with tables worked out from document 01: the answers, the aborts
--- that ended, what was handed over and what each call 12 reports. Assumes nothing.
+-- that ended, what was handed over and what each call 12 reports.
 use Prim.Native.Nat.{ℕ}
 use mathlib.Core.Path.{_≡_, refl}
 use mathlib.Core.Option.{Option, none, some}

@@ -1,5 +1,4 @@
 -- Calls 5 and 10, about one interrupt line, keep the tables sound.
--- Assumes nothing.
 use Prim.Native.Nat.{ℕ, _≤_}
 use mathlib.Core.Path.{_≡_, refl, sym, _∙_}
 use mathlib.Core.Option.{some}

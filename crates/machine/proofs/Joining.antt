@@ -1,5 +1,4 @@
 -- A call 12 that is accepted and not answered from a note: it begins an abort, joins one, or finishes another's first.
--- Assumes nothing.
 use Prim.Native.Nat.{ℕ, zero, suc, _≤_, _<_, _^_}
 use mathlib.Core.Path.{_≡_, refl, sym, _∙_, ap, subst}
 use mathlib.Core.Bool.{Bool, true, false, _&&_, _||_}

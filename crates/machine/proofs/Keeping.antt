@@ -1,5 +1,4 @@
 -- Steps that change only debts, aborts and statuses, while every queue stands: they keep Mid where what is new fits.
--- Assumes nothing.
 use Prim.Native.Nat.{ℕ, _<_, _^_}
 use mathlib.Core.Path.{_≡_, refl, sym, _∙_, ap}
 use mathlib.Core.Logic.{_↔_}

@@ -1,5 +1,4 @@
 -- Steps after which nobody waits who did not wait before, and no abort begins, is looked for or ends: they keep Core.
--- Assumes nothing.
 use Prim.Native.Nat.{ℕ, _≤_}
 use mathlib.Core.Path.{_≡_, refl, sym, _∙_, ap, subst}
 use mathlib.Core.Logic.{_⊎_, inl, inr, ⊎-elim}

@@ -1,5 +1,4 @@
 -- Facts about tables and lists of thread numbers: put, without, only, Mem and Distinct.
--- Assumes nothing.
 use Prim.Native.Nat.{ℕ}
 use mathlib.Core.Path.{_≡_, refl, sym, _∙_, ap, subst}
 use mathlib.Core.Logic.{_⊎_, inl, inr, ⊎-elim}

@@ -1,5 +1,4 @@
 -- Call 12's steps: a look, the beginning of an abort and the joining of one keep Mid, and so does the loop of looks.
--- Assumes nothing.
 use Prim.Native.Nat.{ℕ, zero, suc, _<_, _^_}
 use mathlib.Core.Path.{_≡_, refl, sym, _∙_, ap}
 use mathlib.Core.Logic.{inl, inr}

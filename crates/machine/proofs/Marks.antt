@@ -1,5 +1,4 @@
 -- The look of an abort, and the abort's two marks: how cursor and end mark pass on when a waiter leaves its queue.
--- Assumes nothing.
 use Prim.Native.Nat.{ℕ}
 use mathlib.Core.Path.{_≡_, refl, sym, _∙_, ap, subst}
 use mathlib.Core.Logic.{inl, inr, _↔_}

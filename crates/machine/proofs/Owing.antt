@@ -1,5 +1,5 @@
 -- The machine's ownerships and notes are the history's, step by step: dropping a debt, the beginning, joining and end
--- of an abort, and steps that leave them. Assumes nothing.
+-- of an abort, and steps that leave them.
 use Prim.Native.Nat.{ℕ}
 use mathlib.Core.Path.{_≡_, refl, sym, _∙_, ap, subst}
 use mathlib.Core.Logic.{inl, inr}

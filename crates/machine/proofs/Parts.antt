@@ -1,5 +1,4 @@
 -- Mid taken apart: what it says of each thread, of each endpoint, of the ready queues, of the lines and of ownership.
--- Assumes nothing.
 use Prim.Native.Nat.{ℕ, _<_, _^_}
 use mathlib.Core.Path.{_≡_, refl, subst}
 use mathlib.Core.Logic.{_⊎_, _↔_}

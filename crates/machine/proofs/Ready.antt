@@ -1,5 +1,4 @@
 -- Who runs and the ready queues, when one thread t changes its entry, its place or its queue.
--- Assumes nothing.
 use Prim.Native.Nat.{ℕ}
 use mathlib.Core.Path.{_≡_, refl, sym, _∙_, ap, subst}
 use mathlib.Core.Logic.{inl, inr, _↔_, ⊎-elim}

@@ -1,5 +1,4 @@
 -- The machine refuses by document 01's table: by the number of the first cause that is there, and only then.
--- Assumes nothing.
 use Prim.Native.Nat.{ℕ, zero, suc, _≤_, _<_}
 use mathlib.Core.Path.{_≡_, refl, _∙_, ap, subst}
 use mathlib.Core.Logic.{_↔_}

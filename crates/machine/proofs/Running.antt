@@ -1,5 +1,4 @@
 -- The chooser, which runs after each accepted call: who runs then, who goes on, and where a displaced thread stands.
--- Assumes nothing.
 use Prim.Native.Nat.{ℕ, _≤_, _<_}
 use mathlib.Core.Path.{_≡_, refl, sym, _∙_, ap, subst}
 use mathlib.Core.Logic.{inl, _↔_}

@@ -1,5 +1,4 @@
 -- The call's own abort in a call 12, from its beginning to its end or the break, against the history's walk.
--- Assumes nothing.
 use Prim.Native.Nat.{ℕ, suc, _≤_, _<_, _-_, _^_}
 use mathlib.Core.Path.{_≡_, refl, sym, _∙_, ap, subst}
 use mathlib.Core.Logic.{_⊎_, inl, inr}

@@ -1,5 +1,4 @@
 -- Endpoints, lines and ownership, when one thread t changes its entry and joins or leaves a queue or a line.
--- Assumes nothing.
 use Prim.Native.Nat.{ℕ, _≤_, _<_}
 use mathlib.Core.Path.{_≡_, refl, sym, _∙_, ap, subst}
 use mathlib.Core.Logic.{inl, inr, _↔_, ⊎-elim}

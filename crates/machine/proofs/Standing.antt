@@ -1,5 +1,4 @@
 -- What holds of a list so far, its state and its aborts, after every call and, inside a call 12, after every look.
--- Assumes nothing.
 use Prim.Native.Nat.{ℕ, suc, _≤_, _<_}
 use mathlib.Core.Path.{_≡_, refl, sym, _∙_, ap}
 use mathlib.Core.Logic.{_⊎_}

@@ -1,5 +1,4 @@
 -- Every call keeps the tables sound, and fresh tables are sound.
--- Assumes nothing.
 use Prim.Native.Nat.{ℕ, _^_}
 use mathlib.Core.Path.{_≡_, refl}
 use mathlib.Core.Bool.{Bool, true, false, _&&_}

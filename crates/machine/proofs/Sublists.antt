@@ -1,5 +1,4 @@
 -- Facts about lists of names: sublists, names of threads by map, isIn, less, and entries of a list that grows.
--- Assumes nothing.
 use Prim.Native.Nat.{ℕ, zero, suc, _≤_, _<_}
 use mathlib.Core.Path.{_≡_, refl, sym, _∙_, ap, subst}
 use mathlib.Core.Logic.{_⊎_, inl, inr, ⊎-elim}

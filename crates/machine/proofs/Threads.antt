@@ -1,5 +1,4 @@
 -- Calls 1, 2, 3, 6 and 9, about one thread, keep the tables sound.
--- Assumes nothing.
 use Prim.Native.Nat.{ℕ, zero, suc, _≤_, _-_}
 use mathlib.Core.Path.{_≡_, refl, sym, _∙_, ap}
 use mathlib.Core.Logic.{inl, inr}

@@ -1,5 +1,4 @@
 -- Ticks: "nothing else changes a thread's ticks" than creation, destruction and the tick.
--- Assumes nothing.
 use Prim.Native.Nat.{ℕ, zero, suc}
 use mathlib.Core.Path.{_≡_, refl, sym, _∙_, ap, subst}
 use mathlib.Core.Bool.{Bool, true, false}

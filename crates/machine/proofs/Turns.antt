@@ -1,5 +1,4 @@
 -- Calls 1 to 10: either nobody comes to wait who did not wait before, or the caller blocks.
--- Assumes nothing.
 use Prim.Native.Nat.{ℕ, zero, suc, _-_}
 use mathlib.Core.Path.{_≡_, refl, sym, _∙_, ap, subst}
 use mathlib.Core.Logic.{inl, inr}

@@ -1,5 +1,4 @@
 -- Waking and blocking: what the moves of one thread between running, ready, an endpoint and a line leave of Mid.
--- Assumes nothing.
 use Prim.Native.Nat.{ℕ, _≤_, _<_, _^_}
 use mathlib.Core.Path.{_≡_, refl, sym, _∙_, ap}
 use mathlib.Core.Logic.{inl, inr}

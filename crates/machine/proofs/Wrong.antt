@@ -1,5 +1,4 @@
 -- Machines that go wrong, each in one thing, for the claim and other statements to be tried on.
--- Assumes nothing.
 use Prim.Native.Nat.{ℕ}
 use mathlib.Core.Bool.{true}
 use mathlib.Core.Option.{Option, none, some}

@@ -1,5 +1,4 @@
 -- The highest occupied level as the summary finds it, its head that runs, and the choice of the thread that runs.
--- Assumes nothing.
 use Prim.Native.Nat.{ℕ, suc, _+_, _-_, _≤_, _<_}
 use mathlib.Core.Path.{_≡_, refl, sym, _∙_, ap, subst}
 use mathlib.Core.Logic.{inl}

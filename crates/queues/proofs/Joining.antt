@@ -1,5 +1,4 @@
 -- Joining a queue: what it asks, what it does, and steps one after the other that end in it.
--- Assumes nothing.
 use Prim.Native.Nat.{ℕ, _+_, _≤_, _<_}
 use mathlib.Core.Path.{_≡_, refl, _∙_}
 use mathlib.Core.Bool.{true}

@@ -1,5 +1,4 @@
 -- Leaving a level's queue and an endpoint's: what it asks, and what it does.
--- Assumes nothing.
 use Prim.Native.Nat.{ℕ, _+_}
 use mathlib.Core.Path.{_≡_, refl, sym, _∙_, ap, subst}
 use mathlib.Core.Bool.{true, false}

@@ -1,5 +1,4 @@
 -- A list of waiters to look at, from which one goes: the first and the last of those that are left.
--- Assumes nothing.
 use Prim.Native.Nat.{ℕ, suc}
 use mathlib.Core.Path.{_≡_, refl, sym, _∙_, ap, subst}
 use mathlib.Core.Logic.{_⊎_, inl, inr}

@@ -1,5 +1,4 @@
 -- The end of a call: refused, accepted, and steps before the end.
--- Assumes nothing.
 use Prim.Native.Nat.{ℕ}
 use mathlib.Core.Path.{_≡_, refl, _∙_, ap, subst}
 use mathlib.Core.List.{List, []}

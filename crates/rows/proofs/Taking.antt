@@ -1,5 +1,4 @@
 -- A turn's two ways, from what its calls promise: a call was taken, or no call was read.
--- Assumes nothing.
 use Prim.Native.Nat.{ℕ, zero, suc, _-_}
 use mathlib.Core.Path.{_≡_, refl, sym, _∙_, ap}
 use mathlib.Core.Logic.{inl, inr}

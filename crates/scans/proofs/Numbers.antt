@@ -1,4 +1,4 @@
--- The tests of a thread's block, as the code takes them: by the values read. Assumes nothing.
+-- The tests of a thread's block, as the code takes them: by the values read.
 use Prim.Native.Nat.{ℕ, zero, suc, _+_, _-_, _≤_, _<_, _^_}
 use mathlib.Core.Bool.{Bool, true, false, _&&_}
 use mathlib.Core.List.{List}

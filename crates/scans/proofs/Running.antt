@@ -1,4 +1,4 @@
--- The tests of lines and running thread, as the code takes them: by the values read. Assumes nothing.
+-- The tests of lines and running thread, as the code takes them: by the values read.
 use Prim.Native.Nat.{ℕ, zero, suc, _+_, _-_, _≤_, _<_}
 use mathlib.Core.Bool.{Bool, true, false, not, _&&_, _||_}
 use mathlib.Core.List.{List}

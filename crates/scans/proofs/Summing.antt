@@ -1,4 +1,4 @@
--- The summary's words, summed bit by bit. Assumes nothing.
+-- The summary's words, summed bit by bit.
 use Prim.Native.Nat.{ℕ, suc, _+_, _*_, _≤_, _<_, _^_}
 use mathlib.Core.Bool.{Bool, true, false, not}
 use mathlib.Core.List.{List}

@@ -1,5 +1,4 @@
 -- The block of a thread: after stores to some of its words the memory shows the state with another thread there.
--- Assumes nothing.
 use Prim.Native.Nat.{ℕ, _≤_}
 use mathlib.Core.Path.{_≡_, refl, sym, _∙_, ap}
 use mathlib.Core.List.{List}

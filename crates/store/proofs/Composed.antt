@@ -1,5 +1,4 @@
 -- Steps one after the other: what a step leaves for the next to ask, and steps on one thread as one.
--- Assumes nothing.
 use Prim.Native.Nat.{ℕ}
 use mathlib.Core.Path.{_≡_, _∙_, ap, subst}
 use mathlib.Core.List.{List}

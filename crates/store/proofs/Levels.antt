@@ -1,5 +1,4 @@
 -- The words of the summary: reading them one by one, storing the two that a mark changes, and what a mark does.
--- Assumes nothing.
 use Prim.Native.Nat.{ℕ, _+_, _*_, _/_, _≤_, _<_}
 use mathlib.Core.Path.{_≡_, sym, _∙_, ap}
 use mathlib.Core.Bool.{Bool}

@@ -1,5 +1,4 @@
 -- The line, and the thread that runs: after a store the memory shows the state with another there.
--- Assumes nothing.
 use Prim.Native.Nat.{ℕ}
 use mathlib.Core.Path.{_≡_, refl, ap}
 use mathlib.Core.Option.{Option}

@@ -1,5 +1,5 @@
 -- The words of an endpoint: after stores to some of them the memory shows the state with another endpoint there, which
--- has the same waiters. Assumes nothing.
+-- has the same waiters.
 use Prim.Native.Nat.{ℕ, _-_, _≤_}
 use mathlib.Core.Path.{_≡_, refl, sym, _∙_, ap}
 use mathlib.Core.Option.{none, some}

@@ -1,5 +1,4 @@
 -- One word: what it tells of each state that the memory shows, and what a store to a slot does.
--- Assumes nothing.
 use Prim.Native.Nat.{ℕ, _≤_}
 use mathlib.Core.Path.{_≡_, sym, _∙_, ap, subst}
 use mathlib.Core.List.{List}

@@ -1,5 +1,4 @@
 -- Numbers as sets of bits: `bits n f` is below 2 ^ n, is one for each set, and is changed at one bit by `|` and `& !`.
--- Assumes nothing.
 use Prim.Native.Nat.{ℕ, zero, suc, _+_, _-_, _*_, _%_, _^_, _≤_, _<_}
 use mathlib.Core.Path.{_≡_, refl, sym, _∙_, ap, ap₂}
 use mathlib.Core.Logic.{_⊎_, inl, inr, ⊎-elim}

@@ -1,4 +1,4 @@
--- From the tests to the entries' promises. Assumes nothing.
+-- From the tests to the entries' promises.
 use Prim.Native.Nat.{ℕ}
 use mathlib.Core.Bool.{Bool, true, false, _&&_}
 use mathlib.Core.List.{List}

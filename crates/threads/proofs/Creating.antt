@@ -1,5 +1,4 @@
 -- Create thread: what its steps ask, and that it comes to what the machine's call comes to.
--- Assumes nothing.
 use Prim.Native.Nat.{ℕ}
 use mathlib.Core.Path.{_≡_, refl, sym, ap}
 use mathlib.Core.Bool.{Bool}

@@ -1,5 +1,4 @@
 -- Destroy thread: what its steps ask, and that it comes to what the machine's call comes to.
--- Assumes nothing.
 use Prim.Native.Nat.{ℕ, _≤_}
 use mathlib.Core.Path.{_≡_, sym, _∙_, ap}
 use mathlib.Core.Bool.{Bool, false}

@@ -1,5 +1,4 @@
 -- What the number of a place and the link to the running thread tell: who is absent, who is ready.
--- Assumes nothing.
 use Prim.Native.Nat.{ℕ, _+_}
 use mathlib.Core.Path.{_≡_, refl, sym, _∙_, ap}
 use mathlib.Core.Bool.{Bool, true, false, _&&_, not}

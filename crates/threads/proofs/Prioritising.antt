@@ -1,5 +1,4 @@
 -- Set priority: what its steps ask, and that it comes to what the machine's call comes to.
--- Assumes nothing.
 use Prim.Native.Nat.{ℕ, _≤_}
 use mathlib.Core.Path.{_≡_, refl, sym, _∙_, ap, subst}
 use mathlib.Core.Bool.{Bool, true, false}

@@ -1,5 +1,4 @@
 -- Whoever runs stands in no queue: so it is in a sound state, and each step of the calls on threads keeps it.
--- Assumes nothing.
 use Prim.Native.Nat.{ℕ, _≤_}
 use mathlib.Core.Path.{_≡_, refl, _∙_, ap}
 use mathlib.Core.Logic.{⊎-elim}

@@ -1,5 +1,4 @@
 -- Tick and yield: what their steps ask, and that they come to what the machine's calls come to.
--- Assumes nothing.
 use Prim.Native.Nat.{ℕ, zero, suc, _-_, _≤_}
 use mathlib.Core.Path.{_≡_, refl, sym, _∙_, ap, subst}
 use mathlib.Core.Option.{Option, none, some}

@@ -1,5 +1,4 @@
 -- Waiting on a line: refused where another waits, done where it is pending, and else the caller blocks.
--- Assumes nothing.
 use Prim.Native.Nat.{ℕ, _+_, _≤_, _<_}
 use mathlib.Core.Path.{_≡_, refl}
 use mathlib.Core.List.{List, []}

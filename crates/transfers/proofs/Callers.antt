@@ -1,5 +1,4 @@
 -- The running thread that calls, before and after its ownership or note has gone.
--- Assumes nothing.
 use Prim.Native.Nat.{ℕ, _≤_}
 use mathlib.Core.Path.{_≡_, refl, sym, _∙_, subst}
 use mathlib.Core.Option.{some}

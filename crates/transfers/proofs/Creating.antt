@@ -1,5 +1,4 @@
 -- Making an endpoint: one that is missing has no waiter and no abort, so its status is all that changes.
--- Assumes nothing.
 use Prim.Native.Nat.{ℕ, _≤_}
 use mathlib.Core.Path.{_≡_, refl}
 use mathlib.Core.Option.{some}

@@ -1,5 +1,4 @@
 -- The ends of a call: code 0, and code 1 of a caller that blocks.
--- Assumes nothing.
 use Prim.Native.Nat.{ℕ, zero, suc}
 use mathlib.Core.Path.{_≡_, refl}
 use mathlib.Core.List.{List}

@@ -1,5 +1,4 @@
 -- An interrupt on a line: what the steps ask, and that together they are the machine's.
--- Assumes nothing.
 use Prim.Native.Nat.{ℕ, zero, suc, _-_, _≤_}
 use mathlib.Core.Path.{_≡_, refl, sym, subst}
 use mathlib.Core.List.{List}

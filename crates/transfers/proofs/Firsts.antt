@@ -1,5 +1,4 @@
 -- The first waiter at a place, in a queue in which all send or all receive.
--- Assumes nothing.
 use Prim.Native.Nat.{ℕ, _-_}
 use mathlib.Core.Path.{_≡_, refl, sym, _∙_, ap}
 use mathlib.Core.Bool.{Bool}

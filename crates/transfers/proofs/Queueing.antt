@@ -1,5 +1,4 @@
 -- At an endpoint: its status, the caller that waits there, and the waiter that is woken.
--- Assumes nothing.
 use Prim.Native.Nat.{ℕ, _≤_}
 use mathlib.Core.Path.{_≡_, refl}
 use mathlib.Core.List.{List}

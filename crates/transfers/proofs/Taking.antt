@@ -1,5 +1,4 @@
 -- Receiving: the message of the first sender is taken, or the receiver waits.
--- Assumes nothing.
 use Prim.Native.Nat.{ℕ, _+_, _-_, _≤_}
 use mathlib.Core.Path.{_≡_, refl, sym, _∙_, ap}
 use mathlib.Core.Option.{Option}

@@ -1,4 +1,4 @@
--- The tests of an endpoint's words, as the code takes them: by the values read. Assumes nothing.
+-- The tests of an endpoint's words, as the code takes them: by the values read.
 use Prim.Native.Nat.{ℕ, zero, suc, _+_, _-_, _≤_, _<_, _^_}
 use mathlib.Core.Bool.{Bool, true, false, _&&_, Bool·beq}
 use mathlib.Core.List.{List}

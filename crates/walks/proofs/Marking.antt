@@ -1,4 +1,4 @@
--- Marks of threads in the scratch: put, told and cleared. Assumes nothing.
+-- Marks of threads in the scratch: put, told and cleared.
 use Prim.Native.Nat.{ℕ, zero, suc, _<_, _≤_}
 use mathlib.Core.Bool.{Bool, true, false}
 use mathlib.Core.List.{List, _∷_, _++_, append-nil}

@@ -1,5 +1,4 @@
--- The tests of a thread's place, and of one met in a level's queue, as the code takes them: by the values read. Assumes
--- nothing.
+-- The tests of a thread's place, and of one met in a level's queue, as the code takes them: by the values read.
 use Prim.Native.Nat.{ℕ, _+_}
 use mathlib.Core.Bool.{Bool, not, _&&_, _||_, Bool·beq}
 use mathlib.Core.List.{List}

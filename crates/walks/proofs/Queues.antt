@@ -1,4 +1,4 @@
--- The walk through the queue of a level. Assumes nothing.
+-- The walk through the queue of a level.
 use Prim.Native.Nat.{ℕ, zero, suc, _-_, _≤_, _<_}
 use mathlib.Core.Bool.{Bool, true, false, _&&_, false≢true}
 use mathlib.Core.List.{List, _∷_}

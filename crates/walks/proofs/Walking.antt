@@ -1,4 +1,4 @@
--- A walk through a queue: the threads passed are marked, those to come are not yet. Assumes nothing.
+-- A walk through a queue: the threads passed are marked, those to come are not yet.
 use Prim.Native.Nat.{ℕ, zero, suc, _-_, _<_}
 use mathlib.Core.Bool.{Bool, true, false, _&&_, _||_, false≢true}
 use mathlib.Core.List.{List, [], _∷_}

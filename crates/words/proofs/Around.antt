@@ -1,4 +1,4 @@
--- The links around a link: link 0 is the queue itself, link t + 1 is thread t. Assumes nothing.
+-- The links around a link: link 0 is the queue itself, link t + 1 is thread t.
 use Prim.Native.Nat.{ℕ, zero, suc, _-_}
 use mathlib.Core.Path.{_≡_, refl, sym, subst}
 use native.Mathlib.Omega.{arith}

@@ -1,5 +1,4 @@
 -- A noted caller is answered; another goes on by the status.
--- Assumes nothing.
 use borrow.Author.Needs.{needs}
 use Rattle.aborts.proofs.Opening.{calls-asked, note-asked, forgotten-asked, noted-answered, not-noted}
 use Rattle.aborts.proofs.abort.Statement.{statement}

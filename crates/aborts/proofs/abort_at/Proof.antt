@@ -1,5 +1,4 @@
 -- The refusals by status, and the work of a caller without other debts.
--- Assumes nothing.
 use borrow.Author.Needs.{needs}
 use native.Mathlib.Omega.{arith}
 use Rattle.aborts.proofs.Opening.{calls-asked, refused-missing, refused-closing, owing-asked, opened}

@@ -1,5 +1,4 @@
 -- The three ways into the work.
--- Assumes nothing.
 use borrow.Author.Needs.{needs}
 use Rattle.aborts.proofs.Opening.{bare-shown, opens-none, joining-shown, opens-same}
 use Rattle.aborts.proofs.Opening.{clear-shown, opens-other}

@@ -1,5 +1,4 @@
 -- Broken off where no allowance is left.
--- Assumes nothing.
 use borrow.Author.Needs.{needs}
 use Rattle.aborts.proofs.Working.{bare-chooses, after-broken, after-begins}
 use Rattle.aborts.proofs.begin_after.Statement.{statement}

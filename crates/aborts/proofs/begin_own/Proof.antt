@@ -1,5 +1,4 @@
 -- Begun, the abort is open to the work.
--- Assumes nothing.
 use borrow.Author.Needs.{needs}
 use Rattle.aborts.proofs.Working.{begins-asked, begun-asked, own-begins}
 use Rattle.aborts.proofs.begin_own.Statement.{statement}

@@ -1,5 +1,4 @@
 -- Broken off where a waiter is left, else ended.
--- Assumes nothing.
 use borrow.Author.Needs.{needs}
 use Rattle.aborts.proofs.Working.{chooses-asked, debtor-asked, endable-asked, ended-asked, own-broken}
 use Rattle.aborts.proofs.Working.{own-ended}

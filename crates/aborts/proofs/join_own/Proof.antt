@@ -1,5 +1,4 @@
 -- Joined, the abort is open to the work.
--- Assumes nothing.
 use borrow.Author.Needs.{needs}
 use Rattle.aborts.proofs.Opening.{joins-asked, joined-asked, own-joins}
 use Rattle.aborts.proofs.join_own.Statement.{statement}

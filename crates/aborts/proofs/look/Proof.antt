@@ -1,5 +1,4 @@
 -- A waiter under the badge is woken, another passed.
--- Assumes nothing.
 use Rattle.aborts.proofs.Looks.{thread-asked, endpoint-asked, waits-asked, look-removed}
 use Rattle.aborts.proofs.Looks.{look-kept}
 use borrow.Author.Needs.{needs}

@@ -1,5 +1,4 @@
 -- The loop of looks. The invariant is Left; the measure is how many looks are left.
--- Assumes nothing.
 use borrow.Author.Needs.{needs}
 use Rattle.aborts.proofs.Looks.{Left, left-start, looks-done, looks-out, cursor-asked, looks-again}
 use Rattle.aborts.proofs.look_up_to.Statement.{statement}

@@ -1,5 +1,4 @@
 -- Looks at the other badge's pending; with none left it ends, and the call's own begins.
--- Assumes nothing.
 use borrow.Author.Needs.{needs}
 use Rattle.aborts.proofs.Working.{clear-within, clear-endpoint, clear-chooses, other-endable, bare-asked}
 use Rattle.aborts.proofs.Working.{looked-clear, looks-bound, rest-small, other-broken, other-ended}

@@ -1,5 +1,4 @@
 -- The looks, and the end.
--- Assumes nothing.
 use borrow.Author.Needs.{needs}
 use native.Mathlib.Omega.{arith}
 use Rattle.aborts.proofs.Working.{looks-bound, within-asked, looked-asked, own-works}

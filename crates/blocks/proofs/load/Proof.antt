@@ -1,4 +1,4 @@
--- The eight words are read one by one. Assumes nothing.
+-- The eight words are read one by one.
 use borrow.Author.Needs.{needs}
 use Rattle.blocks.proofs.Moves.{loaded}
 use Rattle.blocks.proofs.load.Statement.{statement}

@@ -1,4 +1,4 @@
--- The four steps make the thread of the block. Assumes nothing.
+-- The four steps make the thread of the block.
 use borrow.Author.Needs.{needs}
 use Rattle.store.specs.Store.{prioritising, ticking}
 use Rattle.store.proofs.Composed.{still}

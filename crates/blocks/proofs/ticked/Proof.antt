@@ -1,4 +1,4 @@
--- Where none is left there are 5, and one less otherwise. Assumes nothing.
+-- Where none is left there are 5, and one less otherwise.
 use borrow.Author.Needs.{needs}
 use Rattle.blocks.proofs.Ticks.{ticks-out, ticks-left}
 use Rattle.blocks.proofs.ticked.Statement.{statement}

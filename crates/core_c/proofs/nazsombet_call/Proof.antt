@@ -1,4 +1,4 @@
--- The call that the numbers name is taken, and its answer stored. Assumes nothing.
+-- The call that the numbers name is taken, and its answer stored.
 use Rattle.core_c.proofs.Answering.{answered-is}
 use borrow.Author.Needs.{needs}
 use Rattle.core_c.proofs.nazsombet_call.Statement.{statement}

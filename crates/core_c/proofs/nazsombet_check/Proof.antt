@@ -1,4 +1,4 @@
--- The tables lent are checked with the scratch lent, and the number passes on. Assumes nothing.
+-- The tables lent are checked with the scratch lent, and the number passes on.
 use borrow.Author.Needs.{needs}
 use Rattle.core_c.proofs.nazsombet_check.Statement.{statement}
 use Rattle.core_c.proofs.nazsombet_check.Tie as tie

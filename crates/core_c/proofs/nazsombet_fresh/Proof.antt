@@ -1,4 +1,4 @@
--- The tables lent are made fresh, and the number passes on. Assumes nothing.
+-- The tables lent are made fresh, and the number passes on.
 use borrow.Author.Needs.{needs}
 use Rattle.core_c.proofs.nazsombet_fresh.Statement.{statement}
 use Rattle.core_c.proofs.nazsombet_fresh.Tie as tie

@@ -1,4 +1,4 @@
--- The link, and the thread it leads to. Assumes nothing.
+-- The link, and the thread it leads to.
 use Rattle.core_c.proofs.Runner.{nobody, somebody}
 use borrow.Author.Needs.{needs}
 use Rattle.core_c.proofs.nazsombet_running.Statement.{statement}

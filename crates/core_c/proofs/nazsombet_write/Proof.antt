@@ -1,4 +1,4 @@
--- The call that the numbers name is written, and its words stored. Assumes nothing.
+-- The call that the numbers name is written, and its words stored.
 use Rattle.core_c.proofs.Answering.{written-for}
 use borrow.Author.Needs.{needs}
 use Rattle.core_c.proofs.nazsombet_write.Statement.{statement}

@@ -1,4 +1,4 @@
--- By the three answers of the reader. Assumes nothing.
+-- By the three answers of the reader.
 use mathlib.Core.Path.{sym, _∙_}
 use Rattle.core_c.specs.Entries.{reading}
 use borrow.Author.Needs.{needs}

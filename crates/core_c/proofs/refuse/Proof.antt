@@ -1,4 +1,4 @@
--- The check first; 18 where it accepts. Assumes nothing.
+-- The check first; 18 where it accepts.
 use Rattle.core_c.proofs.Answering.{check-refused, none-refused}
 use borrow.Author.Needs.{needs}
 use Rattle.core_c.proofs.refuse.Statement.{statement}

@@ -1,4 +1,4 @@
--- By whether a call is named. Assumes nothing.
+-- By whether a call is named.
 use Rattle.core_c.proofs.Answering.{called-for}
 use mathlib.Core.Option.{none, some}
 use borrow.Author.Needs.{needs}

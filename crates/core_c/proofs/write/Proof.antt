@@ -1,4 +1,4 @@
--- By whether a call is named. Assumes nothing.
+-- By whether a call is named.
 use borrow.Author.Needs.{needs}
 use Rattle.core_c.proofs.write.Statement.{statement}
 use Rattle.core_c.proofs.write.Tie as tie

@@ -1,5 +1,4 @@
 -- By the debt's number: nothing is done, or the abort loses its owner first, or the note alone goes.
--- Assumes nothing.
 use borrow.Author.Needs.{needs}
 use Rattle.debts.proofs.Dropping.{drop-none, owner-asked, owes-asked, drop-owned, drop-noted}
 use Rattle.debts.proofs.drop_debt.Statement.{statement}

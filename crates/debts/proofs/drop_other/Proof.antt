@@ -1,5 +1,4 @@
 -- The debt stays where it is the ownership asked for, and is dropped otherwise.
--- Assumes nothing.
 use borrow.Author.Needs.{needs}
 use Rattle.debts.proofs.Dropping.{drop-not, drop-all}
 use Rattle.debts.proofs.drop_other.Statement.{statement}

@@ -1,5 +1,4 @@
 -- The note, no abort and the status: three steps that are the machine's one.
--- Assumes nothing.
 use borrow.Author.Needs.{needs}
 use Rattle.debts.proofs.Ending.{abort-asked, status-asked, ends}
 use Rattle.debts.proofs.end_abort.Statement.{statement}

@@ -1,5 +1,4 @@
 -- The first waiter's place tells whether all are at it, or none is.
--- Assumes nothing.
 use Rattle.debts.proofs.Firsts.{place-asked, at-empty, at-other, at-place}
 use borrow.Author.Needs.{needs}
 use Rattle.debts.proofs.first_at.Statement.{statement}

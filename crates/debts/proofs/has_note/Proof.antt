@@ -1,5 +1,4 @@
 -- Where the thread has a note of the endpoint, its badge is compared.
--- Assumes nothing.
 use borrow.Author.Needs.{needs}
 use Rattle.debts.proofs.Told.{note-none, note-some}
 use Rattle.debts.proofs.has_note.Statement.{statement}

@@ -1,5 +1,4 @@
 -- Where the abort has an owner nothing is done; otherwise abort and joiner name each other.
--- Assumes nothing.
 use borrow.Author.Needs.{needs}
 use Rattle.debts.proofs.Joining.{joiner-asked, join-owned, join-free}
 use Rattle.debts.proofs.join.Statement.{statement}

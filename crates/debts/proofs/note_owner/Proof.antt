@@ -1,5 +1,4 @@
 -- Where the abort has an owner, that thread gets the note of the endpoint and the abort's badge.
--- Assumes nothing.
 use borrow.Author.Needs.{needs}
 use Rattle.debts.proofs.Ending.{note-nobody, owner-small, note-somebody}
 use Rattle.debts.proofs.note_owner.Statement.{statement}

@@ -1,5 +1,4 @@
 -- Where the thread owns the abort of the endpoint, its badge is compared.
--- Assumes nothing.
 use borrow.Author.Needs.{needs}
 use Rattle.debts.proofs.Told.{owns-none, owns-some}
 use Rattle.debts.proofs.owns_this.Statement.{statement}

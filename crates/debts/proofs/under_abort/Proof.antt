@@ -1,5 +1,4 @@
 -- Where an abort stands, its badge is compared.
--- Assumes nothing.
 use borrow.Author.Needs.{needs}
 use Rattle.debts.proofs.Told.{under-none, under-some}
 use Rattle.debts.proofs.under_abort.Statement.{statement}

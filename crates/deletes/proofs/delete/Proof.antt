@@ -1,5 +1,4 @@
 -- The debt goes, then the abort; what is left is the removal from a closing endpoint.
--- Assumes nothing.
 use borrow.Author.Needs.{needs}
 use Rattle.deletes.proofs.Deleting.{no-endpoint, drop-asked, end-asked, from-asked, deletes}
 use Rattle.deletes.proofs.delete.Statement.{statement}

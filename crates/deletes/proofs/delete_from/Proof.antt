@@ -1,5 +1,4 @@
 -- With somebody left the delete is broken off; else the endpoint goes.
--- Assumes nothing.
 use borrow.Author.Needs.{needs}
 use Rattle.deletes.proofs.Deleting.{broken-asked, broken-off, status-asked, gone-asked, deleted-all}
 use Rattle.deletes.proofs.delete_from.Statement.{statement}

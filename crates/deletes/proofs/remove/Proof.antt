@@ -1,5 +1,4 @@
 -- The loop's invariant is Removing; the measure is what is left of the allowance.
--- Assumes nothing.
 use borrow.Author.Needs.{needs}
 use Rattle.deletes.proofs.Removing.{Removing, removing-none, first-asked, removed-all, removed-some, wake-asked}
 use Rattle.deletes.proofs.Removing.{removing-more}

@@ -1,5 +1,4 @@
 -- `journal::answer` meets its contract: each arm is given its constructor, and `in_range` its test.
--- Assumes nothing.
 use mathlib.Core.Path.{sym, _∙_}
 use borrow.Author.Needs.{needs}
 use Rattle.journal.proofs.answer.Statement.{statement}

@@ -1,5 +1,4 @@
 -- `journal::call_of` meets its contract: a send and an abort read on, and no other call does.
--- Assumes nothing.
 use mathlib.Core.Path.{ap, _∙_}
 use Rattle.journal.specs.Steps.{named}
 use Rattle.journal.specs.Words.{callOf, sendOf}

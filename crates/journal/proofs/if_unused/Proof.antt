@@ -1,5 +1,4 @@
 -- `journal::if_unused` meets its contract: its test is the one that `unused` makes.
--- Assumes nothing.
 use Rattle.journal.proofs.Answers.{named-name}
 use Rattle.journal.proofs.Options.{unused-not-0}
 use Rattle.journal.proofs.if_unused.Statement.{statement}

@@ -1,5 +1,4 @@
 -- `journal::number_in` meets its contract: the first word, if there is one, decides.
--- Assumes nothing.
 use mathlib.Core.Path.{sym, ap}
 use Rattle.journal.specs.Steps.{number}
 use Rattle.journal.proofs.Options.{number-missing, number-first, number-other}

@@ -1,6 +1,5 @@
 -- `journal::read` meets its contract. A word is below 2 ^ 32, so its top byte is in the table, and at most three words
 -- are taken, so the sum fits.
--- Assumes nothing.
 use mathlib.Core.Path.{sym, _∙_}
 use native.Mathlib.Omega.{arith}
 use lib.ListN.{getD}

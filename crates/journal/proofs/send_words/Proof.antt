@@ -1,5 +1,4 @@
 -- `journal::send_words` meets its contract: the first word is the callee's.
--- Assumes nothing.
 use borrow.Author.Needs.{needs}
 use Rattle.journal.proofs.send_words.Statement.{statement}
 use Rattle.journal.proofs.send_words.Tie as tie

@@ -1,5 +1,4 @@
 -- `journal::write` meets its contract: its test is the one that `written` makes.
--- Assumes nothing.
 use mathlib.Core.Path.{sym, _∙_}
 use Rattle.journal.specs.Words.{written}
 use borrow.Author.Needs.{needs}

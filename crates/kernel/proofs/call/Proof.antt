@@ -1,4 +1,4 @@
--- The check first; the step where it accepts. Assumes nothing.
+-- The check first; the step where it accepts.
 use Rattle.kernel.proofs.Entry.{check-refuses, check-shown, step-taken}
 use borrow.Author.Needs.{needs}
 use Rattle.kernel.proofs.call.Statement.{statement}

@@ -1,4 +1,4 @@
--- Each arm is the machine's call. Assumes nothing.
+-- Each arm is the machine's call.
 use Rattle.kernel.proofs.Cases.{host-asked, host-done, create-arm, destroy-arm, priority-arm, endpoint-arm}
 use Rattle.kernel.proofs.Cases.{interrupt-arm, tick-arm, somebody, thread-asked, thread-done, send-arm}
 use Rattle.kernel.proofs.Cases.{receive-arm, yield-arm, wait-arm, delete-arm, abort-arm}

@@ -1,4 +1,4 @@
--- Who runs decides whether the call can be made. Assumes nothing.
+-- Who runs decides whether the call can be made.
 use Rattle.kernel.proofs.Cases.{nobody-calls, served-asked, served-done}
 use borrow.Author.Needs.{needs}
 use Rattle.kernel.proofs.perform.Statement.{statement}

@@ -1,4 +1,4 @@
--- The range is tried before anything else. Assumes nothing.
+-- The range is tried before anything else.
 use borrow.Author.Tests.{not-true, not-false}
 use Rattle.kernel.proofs.Cases.{out-of-range, range-asked, range-done}
 use borrow.Author.Needs.{needs}

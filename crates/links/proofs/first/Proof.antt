@@ -1,5 +1,4 @@
 -- The link to the first of a queue is the word at its head.
--- Assumes nothing.
 use borrow.Author.Needs.{needs}
 use Rattle.links.proofs.Readings.{reads-first}
 use Rattle.links.proofs.first.Statement.{statement}

@@ -1,5 +1,4 @@
 -- The link to the last of a queue is the word at its tail.
--- Assumes nothing.
 use borrow.Author.Needs.{needs}
 use Rattle.links.proofs.Readings.{reads-last}
 use Rattle.links.proofs.last.Statement.{statement}

@@ -1,5 +1,4 @@
 -- The link to the one behind a thread is the word at its next link.
--- Assumes nothing.
 use borrow.Author.Needs.{needs}
 use Rattle.links.proofs.Readings.{reads-next}
 use Rattle.links.proofs.next.Statement.{statement}

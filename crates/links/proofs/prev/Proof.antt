@@ -1,5 +1,4 @@
 -- The link to the one before a thread is the word at its prev link.
--- Assumes nothing.
 use borrow.Author.Needs.{needs}
 use Rattle.links.proofs.Readings.{reads-prev}
 use Rattle.links.proofs.prev.Statement.{statement}

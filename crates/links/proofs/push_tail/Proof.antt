@@ -1,5 +1,4 @@
 -- Thread t joins the tail of queue q by three stores: what the calls ask, and the links after them.
--- Assumes nothing.
 use borrow.Author.Needs.{needs}
 use mathlib.Core.Path.{refl}
 use Rattle.links.proofs.Joining.{tail-small, pushed}

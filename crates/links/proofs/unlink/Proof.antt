@@ -1,5 +1,4 @@
 -- Thread t leaves queue q by four stores: what the calls ask, and the links after them.
--- Assumes nothing.
 use borrow.Author.Needs.{needs}
 use Rattle.links.specs.Links.{Leavable}
 use Rattle.links.proofs.Leaving.{leaver-small, Neighbours, neighbours, unlinked}

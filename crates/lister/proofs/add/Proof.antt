@@ -1,5 +1,4 @@
 -- `lister::add` meets its contract: the line stands at the front of the part lent for it.
--- Assumes nothing.
 use Prim.Native.Nat.{_+_, _-_}
 use mathlib.Core.Path.{refl}
 use borrow.Author.Needs.{needs}

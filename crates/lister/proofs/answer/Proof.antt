@@ -1,5 +1,4 @@
 -- `lister::answer` meets its contract: the words of the bytes held are read and their call is taken.
--- Assumes nothing.
 use Prim.Native.Nat.{_≤_}
 use native.Mathlib.Omega.{arith}
 use mathlib.Core.Path.{_≡_, sym, ap}

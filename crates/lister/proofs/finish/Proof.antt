@@ -1,5 +1,4 @@
 -- `lister::finish` meets its contract: stopped, nothing held, or the line of 18.
--- Assumes nothing.
 use borrow.Author.Needs.{needs}
 use Rattle.listing.proofs.Parts.{counts}
 use Rattle.lister.proofs.Holding.{not-so, so}

@@ -1,5 +1,4 @@
 -- `lister::stop` meets its contract, by the turn.
--- Assumes nothing.
 use mathlib.Core.Path.{ap}
 use borrow.Author.Needs.{needs}
 use Rattle.lister.specs.declared.Lister.{Lister}

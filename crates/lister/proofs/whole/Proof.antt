@@ -1,5 +1,4 @@
 -- `lister::whole` meets its contract: its tests are those of the definition.
--- Assumes nothing.
 use Prim.Native.Nat.{_^_, _/_}
 use native.Mathlib.Omega.{arith}
 use borrow.Author.Needs.{needs}

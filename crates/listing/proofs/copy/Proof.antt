@@ -1,5 +1,5 @@
 -- `listing::copy` meets its contract. The invariant: the first i bytes of the text stand at the front, the rest is
--- as it was. The measure is what is left of the text. Assumes nothing.
+-- as it was. The measure is what is left of the text.
 use Prim.Native.Nat.{_+_, _-_, _≤_}
 use mathlib.Core.Path.{_≡_, refl, sym, _∙_, ap}
 use mathlib.Core.List.{List}

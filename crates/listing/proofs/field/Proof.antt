@@ -1,5 +1,4 @@
 -- `listing::field` meets its contract: the number, and then the space.
--- Assumes nothing.
 use mathlib.Core.Path.{refl}
 use native.Mathlib.Omega.{arith}
 use borrow.Author.Needs.{needs}

@@ -1,5 +1,4 @@
 -- `listing::head` meets its contract: the copy of the header, at the front of a buffer that has room for it.
--- Assumes nothing.
 use native.Mathlib.Omega.{arith}
 use borrow.Author.Needs.{needs}
 use Rattle.listing.proofs.Parts.{front-written, front-after, short-written, short-after, counts}

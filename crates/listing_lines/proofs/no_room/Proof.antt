@@ -1,5 +1,4 @@
 -- `listing_lines::no_room` meets its contract: what `line` promises of a buffer of 95 bytes.
--- Assumes nothing.
 use mathlib.Core.Path.{_∙_, sym}
 use lib.Dec.{lit<}
 use borrow.Author.Needs.{needs}

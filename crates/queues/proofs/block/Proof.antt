@@ -1,4 +1,4 @@
--- Nobody runs, and the thread is at its place. Assumes nothing.
+-- Nobody runs, and the thread is at its place.
 use Rattle.queues.proofs.Joining.{halted-shown, blocked}
 use borrow.Author.Needs.{needs}
 use Rattle.queues.proofs.block.Statement.{statement}

@@ -1,4 +1,4 @@
--- Somebody is chosen where nobody runs or a higher level is occupied. Assumes nothing.
+-- Somebody is chosen where nobody runs or a higher level is occupied.
 use Rattle.queues.proofs.Choosing.{chosen-idle, runner-shown, chosen}
 use borrow.Author.Needs.{needs}
 use Rattle.queues.proofs.choose.Statement.{statement}

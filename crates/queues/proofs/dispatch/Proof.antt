@@ -1,4 +1,4 @@
--- The head of the highest queue leaves it and runs. Assumes nothing.
+-- The head of the highest queue leaves it and runs.
 use Rattle.queues.proofs.Choosing.{nobody-ready, readable, head-there, head-shown, head-left, dispatched}
 use borrow.Author.Needs.{needs}
 use Rattle.queues.proofs.dispatch.Statement.{statement}

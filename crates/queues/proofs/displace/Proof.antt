@@ -1,4 +1,4 @@
--- The running thread goes to its tail where a level above it is occupied. Assumes nothing.
+-- The running thread goes to its tail where a level above it is occupied.
 use Rattle.queues.proofs.Choosing.{priority-small, stood-shown, displaced, not-displaced}
 use native.Mathlib.Omega.{arith}
 use borrow.Author.Needs.{needs}

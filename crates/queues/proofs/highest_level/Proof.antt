@@ -1,4 +1,4 @@
--- The summary's answer, taken apart. Assumes nothing.
+-- The summary's answer, taken apart.
 use Rattle.queues.proofs.Choosing.{summary-loaded, level-small, tells-level, tells-nothing}
 use native.Mathlib.Omega.{arith}
 use borrow.Author.Needs.{needs}

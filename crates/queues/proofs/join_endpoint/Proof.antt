@@ -1,4 +1,4 @@
--- The thread joins the endpoint's queue. Assumes nothing.
+-- The thread joins the endpoint's queue.
 use Rattle.queues.proofs.Joining.{joinable-endpoint, joined}
 use borrow.Author.Needs.{needs}
 use Rattle.queues.proofs.join_endpoint.Statement.{statement}

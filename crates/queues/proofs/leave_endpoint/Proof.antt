@@ -1,4 +1,4 @@
--- The marks pass on, and the thread leaves the endpoint's queue. Assumes nothing.
+-- The marks pass on, and the thread leaves the endpoint's queue.
 use Rattle.queues.proofs.Leaving.{leavable-endpoint, left}
 use borrow.Author.Needs.{needs}
 use Rattle.queues.proofs.leave_endpoint.Statement.{statement}

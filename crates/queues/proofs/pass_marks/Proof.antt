@@ -1,4 +1,4 @@
--- A mark that is the thread passes to its neighbour. Assumes nothing.
+-- A mark that is the thread passes to its neighbour.
 use Rattle.queues.proofs.Marking.{passed-both, passed-cursor, passed-end, passed-neither}
 use borrow.Author.Needs.{needs}
 use Rattle.queues.proofs.pass_marks.Statement.{statement}

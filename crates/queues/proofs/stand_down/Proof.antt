@@ -1,4 +1,4 @@
--- Nobody runs, and the thread joins its level's queue. Assumes nothing.
+-- Nobody runs, and the thread joins its level's queue.
 use Rattle.queues.proofs.Joining.{stopped-shown, stood-down}
 use borrow.Author.Needs.{needs}
 use Rattle.queues.proofs.stand_down.Statement.{statement}

@@ -1,4 +1,4 @@
--- The thread leaves the queue of its level. Assumes nothing.
+-- The thread leaves the queue of its level.
 use Rattle.queues.proofs.Leaving.{own-shown, unqueued}
 use borrow.Author.Needs.{needs}
 use Rattle.queues.proofs.unqueue.Statement.{statement}

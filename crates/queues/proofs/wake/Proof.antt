@@ -1,4 +1,4 @@
--- The thread is able, and joins its level's queue. Assumes nothing.
+-- The thread is able, and joins its level's queue.
 use Rattle.queues.proofs.Joining.{roused-shown, woken}
 use borrow.Author.Needs.{needs}
 use Rattle.queues.proofs.wake.Statement.{statement}

@@ -1,4 +1,4 @@
--- The thread leaves the endpoint's queue, and is woken. Assumes nothing.
+-- The thread leaves the endpoint's queue, and is woken.
 use Rattle.queues.proofs.Leaving.{left-shown, woken-from}
 use borrow.Author.Needs.{needs}
 use Rattle.queues.proofs.wake_from.Statement.{statement}

@@ -2,7 +2,6 @@
 -- passed to `next`. All that the proof knows of the two is that each meets its contract.
 -- In a local of a body MIR erases the lifetime of the struct's type, so the machine value is shown to have the type at
 -- `erased`: what the struct owns does not say the lifetime's name.
--- Assumes nothing.
 use mathlib.Core.Path.{_≡_, refl, ap, _∙_}
 use Prim.Native.Nat.{ℕ, _<_, _^_}
 use mathlib.Core.List.{List, [], _∷_}

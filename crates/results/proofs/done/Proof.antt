@@ -1,5 +1,4 @@
 -- Somebody is chosen, and the answer is code 0.
--- Assumes nothing.
 use borrow.Author.Needs.{needs}
 use Rattle.results.proofs.Ends.{done-is}
 use Rattle.results.proofs.done.Statement.{statement}

@@ -1,5 +1,4 @@
 -- `rows::stop` meets its contract, by the reading.
--- Assumes nothing.
 use mathlib.Core.Path.{ap, sym}
 use borrow.Author.Needs.{needs}
 use Rattle.journal.specs.declared.types.Read.{Read}

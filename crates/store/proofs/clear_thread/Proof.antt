@@ -1,4 +1,4 @@
--- An absent thread is made by the four steps. Assumes nothing.
+-- An absent thread is made by the four steps.
 use mathlib.Core.Path.{refl}
 use borrow.Author.Needs.{needs}
 use Rattle.machine.specs.State.{absent, nothing}

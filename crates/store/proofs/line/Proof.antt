@@ -1,4 +1,4 @@
--- The word that is read is the one of this name. Assumes nothing.
+-- The word that is read is the one of this name.
 use borrow.Author.Needs.{needs}
 use Rattle.layout.specs.Addresses.{ofLine}
 use Rattle.store.proofs.Words.{word-tells}

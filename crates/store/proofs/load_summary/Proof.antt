@@ -1,4 +1,4 @@
--- The words of the summary are read one by one. Assumes nothing.
+-- The words of the summary are read one by one.
 use Prim.Native.Nat.{_-_}
 use mathlib.Core.Path.{refl}
 use native.Mathlib.Omega.{arith}

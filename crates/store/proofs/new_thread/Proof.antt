@@ -1,4 +1,4 @@
--- A new thread is made by the four steps. Assumes nothing.
+-- A new thread is made by the four steps.
 use mathlib.Core.Path.{refl}
 use borrow.Author.Needs.{needs}
 use Rattle.machine.specs.State.{able, nothing}

@@ -1,4 +1,4 @@
--- The five stores set the abort. Assumes nothing.
+-- The five stores set the abort.
 use borrow.Author.Needs.{needs}
 use Rattle.store.proofs.Sites.{abort-does}
 use Rattle.store.proofs.set_abort.Statement.{statement}

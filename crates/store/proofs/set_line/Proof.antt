@@ -1,4 +1,4 @@
--- The store sets the line. Assumes nothing.
+-- The store sets the line.
 use borrow.Author.Needs.{needs}
 use Rattle.store.proofs.Singles.{line-does}
 use Rattle.store.proofs.set_line.Statement.{statement}

@@ -1,4 +1,4 @@
--- Two stores, of the cursor and of the end mark. Assumes nothing.
+-- Two stores, of the cursor and of the end mark.
 use Rattle.store.proofs.Sites.{looks}
 use borrow.Author.Needs.{needs}
 use Rattle.store.proofs.set_marks.Statement.{statement}

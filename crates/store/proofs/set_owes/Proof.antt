@@ -1,4 +1,4 @@
--- The two stores set what the thread has to do with aborts. Assumes nothing.
+-- The two stores set what the thread has to do with aborts.
 use borrow.Author.Needs.{needs}
 use Rattle.store.proofs.Blocks.{owes-does}
 use Rattle.store.proofs.set_owes.Statement.{statement}

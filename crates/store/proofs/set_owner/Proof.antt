@@ -1,4 +1,4 @@
--- The store sets the owner. Assumes nothing.
+-- The store sets the owner.
 use borrow.Author.Needs.{needs}
 use Rattle.store.proofs.Sites.{owner-does}
 use Rattle.store.proofs.set_owner.Statement.{statement}

@@ -1,4 +1,4 @@
--- The four stores put the thread at its place. Assumes nothing.
+-- The four stores put the thread at its place.
 use borrow.Author.Needs.{needs}
 use Rattle.store.proofs.Blocks.{place-does}
 use Rattle.store.proofs.set_place.Statement.{statement}

@@ -1,4 +1,4 @@
--- The store sets the priority. Assumes nothing.
+-- The store sets the priority.
 use borrow.Author.Needs.{needs}
 use Rattle.store.proofs.Blocks.{priority-does}
 use Rattle.store.proofs.set_priority.Statement.{statement}

@@ -1,4 +1,4 @@
--- The store sets who runs. Assumes nothing.
+-- The store sets who runs.
 use borrow.Author.Needs.{needs}
 use Rattle.store.proofs.Singles.{running-does}
 use Rattle.store.proofs.set_running.Statement.{statement}

@@ -1,4 +1,4 @@
--- The store sets the status. Assumes nothing.
+-- The store sets the status.
 use borrow.Author.Needs.{needs}
 use Rattle.store.proofs.Sites.{status-does}
 use Rattle.store.proofs.set_status.Statement.{statement}

@@ -1,4 +1,4 @@
--- The store sets the ticks. Assumes nothing.
+-- The store sets the ticks.
 use borrow.Author.Needs.{needs}
 use Rattle.store.proofs.Blocks.{ticks-does}
 use Rattle.store.proofs.set_ticks.Statement.{statement}

@@ -1,4 +1,4 @@
--- The two stores set the word of the level and the top word. Assumes nothing.
+-- The two stores set the word of the level and the top word.
 use borrow.Author.Needs.{needs}
 use Rattle.store.proofs.Levels.{writes}
 use Rattle.store.proofs.store_mark.Statement.{statement}

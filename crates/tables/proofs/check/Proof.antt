@@ -1,4 +1,4 @@
--- The scratch is cleared before and after the tests, and the answer is the verdict. Assumes nothing.
+-- The scratch is cleared before and after the tests, and the answer is the verdict.
 use mathlib.Core.Path.{_∙_}
 use borrow.Author.Needs.{needs}
 use Rattle.tables.proofs.Verdict.{zeroed, size-bad, scratch-bad, check-sound, check-unsound}

@@ -1,4 +1,4 @@
--- The tables become the image of the fresh state, or are refused. Assumes nothing.
+-- The tables become the image of the fresh state, or are refused.
 use borrow.Author.Needs.{needs}
 use Rattle.tables.proofs.Verdict.{fresh-refused, fresh-made}
 use Rattle.tables.proofs.fresh.Statement.{statement}

@@ -1,4 +1,4 @@
--- All tests, in the order of the code. Assumes nothing.
+-- All tests, in the order of the code.
 use mathlib.Core.Path.{_∙_}
 use borrow.Author.Needs.{needs}
 use borrow.Author.Tests.{not-true, not-false}

@@ -1,5 +1,4 @@
 -- A ready thread leaves its queue, gets its priority and joins the new tail; another only gets it.
--- Assumes nothing.
 use borrow.Author.Needs.{needs}
 use Rattle.threads.proofs.Prioritising.{reading-asked, unqueue-asked, priority-asked}
 use Rattle.threads.proofs.Prioritising.{tail-asked, changed-ready, changed-else}

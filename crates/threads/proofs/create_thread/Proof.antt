@@ -1,5 +1,4 @@
 -- A present thread is refused; a new one joins its tail before the choice.
--- Assumes nothing.
 use borrow.Author.Needs.{needs}
 use Rattle.threads.proofs.Creating.{create-refused, enqueue-asked, create-chooses, created}
 use Rattle.threads.proofs.create_thread.Statement.{statement}

@@ -1,5 +1,4 @@
 -- An absent thread is refused; a present one drops its debt, leaves its place and goes.
--- Assumes nothing.
 use borrow.Author.Needs.{needs}
 use Rattle.threads.proofs.Destroying.{destroy-refused, drop-asked, leave-asked}
 use Rattle.threads.proofs.Destroying.{clear-asked, destroy-chooses, destroyed}

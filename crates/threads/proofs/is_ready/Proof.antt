@@ -1,5 +1,4 @@
 -- The place is looked at first, then who runs.
--- Assumes nothing.
 use borrow.Author.Needs.{needs}
 use Rattle.threads.proofs.Places.{told-not-ready, told-ready}
 use Rattle.threads.proofs.is_ready.Statement.{statement}

@@ -1,5 +1,4 @@
 -- The number of the place tells the queue or the line to leave.
--- Assumes nothing.
 use borrow.Author.Needs.{needs}
 use Rattle.threads.proofs.Leaving.{able-asked, leave-able, blocked-least, sending-asked}
 use Rattle.threads.proofs.Leaving.{leave-sending, receiving-asked, leave-receiving, line-asked, leave-line}

@@ -1,5 +1,4 @@
 -- A ready thread leaves its level's queue; else it is the one that runs.
--- Assumes nothing.
 use borrow.Author.Needs.{needs}
 use Rattle.threads.proofs.Leaving.{stands-asked, left-level, left-running}
 use Rattle.threads.proofs.leave_ready.Statement.{statement}

@@ -1,5 +1,4 @@
 -- An absent thread is refused, the same priority changes nothing, another is a change.
--- Assumes nothing.
 use borrow.Author.Needs.{needs}
 use Rattle.threads.proofs.Prioritising.{priority-refused, same-asked, priority-same}
 use Rattle.threads.proofs.Prioritising.{change-asked, priority-chooses, priority-changed}

@@ -1,5 +1,4 @@
 -- The block after the tick is stored back; at the last tick the thread stands down.
--- Assumes nothing.
 use borrow.Author.Needs.{needs}
 use Rattle.threads.proofs.Ticking.{caller-asked, store-asked, one-tick, stand-asked, last-tick}
 use Rattle.threads.proofs.take_tick.Statement.{statement}

@@ -1,5 +1,4 @@
 -- The tick is taken before the choice.
--- Assumes nothing.
 use borrow.Author.Needs.{needs}
 use Rattle.threads.proofs.Ticking.{tick-chooses, ticked}
 use Rattle.threads.proofs.tick.Statement.{statement}

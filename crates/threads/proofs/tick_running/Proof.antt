@@ -1,5 +1,4 @@
 -- Where nobody runs nothing changes.
--- Assumes nothing.
 use borrow.Author.Needs.{needs}
 use Rattle.threads.proofs.Ticking.{nobody-ticks, runner-asked, runner-ticks}
 use Rattle.threads.proofs.tick_running.Statement.{statement}

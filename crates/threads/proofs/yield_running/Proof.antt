@@ -1,5 +1,4 @@
 -- The debt goes, the thread stands down, and somebody is chosen.
--- Assumes nothing.
 use borrow.Author.Needs.{needs}
 use Rattle.threads.proofs.Ticking.{yield-asked, down-asked, yield-chooses, yielded}
 use Rattle.threads.proofs.yield_running.Statement.{statement}

@@ -1,5 +1,4 @@
 -- Refused where the endpoint is present; else its status is set.
--- Assumes nothing.
 use Rattle.transfers.proofs.Creating.{present-refused, made-asked, created}
 use borrow.Author.Needs.{needs}
 use Rattle.transfers.proofs.create_endpoint.Statement.{statement}

@@ -1,5 +1,4 @@
 -- A quiet line becomes pending, a pending one stays so, and the waiter of one that has a waiter is woken.
--- Assumes nothing.
 use Rattle.transfers.proofs.Firing.{fired-quiet, fired-pending, waiter-asked, fired-awaited}
 use borrow.Author.Needs.{needs}
 use Rattle.transfers.proofs.fire.Statement.{statement}

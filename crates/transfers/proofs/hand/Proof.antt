@@ -1,5 +1,4 @@
 -- Without a receiver the caller joins the queue and blocks; else the first receiver is woken with the message.
--- Assumes nothing.
 use Rattle.transfers.proofs.Queueing.{alike-asked, comes-asked, joined-asked}
 use Rattle.transfers.proofs.Handing.{queued-send, receiver-asked, handed-asked, handed}
 use borrow.Author.Needs.{needs}

@@ -1,5 +1,4 @@
 -- The line fires, and the call is done.
--- Assumes nothing.
 use Rattle.transfers.proofs.Firing.{fired-asked, interrupted}
 use borrow.Author.Needs.{needs}
 use Rattle.transfers.proofs.interrupt.Statement.{statement}

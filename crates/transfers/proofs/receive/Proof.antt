@@ -1,5 +1,4 @@
 -- Refused by the status; else the debt goes and a message is taken or waited for.
--- Assumes nothing.
 use Rattle.transfers.proofs.Callers.{debtor-asked, dropped-asked}
 use Rattle.transfers.proofs.Taking.{receive-missing, receive-closing, received}
 use borrow.Author.Needs.{needs}

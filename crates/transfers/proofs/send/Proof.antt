@@ -1,5 +1,4 @@
 -- Refused by the status and by the abort, in that order; else the debt goes and the message is handed over.
--- Assumes nothing.
 use Rattle.transfers.proofs.Callers.{debtor-asked, dropped-asked}
 use Rattle.transfers.proofs.Handing.{send-missing, send-closing, send-under, sent}
 use borrow.Author.Needs.{needs}

@@ -1,5 +1,4 @@
 -- The caller blocks at the place, whichever it is, and code 1 is the answer.
--- Assumes nothing.
 use Rattle.transfers.proofs.Finishing.{blocked-asked, suspended}
 use borrow.Author.Needs.{needs}
 use Rattle.transfers.proofs.suspend.Statement.{statement}

@@ -1,5 +1,4 @@
 -- Without a sender the caller joins the queue and blocks; else the first sender's message is taken.
--- Assumes nothing.
 use Rattle.transfers.proofs.Queueing.{alike-asked, comes-asked, joined-asked}
 use Rattle.transfers.proofs.Taking.{queued-receive, takes-asked, taken-first}
 use borrow.Author.Needs.{needs}

@@ -1,5 +1,4 @@
 -- Badge and message are those of the sender before it is woken.
--- Assumes nothing.
 use Rattle.transfers.proofs.Taking.{sender-asked, waits-asked, taken-asked, taken}
 use borrow.Author.Needs.{needs}
 use Rattle.transfers.proofs.take_from.Statement.{statement}

@@ -1,5 +1,4 @@
 -- Refused where another waits; else the debt goes, and the interrupt is taken or waited for.
--- Assumes nothing.
 use native.Mathlib.Omega.{arith}
 use Rattle.transfers.proofs.Callers.{calling-thread, debtor-asked, dropped-asked}
 use Rattle.transfers.proofs.Awaiting.{awaited-refused, line-asked, taken-asked, waiter-asked}

@@ -1,4 +1,4 @@
--- The link after a link, of the queue itself or of a thread. Assumes nothing.
+-- The link after a link, of the queue itself or of a thread.
 use borrow.Author.Needs.{needs}
 use Rattle.words.proofs.Around.{after-queue, after-thread}
 use Rattle.words.proofs.after_at.Statement.{statement}

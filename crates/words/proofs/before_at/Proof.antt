@@ -1,4 +1,4 @@
--- The link before a link, of the queue itself or of a thread. Assumes nothing.
+-- The link before a link, of the queue itself or of a thread.
 use borrow.Author.Needs.{needs}
 use Rattle.words.proofs.Around.{before-queue, before-thread}
 use Rattle.words.proofs.before_at.Statement.{statement}

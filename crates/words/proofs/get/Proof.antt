@@ -1,4 +1,4 @@
--- The word that is read is the one at the address. Assumes nothing.
+-- The word that is read is the one at the address.
 use borrow.Author.Needs.{needs}
 use Rattle.layout.specs.Addresses.{word}
 use Rattle.words.proofs.get.Statement.{statement}

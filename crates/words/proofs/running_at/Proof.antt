@@ -1,4 +1,4 @@
--- The address is that of the layout, and lies in the memory. Assumes nothing.
+-- The address is that of the layout, and lies in the memory.
 use Rattle.layout.specs.Addresses.{at}
 use borrow.Author.Needs.{needs}
 use Rattle.words.proofs.running_at.Statement.{statement}

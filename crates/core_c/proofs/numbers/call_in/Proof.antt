@@ -1,4 +1,4 @@
--- The three ways of `callIn`. Assumes nothing.
+-- The three ways of `callIn`.
 use mathlib.Core.Path.{_∙_, ap}
 use Rattle.journal.specs.Steps.{named}
 use Rattle.core_c.proofs.Naming.{is-send, is-abort, is-short, short-is}

@@ -1,4 +1,4 @@
--- Each arm knows its call. Assumes nothing.
+-- Each arm knows its call.
 use Rattle.core_c.specs.Numbers.{numbersOf}
 use borrow.Author.Needs.{needs}
 use Rattle.core_c.proofs.numbers.numbers_of.Statement.{statement}

@@ -1,6 +1,5 @@
 -- `journal::taken::words_taken` meets its contract: the table's rule is a test at each of its 256 entries, which antt
 -- computes.
--- Assumes nothing.
 use Prim.Native.Nat.{ℕ, _<_}
 use native.Mathlib.Omega.{arith}
 use mathlib.Core.Bool.{Bool}

@@ -1,4 +1,4 @@
--- No level above p is occupied. The loop's invariant: none up to i. Assumes nothing.
+-- No level above p is occupied. The loop's invariant: none up to i.
 use Prim.Native.Nat.{ℕ, _+_, _≤_, _<_, _-_}
 use mathlib.Core.Bool.{true}
 use mathlib.Core.Path.{_≡_}

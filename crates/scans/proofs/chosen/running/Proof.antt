@@ -1,4 +1,4 @@
--- The running thread, by the link to it. Assumes nothing.
+-- The running thread, by the link to it.
 use borrow.Author.Needs.{needs}
 use Rattle.scans.proofs.Running.{running-nobody, running-outside, running-somebody}
 use Rattle.scans.proofs.chosen.running.Statement.{statement}

@@ -1,4 +1,4 @@
--- What a bit adds. Assumes nothing.
+-- What a bit adds.
 use Rattle.scans.proofs.Summing.{share-none, share-some}
 use Rattle.scans.proofs.chosen.share.Statement.{statement}
 use Rattle.scans.proofs.chosen.share.Tie as tie

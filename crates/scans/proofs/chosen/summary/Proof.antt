@@ -1,4 +1,4 @@
--- The summary. The loop's invariant: words below w agree, and the top word's bits below w are summed. Assumes nothing.
+-- The summary. The loop's invariant: words below w agree, and the top word's bits below w are summed.
 use Prim.Native.Nat.{ℕ, _≤_, _<_, _-_}
 use mathlib.Core.Bool.{true, not}
 use mathlib.Core.Path.{_≡_}

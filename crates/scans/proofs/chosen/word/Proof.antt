@@ -1,4 +1,4 @@
--- A word of the summary. The loop's invariant: the bits below k are summed. Assumes nothing.
+-- A word of the summary. The loop's invariant: the bits below k are summed.
 use Prim.Native.Nat.{_≤_, _-_}
 use mathlib.Core.Bool.{not}
 use native.Mathlib.Omega.{arith}

@@ -1,4 +1,4 @@
--- A line, by its word. Assumes nothing.
+-- A line, by its word.
 use borrow.Author.Needs.{needs}
 use Rattle.scans.proofs.Running.{line-free, line-far, line-waited}
 use Rattle.scans.proofs.rest.line.Statement.{statement}

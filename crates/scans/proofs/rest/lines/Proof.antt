@@ -1,4 +1,4 @@
--- All lines. The loop's invariant: those below l pass. Assumes nothing.
+-- All lines. The loop's invariant: those below l pass.
 use Prim.Native.Nat.{ℕ, _≤_, _<_, _-_}
 use mathlib.Core.Bool.{true}
 use mathlib.Core.Path.{_≡_, sym, _∙_}

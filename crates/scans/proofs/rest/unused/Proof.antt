@@ -1,4 +1,4 @@
--- The unused words. The loop's invariant: those below i are 0. Assumes nothing.
+-- The unused words. The loop's invariant: those below i are 0.
 use Prim.Native.Nat.{ℕ, _≤_, _<_, _-_}
 use mathlib.Core.Bool.{true}
 use mathlib.Core.Path.{_≡_, sym, _∙_}

@@ -1,4 +1,4 @@
--- The words of an absent thread are 0. Assumes nothing.
+-- The words of an absent thread are 0.
 use borrow.Author.Needs.{needs}
 use Rattle.checks.specs.Checks.{absentTest}
 use Rattle.scans.proofs.threads.absent.Statement.{statement}

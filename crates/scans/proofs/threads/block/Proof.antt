@@ -1,4 +1,4 @@
--- An absent thread or a present one. Assumes nothing.
+-- An absent thread or a present one.
 use borrow.Author.Needs.{needs}
 use Rattle.scans.proofs.Numbers.{block-absent, block-present}
 use Rattle.scans.proofs.threads.block.Statement.{statement}

@@ -1,4 +1,4 @@
--- The numbers of a present thread are in range. Assumes nothing.
+-- The numbers of a present thread are in range.
 use borrow.Author.Needs.{needs}
 use Rattle.checks.specs.Checks.{numbersTest}
 use Rattle.scans.proofs.threads.numbers.Statement.{statement}

@@ -1,4 +1,4 @@
--- What a thread owes, by the three cases of its word. Assumes nothing.
+-- What a thread owes, by the three cases of its word.
 use borrow.Author.Needs.{needs}
 use Rattle.scans.proofs.Numbers.{owing-nothing, owing-abort, owing-note}
 use Rattle.scans.proofs.threads.owing.Statement.{statement}

@@ -1,4 +1,4 @@
--- A present thread: its numbers first, which bound the line that is read. Assumes nothing.
+-- A present thread: its numbers first, which bound the line that is read.
 use borrow.Author.Needs.{needs}
 use borrow.Author.Tests.{not-true, not-false}
 use Rattle.scans.proofs.Numbers.{present-not, present-all, place-small}

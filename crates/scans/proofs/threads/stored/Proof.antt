@@ -1,4 +1,4 @@
--- Outcome, badge and message stand where a thread stores them. Assumes nothing.
+-- Outcome, badge and message stand where a thread stores them.
 use borrow.Author.Needs.{needs}
 use Rattle.checks.specs.Checks.{storedTest}
 use Rattle.scans.proofs.threads.stored.Statement.{statement}

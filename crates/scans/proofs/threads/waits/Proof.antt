@@ -1,4 +1,4 @@
--- A thread on a line is the line's waiter. Assumes nothing.
+-- A thread on a line is the line's waiter.
 use borrow.Author.Needs.{needs}
 use Rattle.scans.proofs.Numbers.{waits-not, waits-line}
 use Rattle.scans.proofs.threads.waits.Statement.{statement}

@@ -1,5 +1,4 @@
 -- `summary::Summary::new` meets its contract: the words of the empty set compute to 0.
--- Assumes nothing.
 use mathlib.Core.Path.{refl}
 use Rattle.summary.specs.Levels.{bits, wordOf, topOf, wordsOf, summaryOf}
 use Rattle.summary.proofs.Summary.new.Statement.{statement}

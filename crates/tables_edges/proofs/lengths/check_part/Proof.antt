@@ -1,5 +1,4 @@
 -- `tables_edges::lengths::check_part` is safe and ends: the parts are as long as asked.
--- Assumes nothing.
 use mathlib.Core.Path.{sym}
 use lib.Seq.{length-take-le}
 use borrow.Author.Needs.{needs}

@@ -1,5 +1,4 @@
 -- `tables_edges::lengths::fresh_part` is safe and ends: the part is as long as asked.
--- Assumes nothing.
 use mathlib.Core.Path.{sym}
 use lib.Seq.{length-take-le}
 use borrow.Author.Needs.{needs}

@@ -1,6 +1,5 @@
 -- `tables_edges::memory::copy` is safe and ends: the two memories are of one length, and fewer words are
 -- left to copy.
--- Assumes nothing.
 use Prim.Native.Nat.{_-_}
 use mathlib.Core.Path.{_≡_}
 use lib.ListN.{length}

@@ -1,6 +1,5 @@
 -- `tables_edges::memory::differing` is safe and ends: the two memories are of one length, and fewer words
 -- are left to compare.
--- Assumes nothing.
 use Prim.Native.Nat.{_-_, _≤_}
 use lib.ListN.{length}
 use borrow.Author.Needs.{needs}

@@ -1,5 +1,4 @@
 -- `tables_edges::memory::nonzero` is safe and ends: the words left to look at get fewer.
--- Assumes nothing.
 use Prim.Native.Nat.{_-_, _≤_}
 use lib.ListN.{length}
 use borrow.Author.Needs.{needs}

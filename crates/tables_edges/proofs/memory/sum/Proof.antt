@@ -1,6 +1,5 @@
 -- `tables_edges::memory::sum` is safe and ends: the remainder is below the modulus, and fewer words are left
 -- to add.
--- Assumes nothing.
 use Prim.Native.Nat.{_-_, _≤_, _<_}
 use lib.ListN.{length}
 use borrow.Author.Needs.{needs}

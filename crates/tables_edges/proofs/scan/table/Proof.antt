@@ -1,5 +1,4 @@
 -- `tables_edges::scan::table` meets its contract: the bytes left to read get fewer.
--- Assumes nothing.
 use Prim.Native.Nat.{_-_, _≤_}
 use mathlib.Core.Path.{_≡_}
 use lib.ListN.{length}

@@ -1,5 +1,4 @@
 -- `tables_edges::sweep::sweep` is safe and ends: the words left to change get fewer.
--- Assumes nothing.
 use Prim.Native.Nat.{_-_, _≤_}
 use mathlib.Core.Path.{_≡_}
 use lib.ListN.{length}

@@ -1,5 +1,4 @@
 -- `tables_edges::sweep::turn` is safe and ends: a store keeps the length.
--- Assumes nothing.
 use lib.ListN.{length-set}
 use native.Mathlib.Omega.{arith}
 use borrow.Author.Needs.{needs}

@@ -1,4 +1,4 @@
--- The words of an abort, by whether one stands. Assumes nothing.
+-- The words of an abort, by whether one stands.
 use borrow.Author.Needs.{needs}
 use Rattle.walks.proofs.Aborting.{abort-none, abort-odd, abort-stands}
 use Rattle.walks.proofs.endpoints.abort.Statement.{statement}

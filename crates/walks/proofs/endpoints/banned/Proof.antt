@@ -1,4 +1,4 @@
--- The badge that may not stand outside the marks. Assumes nothing.
+-- The badge that may not stand outside the marks.
 use borrow.Author.Needs.{needs}
 use Rattle.walks.proofs.Aborting.{banned-some, banned-none}
 use Rattle.walks.proofs.endpoints.banned.Statement.{statement}

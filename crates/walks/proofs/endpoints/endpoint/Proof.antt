@@ -1,4 +1,4 @@
--- An endpoint: its words, then the walk. Assumes nothing.
+-- An endpoint: its words, then the walk.
 use borrow.Author.Needs.{needs}
 use borrow.Author.Tests.{not-true, not-false}
 use Rattle.walks.proofs.Waiting.{endpoint-bad, endpoint-walked}

@@ -1,4 +1,4 @@
--- The place of the waiters, by the words read. Assumes nothing.
+-- The place of the waiters, by the words read.
 use borrow.Author.Needs.{needs}
 use Rattle.walks.proofs.endpoints.fits.Statement.{statement}
 use Rattle.walks.proofs.endpoints.fits.Tie as tie

@@ -1,4 +1,4 @@
--- The place of the first waiter, by the link to it. Assumes nothing.
+-- The place of the first waiter, by the link to it.
 use borrow.Author.Needs.{needs}
 use Rattle.walks.proofs.Aborting.{kind-none, kind-far, kind-first}
 use Rattle.walks.proofs.endpoints.kind.Statement.{statement}

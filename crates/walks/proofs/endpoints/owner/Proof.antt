@@ -1,4 +1,4 @@
--- The owner of an abort, by the link to it. Assumes nothing.
+-- The owner of an abort, by the link to it.
 use borrow.Author.Needs.{needs}
 use Rattle.walks.proofs.Aborting.{owner-none, owner-far, owner-owes}
 use Rattle.walks.proofs.endpoints.owner.Statement.{statement}

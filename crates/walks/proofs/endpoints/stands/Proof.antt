@@ -1,4 +1,4 @@
--- A thread of an endpoint's queue, by the words read. Assumes nothing.
+-- A thread of an endpoint's queue, by the words read.
 use borrow.Author.Needs.{needs}
 use Rattle.walks.proofs.endpoints.stands.Statement.{statement}
 use Rattle.walks.proofs.endpoints.stands.Tie as tie

@@ -1,4 +1,4 @@
--- The status of an endpoint, by its word. Assumes nothing.
+-- The status of an endpoint, by its word.
 use borrow.Author.Needs.{needs}
 use Rattle.walks.proofs.Aborting.{status-absent, status-live, status-closing}
 use Rattle.walks.proofs.endpoints.status.Statement.{statement}

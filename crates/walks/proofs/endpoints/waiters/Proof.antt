@@ -1,4 +1,4 @@
--- The walk through an endpoint's queue. The invariant is WaitersAt; the measure is the turns left. Assumes nothing.
+-- The walk through an endpoint's queue. The invariant is WaitersAt; the measure is the turns left.
 use borrow.Author.Needs.{needs}
 use borrow.Author.Tests.{not-true, not-false}
 use Rattle.walks.specs.Steps.{phaseOf}

@@ -1,4 +1,4 @@
--- The walk through the queue of a level. The invariant is LevelAt; the measure is the turns left. Assumes nothing.
+-- The walk through the queue of a level. The invariant is LevelAt; the measure is the turns left.
 use borrow.Author.Needs.{needs}
 use borrow.Author.Tests.{not-true, not-false}
 use Rattle.walks.proofs.Queues.{LevelAt, level-holds, level-walked, level-out, level-bad, level-long}

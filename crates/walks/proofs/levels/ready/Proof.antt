@@ -1,4 +1,4 @@
--- A thread of a level's queue, by the words read. Assumes nothing.
+-- A thread of a level's queue, by the words read.
 use borrow.Author.Needs.{needs}
 use Rattle.walks.proofs.Placing.{ready-is}
 use Rattle.walks.proofs.levels.ready.Statement.{statement}

@@ -1,4 +1,4 @@
--- A fill with 0. The loop's invariant: the words below i are 0, the others as they were. Assumes nothing.
+-- A fill with 0. The loop's invariant: the words below i are 0, the others as they were.
 use Prim.Native.Nat.{ℕ, _≤_, _-_}
 use mathlib.Core.List.{List, _++_}
 use mathlib.Core.Path.{_≡_, refl, ap, _∙_}

@@ -1,4 +1,4 @@
--- The word of the thread becomes 1. Assumes nothing.
+-- The word of the thread becomes 1.
 use Prim.Native.Nat.{ℕ}
 use mathlib.Core.List.{List}
 use mathlib.Core.Path.{ap, _∙_}

@@ -1,4 +1,4 @@
--- The word of the thread is 1 exactly where it is marked. Assumes nothing.
+-- The word of the thread is 1 exactly where it is marked.
 use borrow.Author.Needs.{needs}
 use Rattle.walks.proofs.Marking.{tell-mark}
 use Rattle.walks.proofs.marks.marked.Statement.{statement}

@@ -1,4 +1,4 @@
--- Who may stand in a phase, case by case. Assumes nothing.
+-- Who may stand in a phase, case by case.
 use borrow.Author.Needs.{needs}
 use Rattle.checks.specs.Checks.{allowed}
 use Rattle.walks.proofs.phases.allowed.Statement.{statement}

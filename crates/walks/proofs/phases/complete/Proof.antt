@@ -1,4 +1,4 @@
--- In which phases a queue may end, case by case. Assumes nothing.
+-- In which phases a queue may end, case by case.
 use borrow.Author.Needs.{needs}
 use Rattle.checks.specs.Checks.{complete}
 use Rattle.walks.proofs.phases.complete.Statement.{statement}

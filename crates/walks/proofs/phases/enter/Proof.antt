@@ -1,4 +1,4 @@
--- The phase at a link, case by case. Assumes nothing.
+-- The phase at a link, case by case.
 use borrow.Author.Needs.{needs}
 use Rattle.checks.specs.Checks.{enter}
 use Rattle.walks.proofs.Waiting.{enter-in, enter-not}

@@ -1,4 +1,4 @@
--- The phase behind a link, case by case. Assumes nothing.
+-- The phase behind a link, case by case.
 use borrow.Author.Needs.{needs}
 use Rattle.checks.specs.Checks.{leave}
 use Rattle.walks.proofs.Waiting.{leave-out, leave-not}

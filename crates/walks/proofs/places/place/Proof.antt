@@ -1,4 +1,4 @@
--- A thread stands where its place says, by its mark and the words read. Assumes nothing.
+-- A thread stands where its place says, by its mark and the words read.
 use borrow.Author.Needs.{needs}
 use Rattle.walks.proofs.Placing.{placed-is}
 use Rattle.walks.proofs.places.place.Statement.{statement}
