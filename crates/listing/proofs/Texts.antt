@@ -1,13 +1,13 @@
 -- Texts written into a buffer: the laws of pasted, two texts in a row, and a number's digits, the last one first.
 use Prim.Native.Nat.{ℕ, suc, _+_, _/_, _%_, _≤_, _<_}
 use mathlib.Core.Path.{_≡_, sym, _∙_, ap}
-use mathlib.Core.List.{List, [], _∷_, _++_, append-assoc, append-nil}
+use mathlib.Core.List.{List, [], _∷_, _++_, append-assoc}
 use native.Mathlib.Omega.{arith}
 use native.Mathlib.Numerals.{add-one}
-use native.Mathlib.Nat.{add-assoc, add-zero}
-use lib.ListN.{length, take, drop, set, getD, length-append, length-take, length-drop, length-set, take-append-drop}
-use lib.Seq.{length-take-le, take-suc, take-at, drop-append-add, drop-drop, set-split}
-use lib.Seq.{append-snoc, take-set-le, drop-set-lt, drop-cons, getD-set-same}
+use native.Mathlib.Nat.{add-assoc, zero-add}
+use lib.ListN.{length, take, drop, set, length-append, length-take, length-drop, length-set}
+use lib.Seq.{take-at, drop-append-add, drop-drop, set-split}
+use lib.Seq.{take-all, append-snoc, take-set-le, drop-set-lt, drop-cons, getD-set-same}
 use Rattle.listing.specs.Line.{digit, decimal}
 use Rattle.listing.specs.Buffer.{pasted, Wrote}
 use Rattle.listing.proofs.Digits.{decimal-one, decimal-more, length-one, length-more}
@@ -37,11 +37,6 @@ module _ (out : List ℕ) (at : ℕ) (s : List ℕ) (fits : at + length s ≤ le
   unfolding pasted
   pasted-then t = rw (take-pasted, drop-pasted (length t)) (simp (append-assoc, length-append, add-assoc))
 
--- Nothing written leaves the buffer.
-pub pasted-nil : (out : List ℕ) (at : ℕ) → pasted out at [] ≡ out
-unfolding pasted
-pasted-nil out at = rw (add-zero, append-nil, take-append-drop)
-
 -- One byte written is a text of one byte.
 pub set-is : (out : List ℕ) (at d : ℕ) → at < length out → set out at d ≡ pasted out at (d ∷ [])
 unfolding pasted
@@ -60,18 +55,18 @@ pasted-last out at s d h =
     rw (take-set-le at out (at + length s) d (omega arith), drop-set out (at + length s) d h)
     (simp (append-assoc, length-append, ← add-assoc, add-one))
 
--- The next byte of a text that is copied to the front.
-pub pasted-more :
-    (out text : List ℕ) (i : ℕ) → length text ≤ length out → i < length text
-    → set (pasted out 0 (take i text)) i (getD text i 0) ≡ pasted out 0 (take (i + 1) text)
-pasted-more out text i fits h =
-    let e : length (take i text) ≡ i = length-take-le i text (omega arith) in
-    let d = getD text i 0 in
-    let room : 0 + length (take i text) ≤ length out = omega arith in
-    set-is (pasted out 0 (take i text)) i d (rw (length-pasted out 0 (take i text) room) (omega arith))
-    ∙ ap (λ (k : ℕ). pasted (pasted out 0 (take i text)) k (d ∷ [])) (omega arith)
-    ∙ pasted-then out 0 (take i text) room (d ∷ [])
-    ∙ ap (λ (l : List ℕ). pasted out 0 l) (rw (add-one, take-suc text i 0 h))
+-- A text copied to the front.
+pub copied :
+    {out out′ text : List ℕ} {r : ℕ} → r ≡ length text
+    → out′ ≡ take (length text) text ++ drop (length text) out → Wrote out 0 text r out′
+unfolding pasted
+copied {out} {out′} {text} {r} e g =
+    record {
+      next = omega (arith, e);
+      bytes =
+          rw zero-add
+          (g ∙ ap (λ (t : List ℕ). t ++ drop (length text) out) (take-all (length text) text (omega arith)));
+    }
 
 -- One byte written, and two texts written in a row.
 

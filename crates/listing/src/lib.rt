@@ -96,19 +96,6 @@ pub fn line(out: &mut [u8], index: u64, call: u32, answer: Answer, running: Runn
     next
 }
 
-// A text at the front of the buffer; how many bytes it has.
-fn copy(out: &mut [u8], text: &[u8]) -> usize
-    requires { ⌜ length (now text) ≤ length (now out) ⌝ }
-    ensures { λ r. ⌜ Wrote (now (out .entry)) 0 (now (text .entry)) r (now (out .exit)) ⌝ }
-{
-    let mut i = 0;
-    while i < text.len() {
-        out[i] = text[i];
-        i += 1;
-    }
-    i
-}
-
 // The header at the front of the buffer, if it has 96 bytes; how many bytes were written.
 pub fn head(out: &mut [u8]) -> usize
     ensures { λ r. ⌜ r ≡ written header (now (out .entry)) ⌝ }
@@ -118,5 +105,5 @@ pub fn head(out: &mut [u8]) -> usize
     if out.len() < ROOM {
         return 0;
     }
-    copy(out, b"n call code count badge message running\n")
+    bytes::copy(b"n call code count badge message running\n", out)
 }

@@ -1,6 +1,7 @@
 -- `listing::head` meets its contract: the copy of the header, at the front of a buffer that has room for it.
 use native.Mathlib.Omega.{arith}
 use borrow.Author.Needs.{needs}
+use Rattle.listing.proofs.Texts.{copied}
 use Rattle.listing.proofs.Parts.{front-written, front-after, short-written, short-after, counts}
 use Rattle.listing.proofs.head.Statement.{statement}
 use Rattle.listing.proofs.head.Tie as tie
@@ -19,7 +20,8 @@ same-length c = search needs
 
 returns-2 : tie.Need-returns-2
 returns-2 c =
-    let w = c .before .before .copy .ensures in
+    let e = c .before .before .copy .ensures in
+    let w = copied (e .0) (e .1) in
     let enough = c .before .before .before .before .before .if1 .left in
     (front-written enough w, (front-after enough w, counts (omega (arith, w .next))))
 
