@@ -1,11 +1,11 @@
 -- Texts written into a buffer: the laws of pasted, two texts in a row, and a number's digits, the last one first.
 use Prim.Native.Nat.{ℕ, suc, _+_, _/_, _%_, _≤_, _<_}
 use mathlib.Core.Path.{_≡_, sym, _∙_, ap}
-use mathlib.Core.List.{List, [], _∷_, _++_, append-assoc}
+use mathlib.Core.List.{List, [], _∷_, _++_, append-assoc, append-nil}
 use native.Mathlib.Omega.{arith}
 use native.Mathlib.Numerals.{add-one}
-use native.Mathlib.Nat.{add-assoc, zero-add}
-use lib.ListN.{length, take, drop, set, length-append, length-take, length-drop, length-set}
+use native.Mathlib.Nat.{add-assoc, add-zero, zero-add}
+use lib.ListN.{length, take, drop, set, length-append, length-take, length-drop, length-set, take-append-drop}
 use lib.Seq.{take-at, drop-append-add, drop-drop, set-split}
 use lib.Seq.{take-all, append-snoc, take-set-le, drop-set-lt, drop-cons, getD-set-same}
 use Rattle.listing.specs.Line.{digit, decimal}
@@ -36,6 +36,11 @@ module _ (out : List ℕ) (at : ℕ) (s : List ℕ) (fits : at + length s ≤ le
   pub pasted-then : (t : List ℕ) → pasted (pasted out at s) (at + length s) t ≡ pasted out at (s ++ t)
   unfolding pasted
   pasted-then t = rw (take-pasted, drop-pasted (length t)) (simp (append-assoc, length-append, add-assoc))
+
+-- Nothing written leaves the buffer.
+pub pasted-nil : (out : List ℕ) (at : ℕ) → pasted out at [] ≡ out
+unfolding pasted
+pasted-nil out at = rw (add-zero, append-nil, take-append-drop)
 
 -- One byte written is a text of one byte.
 pub set-is : (out : List ℕ) (at d : ℕ) → at < length out → set out at d ≡ pasted out at (d ∷ [])
