@@ -23,10 +23,18 @@ thread-requires : tie.Need-thread-requires
 thread-requires c κs = search place-asked depth 9
 
 returns-2 : tie.Need-returns-2
-returns-2 c = search at-other depth 9
+returns-2 c =
+    let at-thread = c .before in
+    let at-if1 = at-thread .before in
+    let at-first = at-if1 .before in
+    at-other _ (at-first .first .ensures) (at-if1 .if1 .left) (at-thread .thread .ensures) (c .if2 .taken)
 
 returns-3 : tie.Need-returns-3
-returns-3 c = search at-place depth 9
+returns-3 c =
+    let at-thread = c .before in
+    let at-if1 = at-thread .before in
+    let at-first = at-if1 .before in
+    at-place _ (at-first .first .ensures) (at-if1 .if1 .left) (at-thread .thread .ensures) (c .if2 .left)
 
 pub first-at-spec : {M : Type 1} → statement M
 first-at-spec =
