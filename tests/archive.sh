@@ -38,6 +38,11 @@ holds "stack of $frames bytes under 1,024" "$([ "$frames" -lt 1024 ] && echo yes
 holds "the SSE registers used" "$(grep -oE '%xmm[0-9]+' "$code" | sort -u | tr '\n' ' ')" "%xmm0 %xmm1 "
 holds "wider, x87 and MMX registers" "$(grep -oE '%(ymm|zmm|mm|st)[0-9(]*' "$code" | sort -u | tr '\n' ' ')" ""
 holds "writes below the stack pointer" "$(grep -qE 'mov.*,-0x[0-9a-f]+\(%rsp\)' "$code" && echo yes)" yes
+far=
+for below in $(grep -oE -- '-0x[0-9a-f]+\(%rsp' "$code" | grep -oE '0x[0-9a-f]+' | sort -u); do
+    [ $((below)) -le 128 ] || far=$far$below
+done
+holds "uses farther below it than 128 bytes" "$far" ""
 sections=$(size -A "$archive" | awk '{print $1}')
 holds "unwind tables" "$(echo "$sections" | grep -c '^\.eh_frame')" 0
 holds "data that is written" "$(echo "$sections" | grep -cE '^\.(data|bss|tdata|tbss)')" 0
