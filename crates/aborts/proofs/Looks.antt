@@ -9,7 +9,7 @@ use lib.ListN.{length}
 use Rattle.machine.specs.State.{State}
 use Rattle.machine.specs.Endpoints.{underAbort, wakeFrom}
 use Rattle.machine.specs.Aborts.{Looked, hits, lookAt, look, after, pendingAt, lookUpTo}
-use Rattle.machine.proofs.Looking.{mid-look}
+use Rattle.machine.proofs.Preserved.AbortSteps.{mid-look}
 use Rattle.layout.specs.declared.Field.{Field}
 use Rattle.layout.specs.declared.Part.{Part}
 use Rattle.layout.specs.Words.{firstOf}
@@ -19,8 +19,8 @@ use Rattle.store.specs.Store.{IsThread, IsEndpoint}
 use Rattle.store.specs.Readings.{endpointIn, threadIn}
 use Rattle.queues.specs.Queues.{Waits, passingAt}
 use Rattle.debts.specs.Debts.{Says, underIn}
-use Rattle.results.proofs.Ends.{shown-for}
-use Rattle.results.proofs.Conditions.{pending-queued, pending-endpoint, queued-waits}
+use Rattle.endings.proofs.Ends.{shown-for}
+use Rattle.endings.proofs.Conditions.{pending-queued, pending-endpoint, queued-waits}
 use Rattle.aborts.specs.Aborts.{Cursor, Within, looked, Looks}
 
 -- One look.

@@ -12,11 +12,11 @@ use Rattle.machine.specs.Results.{plain, accept}
 use Rattle.machine.specs.Aborts.{joinAs, join, workOwn, workOther, underBadge, abortFrom, ownsThis, dropUnless}
 use Rattle.machine.specs.Aborts.{dropOther, abortOpen, abortAt, hasNote, abortUnless, abort}
 use Rattle.machine.proofs.Lists.{clash}
-use Rattle.machine.proofs.Mid.{sound-mid}
-use Rattle.machine.proofs.Debts.{mid-forget, mid-dropDebt, dropDebt-drops}
-use Rattle.machine.proofs.Looking.{mid-join}
+use Rattle.machine.proofs.Preserved.Mid.{sound-mid}
+use Rattle.machine.proofs.Preserved.Debts.{mid-forget, mid-dropDebt, dropDebt-drops}
+use Rattle.machine.proofs.Preserved.AbortSteps.{mid-join}
 use Rattle.machine.specs.Mid.{clear, mine}
-use Rattle.machine.proofs.Aborting.{running-present, join-status, unowed, unowned, owns-this}
+use Rattle.machine.proofs.Preserved.Aborts.{running-present, join-status, unowed, unowned, owns-this}
 use Rattle.layout.specs.declared.Part.{Part}
 use Rattle.layout.specs.Words.{statusCode, abortCode}
 use Rattle.layout.specs.Shows.{Shows}
@@ -25,9 +25,9 @@ use Rattle.store.specs.Store.{IsThread, IsEndpoint, owing, Owes}
 use Rattle.store.specs.Readings.{endpointIn}
 use Rattle.queues.specs.Queues.{Chooses}
 use Rattle.debts.specs.Debts.{Says, Calls, Joins, underIn, notedIn}
-use Rattle.results.specs.Results.{Calling, Performs, Accepts}
-use Rattle.results.proofs.Ends.{refused, performs-as, performs-for, performs-after, does-for, shown-for}
-use Rattle.results.proofs.Conditions.{mid-chooses, running-thread, running-calls, running-joins}
+use Rattle.endings.specs.Results.{Calling, Performs, Accepts}
+use Rattle.endings.proofs.Ends.{refused, performs-as, performs-for, performs-after, does-for, shown-for}
+use Rattle.endings.proofs.Conditions.{mid-chooses, running-thread, running-calls, running-joins}
 use Rattle.aborts.specs.Aborts.{Open, Clear, Bare, Owing, Joining, Continues, beginning, joining, unnoted}
 
 -- Joining.

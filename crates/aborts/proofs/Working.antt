@@ -11,10 +11,10 @@ use Rattle.machine.specs.Results.{Result, Look, counted, accept}
 use Rattle.machine.specs.Aborts.{Looked, pendingAt, begin, ended, lookedOwn, workOwn, beginAfter, finished}
 use Rattle.machine.specs.Aborts.{lookedOther, workOther}
 use Rattle.machine.specs.Mid.{Mid}
-use Rattle.machine.proofs.Debts.{nothing-owns, live-present, mid-dropDebt, dropDebt-drops, mid-endAbort, endAbort-entry}
-use Rattle.machine.proofs.Debts.{endAbort-runs, endAbort-debt}
-use Rattle.machine.proofs.Looking.{mid-begin, mid-lookUpTo, steady-lookUpTo}
-use Rattle.machine.proofs.Aborting.{running-present, begin-status}
+use Rattle.machine.proofs.Preserved.Debts.{nothing-owns, live-present, mid-dropDebt, dropDebt-drops, mid-endAbort, endAbort-entry}
+use Rattle.machine.proofs.Preserved.Debts.{endAbort-runs, endAbort-debt}
+use Rattle.machine.proofs.Preserved.AbortSteps.{mid-begin, mid-lookUpTo, steady-lookUpTo}
+use Rattle.machine.proofs.Preserved.Aborts.{running-present, begin-status}
 use Rattle.layout.specs.declared.Part.{Part}
 use Rattle.layout.specs.Shows.{Shows}
 use Rattle.store.specs.Steps.{Shown, Does, Tells}
@@ -22,9 +22,9 @@ use Rattle.store.specs.Store.{IsEndpoint}
 use Rattle.store.specs.Readings.{endpointIn}
 use Rattle.queues.specs.Queues.{Chooses}
 use Rattle.debts.specs.Debts.{Debtor, Endable, Ends, Begins}
-use Rattle.results.specs.Results.{Performs, Accepts}
-use Rattle.results.proofs.Ends.{performs-as, performs-for, performs-after, does-for, shown-for}
-use Rattle.results.proofs.Conditions.{mid-chooses, running-debtor, mid-endable, running-begins}
+use Rattle.endings.specs.Results.{Performs, Accepts}
+use Rattle.endings.proofs.Ends.{performs-as, performs-for, performs-after, does-for, shown-for}
+use Rattle.endings.proofs.Conditions.{mid-chooses, running-debtor, mid-endable, running-begins}
 use Rattle.aborts.specs.Aborts.{Within, Open, Clear, Bare, looked, Looks, Continues, ending, beginning}
 use Rattle.aborts.proofs.Looks.{nothing-left, Begun, some-left, looks-few}
 

@@ -11,7 +11,7 @@ use Rattle.machine.specs.Results.{Result, Look}
 use Rattle.machine.specs.Aborts.{Looked, pendingAt, lookUpTo, begin, join, ended, workOwn, abortAt}
 use Rattle.machine.specs.Mid.{Mid, Owed}
 use Rattle.layout.specs.Shows.{Shows}
-use Rattle.results.specs.Results.{Performs}
+use Rattle.endings.specs.Results.{Performs}
 
 -- w is the cursor's waiter at e.
 pub record Cursor (e w : ℕ) (s : State) : Type 0 where

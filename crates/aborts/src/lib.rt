@@ -5,7 +5,7 @@ ghost use Prim.Native.Nat.{_+_, _≤_, _<_, _^_};
 ghost use mathlib.Core.Path.{_≡_};
 ghost use Rattle.machine.specs.Aborts.{look, workOwn, beginAfter, workOther, abortOpen, abort};
 ghost use Rattle.store.specs.Steps.{Shown, Does};
-ghost use Rattle.results.specs.Results.{Calling, Performs};
+ghost use Rattle.endings.specs.Results.{Calling, Performs};
 ghost use Rattle.aborts.specs.Aborts.{Cursor, Within, Open, Clear, Bare, Owing, Joining, Looks};
 ghost use Rattle.aborts.specs.Aborts.{Continues, ending, beginning, joining, unnoted};
 use layout::Field;
@@ -54,11 +54,11 @@ fn end_own(tables: &mut [u32], t: usize, e: usize, count: u32) -> Answer
 {
     let cursor = store::endpoint(tables, Part::Cursor, e);
     if cursor != 0 {
-        return results::accept(tables, results::counted(2, count));
+        return endings::accept(tables, endings::counted(2, count));
     }
     debts::drop_debt(tables, t);
     debts::end_abort(tables, e, LIVE);
-    results::accept(tables, results::counted(0, count))
+    endings::accept(tables, endings::counted(0, count))
 }
 
 // The call's own abort works; the call's earlier looks are counted with its own.
@@ -102,7 +102,7 @@ fn begin_after(
         (beginAfter left t e badge) (now (tables .exit)) ⌝ }
 {
     if left == 0 {
-        return results::accept(tables, results::counted(2, earlier));
+        return endings::accept(tables, endings::counted(2, earlier));
     }
     begin_own(tables, t, e, left, badge, earlier)
 }
@@ -116,7 +116,7 @@ fn work_other(tables: &mut [u32], t: usize, e: usize, allowance: u32, badge: u32
     let n = look_up_to(tables, e, allowance);
     let pending = store::endpoint(tables, Part::Cursor, e);
     if pending != 0 {
-        return results::accept(tables, results::counted(2, n));
+        return endings::accept(tables, endings::counted(2, n));
     }
     debts::end_abort(tables, e, LIVE);
     let rest = allowance - n;
@@ -157,10 +157,10 @@ fn abort_at(tables: &mut [u32], t: usize, e: usize, allowance: u32, badge: u32) 
 {
     let status = store::endpoint(tables, Part::Status, e);
     if status == 0 {
-        return results::plain(23);
+        return endings::plain(23);
     }
     if status == 2 {
-        return results::plain(25);
+        return endings::plain(25);
     }
     debts::drop_other(tables, t, e, badge);
     abort_open(tables, t, e, allowance, badge)
@@ -175,7 +175,7 @@ pub fn abort(tables: &mut [u32], t: usize, e: usize, allowance: u32, badge: u32)
     let noted = debts::has_note(tables, t, e, badge);
     if noted {
         store::set_owes(tables, t, 0, 0);
-        return results::accept(tables, results::plain(0));
+        return endings::accept(tables, endings::plain(0));
     }
     abort_at(tables, t, e, allowance, badge)
 }

@@ -6,7 +6,7 @@ use mathlib.Core.Option.{Option, none}
 use Rattle.machine.specs.declared.Answer.{Answer}
 use Rattle.machine.specs.declared.Call.{Call}
 use Rattle.machine.specs.Results.{plain}
-use Rattle.tables.specs.Entries.{Checked, checked}
+use Rattle.lent_tables.specs.Entries.{Checked, checked}
 use Rattle.journal.specs.declared.types.Written.{Written}
 use Rattle.journal.specs.declared.types.Named.{Named}
 use Rattle.journal.specs.Steps.{named, nameOf}

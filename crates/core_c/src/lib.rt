@@ -4,7 +4,7 @@
 // test, and what the reader gives is what a call takes. Numbers that name no call are refused by 18, after 16 and 17.
 ghost use mathlib.Core.Path.{_≡_};
 ghost use mathlib.Core.Option.{none};
-ghost use Rattle.tables.specs.Entries.{Freshened, Checked, freshened, checked};
+ghost use Rattle.lent_tables.specs.Entries.{Freshened, Checked, freshened, checked};
 ghost use Rattle.journal.specs.declared.types.Written.{Written};
 ghost use Rattle.journal.specs.Steps.{nameOf};
 ghost use Rattle.kernel.specs.Entry.{Called, runningLink};
@@ -33,7 +33,7 @@ pub extern "C" fn nazsombet_fresh(tables: &mut [u32]) -> u32
     ensures { λ r. ⌜ _≡_ {A = Freshened} (record { code = r; tables = now (tables .exit) })
         (freshened (now (tables .entry))) ⌝ }
 {
-    tables::fresh(tables)
+    lent_tables::fresh(tables)
 }
 
 // Whether the tables show a sound state; they are not changed.
@@ -42,7 +42,7 @@ pub extern "C" fn nazsombet_check(tables: &[u32], scratch: &mut [u32]) -> u32
     ensures { λ r. ⌜ _≡_ {A = Checked} (record { code = r; scratch = now (scratch .exit) })
         (checked (now (tables .entry)) (now (scratch .entry))) ⌝ }
 {
-    tables::check(tables, scratch)
+    lent_tables::check(tables, scratch)
 }
 
 // The numbers name no call: 18, if the tables are sound.
@@ -51,11 +51,11 @@ fn refuse(tables: &[u32], scratch: &mut [u32]) -> Answer
         (record { answer = r; tables = now (tables .entry); scratch = now (scratch .exit) })
         (calledFor none (now (tables .entry)) (now (scratch .entry))) ⌝ }
 {
-    let code = tables::check(tables, scratch);
+    let code = lent_tables::check(tables, scratch);
     if code != 0 {
-        return results::plain(code);
+        return endings::plain(code);
     }
-    results::plain(18)
+    endings::plain(18)
 }
 
 // Takes the call that the numbers name, if they name one.

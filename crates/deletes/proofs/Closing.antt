@@ -10,12 +10,12 @@ use Rattle.machine.specs.State.{State, missing, closing, Endpoint, missingEndpo
 use Rattle.machine.specs.Endpoints.{ownerOf, wakeFrom, dropDebt, endAbort}
 use Rattle.machine.specs.Aborts.{oneMore, removeUpTo}
 use Rattle.machine.specs.Mid.{Mid}
-use Rattle.machine.proofs.Keeping.{mid-entry}
-use Rattle.machine.proofs.Ready.{none-some}
-use Rattle.machine.proofs.Debts.{closing-present, closing-live, mid-dropDebt, dropDebt-drops, mid-endAbort}
-use Rattle.machine.proofs.Debts.{endAbort-entry}
-use Rattle.machine.proofs.Waking.{mid-wakeFrom}
-use Rattle.machine.proofs.Looking.{steady-wakeFrom}
+use Rattle.machine.proofs.Preserved.Statuses.{mid-entry}
+use Rattle.machine.proofs.Preserved.Ready.{none-some}
+use Rattle.machine.proofs.Preserved.Debts.{closing-present, closing-live, mid-dropDebt, dropDebt-drops, mid-endAbort}
+use Rattle.machine.proofs.Preserved.Debts.{endAbort-entry}
+use Rattle.machine.proofs.Preserved.Waking.{mid-wakeFrom}
+use Rattle.machine.proofs.Preserved.AbortSteps.{steady-wakeFrom}
 use Rattle.deletes.specs.Deletes.{Closes, removal}
 
 -- The caller's debt and the endpoint's abort go.

@@ -8,8 +8,8 @@ use Rattle.machine.specs.State.{State, Status, missing, live, closing, missingE
 use Rattle.machine.specs.Endpoints.{dropDebt, endAbort}
 use Rattle.machine.specs.Results.{Result, plain, counted, accept, refuse}
 use Rattle.machine.specs.Aborts.{deleted, deleteFrom, deleteAt, delete}
-use Rattle.machine.proofs.Mid.{sound-mid}
-use Rattle.machine.proofs.Debts.{mid-dropDebt}
+use Rattle.machine.proofs.Preserved.Mid.{sound-mid}
+use Rattle.machine.proofs.Preserved.Debts.{mid-dropDebt}
 use Rattle.layout.specs.declared.Part.{Part}
 use Rattle.layout.specs.Words.{statusCode}
 use Rattle.layout.specs.Shows.{Shows}
@@ -19,9 +19,9 @@ use Rattle.store.specs.Store.{IsEndpoint, Stands}
 use Rattle.store.specs.Readings.{endpointIn}
 use Rattle.queues.specs.Queues.{Chooses}
 use Rattle.debts.specs.Debts.{Debtor, Endable, Ends}
-use Rattle.results.specs.Results.{Calling, Performs, Accepts}
-use Rattle.results.proofs.Ends.{refused, performs-as, performs-after, shown-for}
-use Rattle.results.proofs.Conditions.{mid-chooses, mid-endable, running-debtor}
+use Rattle.endings.specs.Results.{Calling, Performs, Accepts}
+use Rattle.endings.proofs.Ends.{refused, performs-as, performs-after, shown-for}
+use Rattle.endings.proofs.Conditions.{mid-chooses, mid-endable, running-debtor}
 use Rattle.deletes.specs.Deletes.{Closes, removal, Removes}
 use Rattle.deletes.proofs.Closing.{closes-ended, closes-removal, closes-bare, mid-missing}
 use Rattle.deletes.proofs.Removing.{nobody, somebody}

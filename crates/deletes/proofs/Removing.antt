@@ -15,7 +15,7 @@ use Rattle.layout.proofs.Chains.{first-zero}
 use Rattle.store.specs.Steps.{Shown, Does}
 use Rattle.queues.specs.Queues.{Waits}
 use Rattle.debts.proofs.Firsts.{first-waiter}
-use Rattle.results.proofs.Conditions.{first-waits}
+use Rattle.endings.proofs.Conditions.{first-waits}
 use Rattle.deletes.specs.Deletes.{Closes, removal, Removes}
 use Rattle.deletes.proofs.Closing.{closes-woken}
 

@@ -12,11 +12,11 @@ use Rattle.machine.specs.State.{State, Status, missing, live, closing, Endpoint
 use Rattle.machine.specs.Results.{plain}
 use Rattle.machine.specs.Machine.{createAt, createEndpoint, perform, performIf, step, tick}
 use Rattle.machine.specs.Sound.{Sound}
-use Rattle.machine.proofs.Running.{choose-keeps}
-use Rattle.machine.proofs.Steps.{step-sound, fresh-sound}
+use Rattle.machine.proofs.Calls.Running.{choose-keeps}
+use Rattle.machine.proofs.Preserved.Steps.{step-sound, fresh-sound}
 use Rattle.layout.specs.Words.{image}
 use Rattle.layout.proofs.Decode.{image-injective}
-use Rattle.tables.specs.Entries.{zeros}
+use Rattle.lent_tables.specs.Entries.{zeros}
 use Rattle.kernel.specs.Entry.{Called, called}
 use Rattle.kernel.specs.Kept.{Kept}
 use Rattle.kernel.proofs.Kept.{kept-only}

@@ -26,8 +26,8 @@ use Rattle.layout.proofs.Tests.{tells-and, tells-eqb, tells-leb}
 use Rattle.store.specs.Steps.{Shown, Tells}
 use Rattle.store.specs.Store.{Any}
 use Rattle.store.specs.Readings.{runningIn}
-use Rattle.results.specs.Results.{Asked, Calling, Performs}
-use Rattle.results.proofs.Ends.{refused, performs-as, performs-for, shown-for}
+use Rattle.endings.specs.Results.{Asked, Calling, Performs}
+use Rattle.endings.proofs.Ends.{refused, performs-as, performs-for, shown-for}
 use Rattle.kernel.specs.Steps.{Ranged, Served, stepping}
 use Rattle.kernel.proofs.Ranges.{thread-priority, endpoint-badge-message, endpoint-allowance}
 use Rattle.kernel.proofs.Ranges.{endpoint-allowance-badge}

@@ -14,13 +14,13 @@ use Rattle.machine.specs.State.{State}
 use Rattle.machine.specs.Results.{plain}
 use Rattle.machine.specs.Machine.{step}
 use Rattle.machine.specs.Sound.{Sound}
-use Rattle.machine.proofs.Steps.{step-sound}
-use Rattle.checks.specs.Tables.{stateOf}
+use Rattle.machine.proofs.Preserved.Steps.{step-sound}
+use Rattle.soundness.specs.Tables.{stateOf}
 use Rattle.layout.proofs.Image.{shows-image}
-use Rattle.checks.proofs.Tables.{state-exact, state-shows}
-use Rattle.tables.specs.Entries.{Checked, verdict, checked}
+use Rattle.soundness.proofs.Tables.{state-exact, state-shows}
+use Rattle.lent_tables.specs.Entries.{Checked, verdict, checked}
 use Rattle.store.specs.Steps.{Shown}
-use Rattle.results.specs.Results.{Performs}
+use Rattle.endings.specs.Results.{Performs}
 use Rattle.kernel.specs.Entry.{Called, taken, called}
 use Rattle.kernel.specs.Steps.{stepping}
 

@@ -13,14 +13,14 @@ use Rattle.machine.specs.Results.{Result, plain}
 use Rattle.machine.specs.Refusals.{refusalOf}
 use Rattle.machine.specs.Sound.{Sound}
 use Rattle.machine.proofs.Lists.{clash}
-use Rattle.machine.proofs.Refusals.{refused-exactly, accepted-exactly}
-use Rattle.machine.proofs.Steps.{step-sound}
+use Rattle.machine.proofs.Calls.Refusals.{refused-exactly, accepted-exactly}
+use Rattle.machine.proofs.Preserved.Steps.{step-sound}
 use Rattle.layout.specs.Words.{image}
-use Rattle.checks.specs.Tables.{stateOf}
-use Rattle.checks.proofs.Tables.{state-exact}
+use Rattle.soundness.specs.Tables.{stateOf}
+use Rattle.soundness.proofs.Tables.{state-exact}
 use Rattle.layout.proofs.Ends.{none-some}
 use Rattle.layout.proofs.Tests.{Tells, tells-and, tells-eqb}
-use Rattle.tables.specs.Entries.{zeros}
+use Rattle.lent_tables.specs.Entries.{zeros}
 use Rattle.kernel.specs.Entry.{Called, taken, called}
 use Rattle.kernel.specs.Kept.{Kept, lengths, unsound, refused, holds}
 use Rattle.kernel.proofs.Entry.{calledOf}

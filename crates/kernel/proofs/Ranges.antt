@@ -6,7 +6,7 @@ use borrow.Author.Tests.{leb-true, ltb-true}
 use Rattle.machine.specs.declared.Call.the-variants.{CreateThread}
 use Rattle.machine.specs.declared.Call.the-variants.{Send, Delete, Abort}
 use Rattle.machine.specs.Calls.{isAllowance}
-use Rattle.machine.proofs.Aborting.{both-true}
+use Rattle.machine.proofs.Preserved.Aborts.{both-true}
 use Rattle.kernel.specs.Steps.{Ranged}
 
 pub thread-priority : {t p : ℕ} → Ranged (CreateThread t p) → (t ≤ 255) × (p ≤ 255)

@@ -15,12 +15,12 @@ use Rattle.machine.specs.Results.{plain}
 use Rattle.machine.specs.Machine.{step}
 use Rattle.machine.specs.Sound.{Sound}
 use Rattle.machine.specs.History.{Run, freshRun, runFrom, recorded, told}
-use Rattle.machine.proofs.Demand.{demand}
-use Rattle.machine.proofs.Steps.{step-sound, fresh-sound}
+use Rattle.machine.proofs.Demand3.Demand.{demand}
+use Rattle.machine.proofs.Preserved.Steps.{step-sound, fresh-sound}
 use Rattle.layout.specs.Words.{image}
 use Rattle.layout.proofs.Image.{length-image}
-use Rattle.checks.proofs.Tables.{state-image}
-use Rattle.tables.specs.Entries.{zeros, freshened}
+use Rattle.soundness.proofs.Tables.{state-image}
+use Rattle.lent_tables.specs.Entries.{zeros, freshened}
 use Rattle.kernel.specs.Entry.{Called, called}
 use Rattle.kernel.specs.Turns.{Attempt, turns, made, filled, Demanded}
 

@@ -13,8 +13,8 @@ use Rattle.machine.specs.Results.{plain}
 use Rattle.machine.specs.Machine.{step}
 use Rattle.layout.specs.Addresses.{word, at, running}
 use Rattle.layout.specs.Words.{image}
-use Rattle.checks.specs.Tables.{stateOf}
-use Rattle.tables.specs.Entries.{zeros}
+use Rattle.soundness.specs.Tables.{stateOf}
+use Rattle.lent_tables.specs.Entries.{zeros}
 
 -- The answer given, and the tables and the scratch left.
 pub record Called : Type 0 where

@@ -12,7 +12,7 @@ use Rattle.machine.specs.Machine.{step}
 use Rattle.machine.specs.Refusals.{refusalOf}
 use Rattle.machine.specs.Sound.{Sound}
 use Rattle.layout.specs.Words.{image}
-use Rattle.tables.specs.Entries.{zeros}
+use Rattle.lent_tables.specs.Entries.{zeros}
 use Rattle.kernel.specs.Entry.{Called}
 
 -- What the call c on the tables m and the scratch comes to: one case for each cause of document 01's list, in its

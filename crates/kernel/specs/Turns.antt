@@ -14,7 +14,7 @@ use Rattle.machine.specs.Machine.{step}
 use Rattle.machine.specs.History.{freshRun, runFrom, historyOf}
 use Rattle.machine.specs.Claim.{Claim}
 use Rattle.layout.specs.Words.{image}
-use Rattle.tables.specs.Entries.{freshened}
+use Rattle.lent_tables.specs.Entries.{freshened}
 use Rattle.kernel.specs.Entry.{called}
 
 -- A call and the scratch lent with it.

@@ -3,7 +3,7 @@ ghost use mathlib.Core.Path.{_≡_};
 ghost use Rattle.machine.specs.Machine.{perform};
 ghost use Rattle.machine.specs.Sound.{Sound};
 ghost use Rattle.store.specs.Steps.{Shown};
-ghost use Rattle.results.specs.Results.{Asked, Performs};
+ghost use Rattle.endings.specs.Results.{Asked, Performs};
 ghost use Rattle.kernel.specs.Entry.{Called, called, runningLink};
 ghost use Rattle.kernel.specs.Steps.{Ranged, Served, stepping};
 use machine::Answer;
@@ -69,7 +69,7 @@ fn perform(tables: &mut [u32], c: Call) -> Answer
     let link = store::running(tables);
     let number = machine::number(c);
     if (link == 0) & (number >= 7) {
-        return results::plain(20);
+        return endings::plain(20);
     }
     carry_out(tables, link, c)
 }
@@ -81,7 +81,7 @@ fn step(tables: &mut [u32], c: Call) -> Answer
 {
     let fits = machine::in_range(c);
     if !fits {
-        return results::plain(19);
+        return endings::plain(19);
     }
     perform(tables, c)
 }
@@ -92,9 +92,9 @@ pub fn call(tables: &mut [u32], scratch: &mut [u32], c: Call) -> Answer
         (record { answer = r; tables = now (tables .exit); scratch = now (scratch .exit) })
         (called (now (tables .entry)) (now (scratch .entry)) c) ⌝ }
 {
-    let code = tables::check(tables, scratch);
+    let code = lent_tables::check(tables, scratch);
     if code != 0 {
-        return results::plain(code);
+        return endings::plain(code);
     }
     step(tables, c)
 }

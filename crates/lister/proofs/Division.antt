@@ -7,10 +7,10 @@ use native.Mathlib.Omega.{arith}
 use borrow.Author.Tests.{eq-eqb}
 use lib.ListN.{length}
 use Rattle.machine.specs.State.{freshState}
-use Rattle.machine.proofs.Steps.{fresh-sound}
+use Rattle.machine.proofs.Preserved.Steps.{fresh-sound}
 use Rattle.journal.specs.Rows.{rowsOf}
 use Rattle.layout.specs.Words.{image}
-use Rattle.tables.specs.Entries.{freshened}
+use Rattle.lent_tables.specs.Entries.{freshened}
 use Rattle.listing.specs.Line.{header}
 use Rattle.input.specs.Words.{wordsIn}
 use Rattle.lister.specs.Listing.{linesOf, oddRows, rowsIn, listingOf, callRows, Begins}

@@ -18,10 +18,10 @@ use Rattle.journal.specs.declared.types.Read.{Read}
 use Rattle.journal.specs.declared.types.Read.the-variants.{Found, Refused}
 use Rattle.journal.specs.Words.{readAt}
 use Rattle.layout.specs.Words.{image, linkOf}
-use Rattle.tables.specs.Entries.{zeros}
+use Rattle.lent_tables.specs.Entries.{zeros}
 use Rattle.listing.specs.Line.{lineOf}
 use Rattle.kernel.specs.Entry.{Called, runningLink}
-use Rattle.machine.proofs.Steps.{step-sound}
+use Rattle.machine.proofs.Preserved.Steps.{step-sound}
 use Rattle.kernel.proofs.Runner.{running-image}
 use Rattle.kernel.proofs.Turns.{called-image}
 use Rattle.input.specs.Words.{wordsIn}

@@ -10,12 +10,12 @@ use Rattle.machine.specs.declared.Call.{Call}
 use Rattle.machine.specs.State.{State}
 use Rattle.machine.specs.Machine.{step}
 use Rattle.machine.specs.Sound.{Sound}
-use Rattle.machine.proofs.Steps.{step-sound}
+use Rattle.machine.proofs.Preserved.Steps.{step-sound}
 use Rattle.journal.specs.declared.types.Read.{Read}
 use Rattle.journal.specs.declared.types.Read.the-variants.{Found, Refused, Ended}
 use Rattle.journal.specs.Words.{readAt, readFrom}
 use Rattle.journal.specs.Rows.{Row, rowsFrom}
-use Rattle.tables.specs.Entries.{zeros}
+use Rattle.lent_tables.specs.Entries.{zeros}
 use Rattle.input.specs.Words.{wordsIn}
 use Rattle.lister.specs.Listing.{lineFor, linesOf, lastRow, callRows, Begins}
 use Rattle.lister.specs.Feeding.{Told, ready, holding, fed, ending}

@@ -1,51 +1,11 @@
--- Lists; then what holds in the middle of a call, and that every call keeps the tables sound.
+-- Facts about lists, of threads and of names.
 pub mod Lists
-pub mod Mid
-pub mod Parts
-pub mod Ready
-pub mod Sites
-pub mod Waking
-pub mod Choosing
-pub mod Keeping
-pub mod Debts
-pub mod Looking
-pub mod Deleting
-pub mod Aborting
-pub mod Threads
-pub mod Transfers
-pub mod Interrupts
-pub mod Steps
--- What a reader asks of single calls.
-pub mod Running
-pub mod Ticks
-pub mod Marks
-pub mod Loops
-pub mod Shapes
-pub mod Answers
-pub mod Refusals
--- Demand 3: the invariant of a list of calls and its history, call by call, and the theorem.
 pub mod Sublists
-pub mod Standing
-pub mod Owing
-pub mod Leaving
-pub mod Blocking
-pub mod Turns
-pub mod Ending
-pub mod Walks
-pub mod Looks
-pub mod Runs
-pub mod Finishing
-pub mod Joining
-pub mod Deletions
-pub mod Handing
-pub mod Invariant
-pub mod Recording
-pub mod Advancing
-pub mod Breaking
-pub mod Answering
-pub mod Demand
+-- What holds in the middle of a call, and that every call keeps the tables sound.
+pub mod Preserved
+-- What a reader asks of single calls.
+pub mod Calls
+-- Demand 3: the invariant of a list of calls and its history, call by call, and the theorem.
+pub mod Demand3
 -- Runs that the checker computes: histories compared with tables, and machines that the claim refuses.
-pub mod Computed
-pub mod Histories
-pub mod Wrong
-pub mod Bites
+pub mod Runs

@@ -12,7 +12,7 @@ use Rattle.machine.specs.State.{State, setRuns, setLevel}
 use Rattle.machine.specs.Scheduling.{standDown, highest, dispatchHead, dispatchAt, dispatch}
 use Rattle.machine.specs.Scheduling.{displace, chooseFor, choose}
 use Rattle.machine.proofs.Lists.{without-first}
-use Rattle.machine.proofs.Choosing.{Highest, highest-is}
+use Rattle.machine.proofs.Preserved.Choosing.{Highest, highest-is}
 use Rattle.summary.specs.declared.Summary.{Summary}
 use Rattle.summary.specs.declared.Level.{Level}
 use Rattle.summary.specs.declared.Level.the-variants.{At, Nothing}

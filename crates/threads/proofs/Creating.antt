@@ -8,8 +8,8 @@ use Rattle.machine.specs.State.{State, Place, absent}
 use Rattle.machine.specs.Scheduling.{enqueue}
 use Rattle.machine.specs.Results.{plain, done}
 use Rattle.machine.specs.Machine.{isAbsent, createIf, createThread}
-use Rattle.machine.proofs.Mid.{sound-mid}
-use Rattle.machine.proofs.Sites.{differ}
+use Rattle.machine.proofs.Preserved.Mid.{sound-mid}
+use Rattle.machine.proofs.Preserved.Sites.{differ}
 use Rattle.layout.specs.declared.Field.{Field}
 use Rattle.layout.specs.Shows.{Shows}
 use Rattle.store.specs.Steps.{Shown, Does, Tells}
@@ -17,9 +17,9 @@ use Rattle.store.specs.Store.{IsThread, newThread, creating}
 use Rattle.store.specs.Readings.{threadIn}
 use Rattle.queues.specs.Queues.{Loose, Chooses}
 use Rattle.queues.proofs.Joining.{shown-next, and-then}
-use Rattle.results.specs.Results.{Asked, Performs}
-use Rattle.results.proofs.Ends.{refused, performs-as, performs-after, does-for}
-use Rattle.results.proofs.Conditions.{created-loose}
+use Rattle.endings.specs.Results.{Asked, Performs}
+use Rattle.endings.proofs.Ends.{refused, performs-as, performs-after, does-for}
+use Rattle.endings.proofs.Conditions.{created-loose}
 use Rattle.threads.specs.Threads.{InRange}
 use Rattle.threads.proofs.Runner.{mid-apart, apart-chooses, apart-thread, apart-enqueue}
 use Rattle.threads.proofs.Places.{code-absent, code-present}

@@ -11,9 +11,9 @@ use Rattle.machine.specs.Results.{plain, done}
 use Rattle.machine.specs.Machine.{isAbsent, leave, destroyIf, destroyThread}
 use Rattle.machine.specs.Sound.{Present}
 use Rattle.machine.proofs.Lists.{clash}
-use Rattle.machine.proofs.Mid.{sound-mid}
-use Rattle.machine.proofs.Keeping.{keeps-place}
-use Rattle.machine.proofs.Debts.{mid-dropDebt, dropDebt-drops}
+use Rattle.machine.proofs.Preserved.Mid.{sound-mid}
+use Rattle.machine.proofs.Preserved.Statuses.{keeps-place}
+use Rattle.machine.proofs.Preserved.Debts.{mid-dropDebt, dropDebt-drops}
 use Rattle.layout.specs.declared.Field.{Field}
 use Rattle.layout.specs.Words.{placeCode}
 use Rattle.layout.specs.Shows.{Shows}
@@ -23,9 +23,9 @@ use Rattle.store.specs.Readings.{threadIn}
 use Rattle.queues.specs.Queues.{Chooses}
 use Rattle.queues.proofs.Joining.{shown-next, and-then}
 use Rattle.debts.specs.Debts.{Debtor}
-use Rattle.results.specs.Results.{Asked, Performs}
-use Rattle.results.proofs.Ends.{refused, performs-as, performs-after, does-for, shown-for}
-use Rattle.results.proofs.Conditions.{mid-debtor}
+use Rattle.endings.specs.Results.{Asked, Performs}
+use Rattle.endings.proofs.Ends.{refused, performs-as, performs-after, does-for, shown-for}
+use Rattle.endings.proofs.Conditions.{mid-debtor}
 use Rattle.threads.specs.Threads.{Goes, leaving}
 use Rattle.threads.proofs.Runner.{mid-apart, apart-chooses, apart-thread, apart-leave}
 use Rattle.threads.proofs.Places.{code-absent, code-present}

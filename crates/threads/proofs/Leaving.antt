@@ -14,8 +14,8 @@ use Rattle.machine.specs.Endpoints.{leaveEndpoint}
 use Rattle.machine.specs.Machine.{isRunning, leaveReady, leave}
 use Rattle.machine.specs.Sound.{Present, Queued}
 use Rattle.machine.specs.Mid.{Mid}
-use Rattle.machine.proofs.Sites.{not-awaited}
-use Rattle.machine.proofs.Threads.{not-running}
+use Rattle.machine.proofs.Preserved.Sites.{not-awaited}
+use Rattle.machine.proofs.Preserved.Threads.{not-running}
 use Rattle.layout.specs.declared.Field.{Field}
 use Rattle.layout.specs.Words.{placeCode}
 use Rattle.layout.specs.Shows.{Shows}
@@ -25,8 +25,8 @@ use Rattle.store.specs.Store.{IsThread, IsLine, Runs, Lines}
 use Rattle.store.specs.Readings.{threadIn}
 use Rattle.queues.specs.Queues.{Stands, Waits}
 use Rattle.debts.specs.Debts.{Says}
-use Rattle.results.proofs.Ends.{shown-for}
-use Rattle.results.proofs.Conditions.{present-thread, ready-stands, queued-waits}
+use Rattle.endings.proofs.Ends.{shown-for}
+use Rattle.endings.proofs.Conditions.{present-thread, ready-stands, queued-waits}
 use Rattle.threads.specs.Threads.{readyIn, Able, leavingReady, CanLeave, Goes, leaving}
 use Rattle.threads.proofs.Places.{able-idle, able-runs}
 

@@ -11,7 +11,7 @@ use Rattle.machine.specs.State.{State, Place, absent, able, sending, receiving,
 use Rattle.machine.specs.Machine.{isAbsent, isAble, isRunning}
 use Rattle.machine.specs.Sound.{Ready}
 use Rattle.machine.proofs.Lists.{Same, same, other, same?, clash}
-use Rattle.machine.proofs.Threads.{not-running}
+use Rattle.machine.proofs.Preserved.Threads.{not-running}
 use Rattle.layout.specs.declared.Field.{Field}
 use Rattle.layout.specs.Words.{placeCode, linkOf}
 use Rattle.store.specs.Steps.{Tells}

@@ -11,7 +11,7 @@ use Rattle.machine.specs.Scheduling.{enqueue, unqueue}
 use Rattle.machine.specs.Results.{plain, done}
 use Rattle.machine.specs.Machine.{isAbsent, moveReady, changeUnless, priorityIf, setPriority}
 use Rattle.machine.proofs.Lists.{clash}
-use Rattle.machine.proofs.Mid.{sound-mid}
+use Rattle.machine.proofs.Preserved.Mid.{sound-mid}
 use Rattle.layout.specs.declared.Field.{Field}
 use Rattle.layout.specs.Shows.{Shows}
 use Rattle.store.specs.Steps.{Shown, Does, Tells}
@@ -20,9 +20,9 @@ use Rattle.store.specs.Readings.{threadIn}
 use Rattle.queues.specs.Queues.{Loose, Stands, Chooses}
 use Rattle.queues.proofs.Joining.{shown-next, and-then}
 use Rattle.debts.specs.Debts.{Says}
-use Rattle.results.specs.Results.{Asked, Performs}
-use Rattle.results.proofs.Ends.{refused, performs-as, performs-for, performs-after, shown-for}
-use Rattle.results.proofs.Conditions.{present-thread, ready-stands, moved-loose, mid-chooses}
+use Rattle.endings.specs.Results.{Asked, Performs}
+use Rattle.endings.proofs.Ends.{refused, performs-as, performs-for, performs-after, shown-for}
+use Rattle.endings.proofs.Conditions.{present-thread, ready-stands, moved-loose, mid-chooses}
 use Rattle.threads.specs.Threads.{InRange, readyIn, Changes, changing}
 use Rattle.threads.proofs.Runner.{Apart, mid-apart, apart-chooses, apart-thread, apart-enqueue, apart-unqueue}
 use Rattle.threads.proofs.Places.{code-absent, code-present, ready-is}

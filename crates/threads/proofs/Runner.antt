@@ -13,11 +13,11 @@ use Rattle.machine.specs.Endpoints.{passing, leaveEndpoint}
 use Rattle.machine.specs.Machine.{isRunning, leaveReady, leave}
 use Rattle.machine.proofs.Lists.{put-all, mem-snoc, mem-without}
 use Rattle.machine.specs.Mid.{Mid}
-use Rattle.machine.proofs.Ready.{none-some}
-use Rattle.machine.proofs.Sites.{not-at}
-use Rattle.machine.proofs.Aborting.{running-present}
+use Rattle.machine.proofs.Preserved.Ready.{none-some}
+use Rattle.machine.proofs.Preserved.Sites.{not-at}
+use Rattle.machine.proofs.Preserved.Aborts.{running-present}
 use Rattle.queues.specs.Queues.{Chooses}
-use Rattle.results.proofs.Conditions.{free-of, present-level, running-thread}
+use Rattle.endings.proofs.Conditions.{free-of, present-level, running-thread}
 
 -- u, in range, stands in no queue.
 pub record Outside (s : State) (u : ℕ) : Type 0 where

@@ -12,9 +12,9 @@ use Rattle.machine.specs.Results.{done}
 use Rattle.machine.specs.Machine.{leaveTicks, tickFor, tick, yield}
 use Rattle.machine.proofs.Lists.{put-same}
 use Rattle.machine.specs.Mid.{Mid}
-use Rattle.machine.proofs.Mid.{sound-mid}
-use Rattle.machine.proofs.Aborting.{running-present}
-use Rattle.machine.proofs.Debts.{mid-dropDebt, dropDebt-drops}
+use Rattle.machine.proofs.Preserved.Mid.{sound-mid}
+use Rattle.machine.proofs.Preserved.Aborts.{running-present}
+use Rattle.machine.proofs.Preserved.Debts.{mid-dropDebt, dropDebt-drops}
 use Rattle.layout.specs.Words.{linkOf, queuesOf}
 use Rattle.layout.specs.Shows.{Shows}
 use Rattle.store.specs.Steps.{Shown, Does, Tells}
@@ -27,9 +27,9 @@ use Rattle.queues.specs.Queues.{Loose, Chooses}
 use Rattle.queues.proofs.Joining.{shown-next, and-then}
 use Rattle.queues.proofs.Choosing.{runner}
 use Rattle.debts.specs.Debts.{Debtor}
-use Rattle.results.specs.Results.{Asked, Calling, Performs}
-use Rattle.results.proofs.Ends.{performs-after, does-for, shown-for}
-use Rattle.results.proofs.Conditions.{running-thread, running-loose, running-debtor, present-level}
+use Rattle.endings.specs.Results.{Asked, Calling, Performs}
+use Rattle.endings.proofs.Ends.{performs-after, does-for, shown-for}
+use Rattle.endings.proofs.Conditions.{running-thread, running-loose, running-debtor, present-level}
 use Rattle.threads.specs.Threads.{tickingFor}
 use Rattle.threads.proofs.Runner.{Apart, mid-apart, apart-chooses, apart-thread, stood-apart}
 

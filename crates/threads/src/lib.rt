@@ -7,7 +7,7 @@ ghost use Rattle.store.specs.Steps.{Shown, Does};
 ghost use Rattle.store.specs.Store.{IsThread};
 ghost use Rattle.queues.specs.Queues.{Chooses};
 ghost use Rattle.debts.specs.Debts.{Says};
-ghost use Rattle.results.specs.Results.{Asked, Calling, Performs};
+ghost use Rattle.endings.specs.Results.{Asked, Calling, Performs};
 ghost use Rattle.threads.specs.Threads.{readyIn, Able, leavingReady, Goes, leaving, Changes, changing};
 ghost use Rattle.threads.specs.Threads.{tickingFor, InRange};
 use layout::Field;
@@ -34,11 +34,11 @@ pub fn create_thread(tables: &mut [u32], t: usize, p: u32) -> Answer
 {
     let place = store::thread(tables, Field::Place, t);
     if place != 0 {
-        return results::plain(22);
+        return endings::plain(22);
     }
     store::new_thread(tables, t, p);
     queues::enqueue(tables, t);
-    results::done(tables)
+    endings::done(tables)
 }
 
 // An able thread t stops running, or leaves its level's queue.
@@ -81,12 +81,12 @@ pub fn destroy_thread(tables: &mut [u32], t: usize) -> Answer
 {
     let place = store::thread(tables, Field::Place, t);
     if place == 0 {
-        return results::plain(21);
+        return endings::plain(21);
     }
     debts::drop_debt(tables, t); // the abort that it owned stands without an owner
     leave(tables, t, place);
     store::clear_thread(tables, t);
-    results::done(tables)
+    endings::done(tables)
 }
 
 // Thread t gets another priority, and goes to the new tail if it is ready.
@@ -111,14 +111,14 @@ pub fn set_priority(tables: &mut [u32], t: usize, p: u32) -> Answer
 {
     let place = store::thread(tables, Field::Place, t);
     if place == 0 {
-        return results::plain(21);
+        return endings::plain(21);
     }
     let old = store::thread(tables, Field::Priority, t);
     if old == p {
-        return results::done(tables);
+        return endings::done(tables);
     }
     change(tables, t, p);
-    results::done(tables)
+    endings::done(tables)
 }
 
 // The running thread u has a tick less; at the last it has 5 again and goes to its tail. The tick changes the thread's
@@ -154,7 +154,7 @@ pub fn tick(tables: &mut [u32]) -> Answer
     ensures { λ r. ⌜ Performs (now (tables .entry)) (now (tables .exit)) r (Asked (Unit {0})) ticking ⌝ }
 {
     tick_running(tables);
-    results::done(tables)
+    endings::done(tables)
 }
 
 // 9: the running thread t goes to its level's tail.
@@ -164,5 +164,5 @@ pub fn yield_running(tables: &mut [u32], t: usize) -> Answer
 {
     debts::drop_debt(tables, t); // an accepted call of the owner drops it
     queues::stand_down(tables, t);
-    results::done(tables)
+    endings::done(tables)
 }

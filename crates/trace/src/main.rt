@@ -89,6 +89,6 @@ fn run(tables: &mut [u32], scratch: &mut [u32]) {
 fn main() {
     let mut tables = [0u32; 4096];
     let mut scratch = [0u32; 256];
-    tables::fresh(&mut tables);
+    lent_tables::fresh(&mut tables);
     run(&mut tables, &mut scratch);
 }

@@ -15,8 +15,8 @@ use Rattle.store.specs.Store.{IsThread, IsLine, Lines}
 use Rattle.store.specs.Readings.{lineIn}
 use Rattle.queues.specs.Queues.{Chooses}
 use Rattle.debts.specs.Debts.{Debtor}
-use Rattle.results.specs.Results.{Calling, Performs}
-use Rattle.results.proofs.Ends.{refused, performs-as, performs-after}
+use Rattle.endings.specs.Results.{Calling, Performs}
+use Rattle.endings.proofs.Ends.{refused, performs-as, performs-after}
 use Rattle.transfers.specs.Transfers.{Dropped, Suspends}
 use Rattle.queues.proofs.Joining.{shown-next}
 use Rattle.transfers.proofs.Callers.{calling-thread, dropped-mid, dropped-first}

@@ -8,13 +8,13 @@ use Rattle.machine.specs.State.{State}
 use Rattle.machine.specs.Endpoints.{dropDebt}
 use Rattle.machine.specs.Results.{Result}
 use Rattle.machine.specs.Mid.{Mid}
-use Rattle.machine.proofs.Mid.{sound-mid}
-use Rattle.machine.proofs.Debts.{mid-dropDebt, dropDebt-drops}
+use Rattle.machine.proofs.Preserved.Mid.{sound-mid}
+use Rattle.machine.proofs.Preserved.Debts.{mid-dropDebt, dropDebt-drops}
 use Rattle.store.specs.Steps.{Shown, Does}
 use Rattle.debts.specs.Debts.{Debtor}
-use Rattle.results.specs.Results.{Calling, Performs}
-use Rattle.results.proofs.Ends.{performs-after, does-for, shown-for}
-use Rattle.results.proofs.Conditions.{running-thread, running-debtor}
+use Rattle.endings.specs.Results.{Calling, Performs}
+use Rattle.endings.proofs.Ends.{performs-after, does-for, shown-for}
+use Rattle.endings.proofs.Conditions.{running-thread, running-debtor}
 use Rattle.transfers.specs.Transfers.{Dropped}
 use Rattle.queues.proofs.Joining.{shown-next}
 

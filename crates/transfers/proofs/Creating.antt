@@ -10,19 +10,19 @@ use Rattle.machine.specs.State.{State, Status, missing, live, closing, Endpoint
 use Rattle.machine.specs.Results.{plain, done}
 use Rattle.machine.specs.Machine.{createAt, createEndpoint}
 use Rattle.machine.specs.Mid.{Mid}
-use Rattle.machine.proofs.Mid.{sound-mid}
+use Rattle.machine.proofs.Preserved.Mid.{sound-mid}
 use Rattle.machine.proofs.Lists.{put-all}
-use Rattle.machine.proofs.Sites.{not-at}
-use Rattle.machine.proofs.Debts.{live-present}
+use Rattle.machine.proofs.Preserved.Sites.{not-at}
+use Rattle.machine.proofs.Preserved.Debts.{live-present}
 use Rattle.layout.specs.declared.Part.{Part}
 use Rattle.layout.specs.Words.{statusCode}
 use Rattle.store.specs.Steps.{Shown, Does, Tells}
 use Rattle.store.specs.Store.{IsEndpoint, standing, Stands}
 use Rattle.store.specs.Readings.{endpointIn}
 use Rattle.queues.specs.Queues.{Loose, Chooses}
-use Rattle.results.specs.Results.{Asked, Performs}
-use Rattle.results.proofs.Ends.{refused, performs-as, performs-after, does-for}
-use Rattle.results.proofs.Conditions.{free-of, running-loose}
+use Rattle.endings.specs.Results.{Asked, Performs}
+use Rattle.endings.proofs.Ends.{refused, performs-as, performs-after, does-for}
+use Rattle.endings.proofs.Conditions.{free-of, running-loose}
 use Rattle.queues.proofs.Joining.{shown-next}
 
 -- A status has no waiter come or go.

@@ -7,14 +7,14 @@ use Rattle.machine.specs.declared.Answer.{Answer}
 use Rattle.machine.specs.State.{State, Place, absent, able, sending}
 use Rattle.machine.specs.Scheduling.{block}
 use Rattle.machine.specs.Results.{plain}
-use Rattle.machine.proofs.Ready.{none-some}
+use Rattle.machine.proofs.Preserved.Ready.{none-some}
 use Rattle.layout.specs.Words.{placeCode}
 use Rattle.store.specs.Steps.{Shown}
 use Rattle.store.specs.Store.{IsThread}
 use Rattle.queues.specs.Queues.{Chooses, Blocks}
 use Rattle.queues.proofs.Joining.{shown-next}
-use Rattle.results.specs.Results.{Accepts}
-use Rattle.results.proofs.Ends.{answered, performs-after}
+use Rattle.endings.specs.Results.{Accepts}
+use Rattle.endings.proofs.Ends.{answered, performs-after}
 use Rattle.transfers.specs.Transfers.{Suspends}
 
 -- Every number is that of a place.

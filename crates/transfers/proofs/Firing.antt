@@ -9,17 +9,17 @@ use Rattle.machine.specs.Scheduling.{wake}
 use Rattle.machine.specs.Results.{done}
 use Rattle.machine.specs.Machine.{fire, interrupt}
 use Rattle.machine.specs.Mid.{Mid}
-use Rattle.machine.proofs.Mid.{sound-mid}
-use Rattle.machine.proofs.Waking.{mid-wakeLine}
+use Rattle.machine.proofs.Preserved.Mid.{sound-mid}
+use Rattle.machine.proofs.Preserved.Waking.{mid-wakeLine}
 use Rattle.layout.specs.Words.{lineCode, queuesOf}
 use Rattle.layout.specs.Shows.{Shows}
 use Rattle.store.specs.Steps.{Shown, Does, Tells}
 use Rattle.store.specs.Store.{IsLine, Lines}
 use Rattle.store.specs.Readings.{lineIn}
 use Rattle.queues.specs.Queues.{Loose, Chooses}
-use Rattle.results.specs.Results.{Asked, Performs}
-use Rattle.results.proofs.Ends.{performs-as, performs-after}
-use Rattle.results.proofs.Conditions.{running-loose, mid-chooses, awaited-loose}
+use Rattle.endings.specs.Results.{Asked, Performs}
+use Rattle.endings.proofs.Ends.{performs-as, performs-after}
+use Rattle.endings.proofs.Conditions.{running-loose, mid-chooses, awaited-loose}
 use Rattle.transfers.specs.Transfers.{firing}
 use Rattle.queues.proofs.Joining.{shown-next}
 

@@ -11,8 +11,8 @@ use Rattle.machine.specs.Endpoints.{dropDebt}
 use Rattle.machine.specs.Sound.{Queued}
 use Rattle.machine.proofs.Lists.{mem-only}
 use Rattle.machine.specs.Mid.{Mid}
-use Rattle.machine.proofs.Keeping.{Keeps, keeps-place}
-use Rattle.machine.proofs.Debts.{dropDebt-drops}
+use Rattle.machine.proofs.Preserved.Statuses.{Keeps, keeps-place}
+use Rattle.machine.proofs.Preserved.Debts.{dropDebt-drops}
 use Rattle.layout.specs.Words.{firstOf}
 use Rattle.layout.proofs.Chains.{first-zero}
 use Rattle.debts.proofs.Firsts.{ofKind, first-waits}

@@ -12,7 +12,7 @@ use Rattle.machine.specs.Endpoints.{isReceiving, receivers, joinEndpoint, wakeF
 use Rattle.machine.specs.Results.{plain, done}
 use Rattle.machine.specs.Machine.{sendTo, sendUnless, sendAt, send}
 use Rattle.machine.specs.Sound.{Queued}
-use Rattle.machine.proofs.Waking.{mid-wakeFrom}
+use Rattle.machine.proofs.Preserved.Waking.{mid-wakeFrom}
 use Rattle.layout.specs.declared.Part.{Part}
 use Rattle.layout.specs.Words.{statusCode}
 use Rattle.layout.specs.Shows.{Shows}
@@ -21,9 +21,9 @@ use Rattle.store.specs.Store.{IsEndpoint}
 use Rattle.store.specs.Readings.{endpointIn}
 use Rattle.queues.specs.Queues.{Chooses, Comes, Waits}
 use Rattle.debts.specs.Debts.{Says, Debtor, underIn, FirstAt, firstReceiver}
-use Rattle.results.specs.Results.{Calling, Performs}
-use Rattle.results.proofs.Ends.{refused, performs-as, performs-after}
-use Rattle.results.proofs.Conditions.{mid-chooses, mid-alike, queued-waits}
+use Rattle.endings.specs.Results.{Calling, Performs}
+use Rattle.endings.proofs.Ends.{refused, performs-as, performs-after}
+use Rattle.endings.proofs.Conditions.{mid-chooses, mid-alike, queued-waits}
 use Rattle.transfers.specs.Transfers.{Dropped, Suspends, handing}
 use Rattle.queues.proofs.Joining.{shown-next}
 use Rattle.transfers.proofs.Callers.{dropped-mid, dropped-first}

@@ -13,9 +13,9 @@ use Rattle.store.specs.Steps.{Shown, Does}
 use Rattle.store.specs.Store.{IsThread}
 use Rattle.queues.specs.Queues.{Comes}
 use Rattle.debts.specs.Debts.{Alike}
-use Rattle.results.specs.Results.{Performs}
-use Rattle.results.proofs.Ends.{performs-after, shown-for}
-use Rattle.results.proofs.Conditions.{running-comes, mid-alike}
+use Rattle.endings.specs.Results.{Performs}
+use Rattle.endings.proofs.Ends.{performs-after, shown-for}
+use Rattle.endings.proofs.Conditions.{running-comes, mid-alike}
 use Rattle.transfers.specs.Transfers.{Dropped, Suspends}
 use Rattle.queues.proofs.Joining.{shown-next}
 use Rattle.transfers.proofs.Callers.{calling-thread, dropped-mid, dropped-runs}

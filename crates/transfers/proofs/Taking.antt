@@ -10,7 +10,7 @@ use Rattle.machine.specs.State.{State, Status, receiving}
 use Rattle.machine.specs.Endpoints.{isSending, senders, joinEndpoint, wakeFrom, dropDebt}
 use Rattle.machine.specs.Results.{plain}
 use Rattle.machine.specs.Machine.{receiveFrom, receiveAt, receive}
-use Rattle.machine.proofs.Waking.{mid-wakeFrom}
+use Rattle.machine.proofs.Preserved.Waking.{mid-wakeFrom}
 use Rattle.layout.specs.declared.Field.{Field}
 use Rattle.layout.specs.declared.Part.{Part}
 use Rattle.layout.specs.Words.{statusCode}
@@ -20,9 +20,9 @@ use Rattle.store.specs.Store.{IsThread, IsEndpoint}
 use Rattle.store.specs.Readings.{endpointIn, threadIn}
 use Rattle.queues.specs.Queues.{Chooses, Comes, Waits}
 use Rattle.debts.specs.Debts.{Debtor, FirstAt, firstSender}
-use Rattle.results.specs.Results.{Calling, Performs, Accepts, answerOf}
-use Rattle.results.proofs.Ends.{refused, performs-as, performs-for, shown-for}
-use Rattle.results.proofs.Conditions.{mid-chooses, mid-alike, queued-waits, queued-present, present-thread}
+use Rattle.endings.specs.Results.{Calling, Performs, Accepts, answerOf}
+use Rattle.endings.proofs.Ends.{refused, performs-as, performs-for, shown-for}
+use Rattle.endings.proofs.Conditions.{mid-chooses, mid-alike, queued-waits, queued-present, present-thread}
 use Rattle.transfers.specs.Transfers.{Dropped, Takes, Suspends, taking, takingFrom}
 use Rattle.queues.proofs.Joining.{shown-next}
 use Rattle.transfers.proofs.Callers.{dropped-mid, dropped-first}

@@ -12,7 +12,7 @@ use Rattle.machine.specs.Machine.{fire, sendTo, receiveFrom}
 use Rattle.machine.specs.Sound.{Queued}
 use Rattle.layout.specs.Words.{placeCode}
 use Rattle.store.specs.Store.{IsThread}
-use Rattle.results.specs.Results.{Calling, Performs, answerOf}
+use Rattle.endings.specs.Results.{Calling, Performs, answerOf}
 
 -- The running thread t makes a call, and its ownership or note has gone.
 pub record Dropped (t : ℕ) (N : Type 0) (s : State) : Type 0 where

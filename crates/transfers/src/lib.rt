@@ -7,7 +7,7 @@ ghost use Rattle.store.specs.Steps.{Shown, Does};
 ghost use Rattle.store.specs.Store.{IsThread};
 ghost use Rattle.queues.specs.Queues.{Chooses};
 ghost use Rattle.debts.specs.Debts.{Alike};
-ghost use Rattle.results.specs.Results.{Asked, Calling, Performs};
+ghost use Rattle.endings.specs.Results.{Asked, Calling, Performs};
 ghost use Rattle.transfers.specs.Transfers.{Dropped, Takes, Suspends, firing, handing, taking};
 ghost use Rattle.transfers.specs.Transfers.{takingFrom};
 use layout::Field;
@@ -20,8 +20,8 @@ fn suspend(tables: &mut [u32], t: usize, place: u32, badge: u32, message: u32) -
     ensures { λ r. ⌜ Suspends (now (tables .entry)) t place badge message r (now (tables .exit)) ⌝ }
 {
     queues::block(tables, t, place, badge, message);
-    let answer = results::plain(1);
-    results::accept(tables, answer)
+    let answer = endings::plain(1);
+    endings::accept(tables, answer)
 }
 
 // 4: endpoint e, which is absent, is made. An absent one has no waiter and no abort, so only the status changes.
@@ -31,10 +31,10 @@ pub fn create_endpoint(tables: &mut [u32], e: usize) -> Answer
 {
     let status = store::endpoint(tables, Part::Status, e);
     if status != 0 {
-        return results::plain(24);
+        return endings::plain(24);
     }
     store::set_status(tables, e, 1);
-    results::done(tables)
+    endings::done(tables)
 }
 
 // The waiter on line l is woken, or the line is pending.
@@ -60,7 +60,7 @@ pub fn interrupt(tables: &mut [u32], l: usize) -> Answer
     ensures { λ r. ⌜ Performs (now (tables .entry)) (now (tables .exit)) r (Asked (l ≤ 31)) (interrupting l) ⌝ }
 {
     fire(tables, l);
-    results::done(tables)
+    endings::done(tables)
 }
 
 // The message goes to the first receiver at endpoint e; without one the caller t waits there to send it.
@@ -75,7 +75,7 @@ fn hand(tables: &mut [u32], t: usize, e: usize, badge: u32, message: u32) -> Ans
         return suspend(tables, t, (2 + e) as u32, badge, message);
     }
     queues::wake_from(tables, e, (link - 1) as usize, 2, badge, message);
-    results::done(tables)
+    endings::done(tables)
 }
 
 // 7: the running thread t sends to endpoint e.
@@ -86,14 +86,14 @@ pub fn send(tables: &mut [u32], t: usize, e: usize, badge: u32, message: u32) ->
 {
     let status = store::endpoint(tables, Part::Status, e);
     if status == 0 {
-        return results::plain(23);
+        return endings::plain(23);
     }
     if status == 2 {
-        return results::plain(25);
+        return endings::plain(25);
     }
     let under = debts::under_abort(tables, e, badge);
     if under {
-        return results::plain(26);
+        return endings::plain(26);
     }
     debts::drop_debt(tables, t);
     hand(tables, t, e, badge, message)
@@ -113,7 +113,7 @@ fn take_from(tables: &mut [u32], e: usize, u: usize) -> Answer
         badge,
         message,
     };
-    results::accept(tables, answer)
+    endings::accept(tables, answer)
 }
 
 // The message of the first sender at endpoint e is taken; without one the caller t waits there to receive.
@@ -136,10 +136,10 @@ pub fn receive(tables: &mut [u32], t: usize, e: usize) -> Answer
 {
     let status = store::endpoint(tables, Part::Status, e);
     if status == 0 {
-        return results::plain(23);
+        return endings::plain(23);
     }
     if status == 2 {
-        return results::plain(25);
+        return endings::plain(25);
     }
     debts::drop_debt(tables, t);
     take(tables, t, e)
@@ -152,12 +152,12 @@ pub fn wait(tables: &mut [u32], t: usize, l: usize) -> Answer
 {
     let line = store::line(tables, l);
     if 1 < line {
-        return results::plain(27);
+        return endings::plain(27);
     }
     debts::drop_debt(tables, t);
     if line == 1 {
         store::set_line(tables, l, 0);
-        return results::done(tables);
+        return endings::done(tables);
     }
     store::set_line(tables, l, (2 + t) as u32);
     suspend(tables, t, (130 + l) as u32, 0, 0)

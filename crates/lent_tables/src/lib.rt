@@ -1,0 +1,59 @@
+// The entries on the lent tables: make them fresh, and check them. The check makes the tests of scans and walks, which
+// go once through all words, and accepts exactly those that show a sound state.
+ghost use mathlib.Core.Path.{_≡_};
+ghost use lib.ListN.{length, replicate};
+ghost use Rattle.soundness.specs.Checks.{goodTest};
+ghost use Rattle.lent_tables.specs.Entries.{Freshened, Checked, freshened, checked};
+
+// All tests. The queues are walked before the places are tried, which go by the marks.
+fn passes(tables: &[u32], scratch: &mut [u32]) -> bool
+    requires { ⌜ (length (now tables) ≡ 4096) × (now scratch ≡ replicate 256 0) ⌝ }
+    ensures { λ r. ⌜ r ≡ goodTest (now (tables .entry)) ⌝ }
+{
+    if !sound_words::threads::threads(tables) {
+        return false;
+    }
+    if !sound_queues::levels::levels(tables, scratch) {
+        return false;
+    }
+    if !sound_queues::endpoints::endpoints(tables, scratch) {
+        return false;
+    }
+    let lines = sound_words::rest::lines(tables);
+    let summary = sound_words::chosen::summary(tables);
+    let running = sound_words::chosen::running(tables);
+    let unused = sound_words::rest::unused(tables);
+    lines & summary & running & unused & sound_queues::places::places(tables, scratch)
+}
+
+// The tables become those of no thread, endpoint or pending line.
+pub fn fresh(tables: &mut [u32]) -> u32
+    ensures { λ r. ⌜ _≡_ {A = Freshened} (record { code = r; tables = now (tables .exit) })
+        (freshened (now (tables .entry))) ⌝ }
+{
+    if tables.len() != 4096 {
+        return 16;
+    }
+    sound_queues::marks::clear(tables);
+    0
+}
+
+// Whether the tables show a sound state; they are not changed.
+pub fn check(tables: &[u32], scratch: &mut [u32]) -> u32
+    ensures { λ r. ⌜ _≡_ {A = Checked} (record { code = r; scratch = now (scratch .exit) })
+        (checked (now (tables .entry)) (now (scratch .entry))) ⌝ }
+{
+    if tables.len() != 4096 {
+        return 16;
+    }
+    if scratch.len() != 256 {
+        return 16;
+    }
+    sound_queues::marks::clear(scratch);
+    let passed = passes(tables, scratch);
+    sound_queues::marks::clear(scratch);
+    if passed {
+        return 0;
+    }
+    17
+}

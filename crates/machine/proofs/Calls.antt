@@ -1,0 +1,8 @@
+-- What a reader asks of single calls.
+pub mod Running
+pub mod Ticks
+pub mod Marks
+pub mod Loops
+pub mod Shapes
+pub mod Answers
+pub mod Refusals

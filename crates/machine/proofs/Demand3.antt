@@ -1,0 +1,20 @@
+-- Demand 3: the invariant of a list of calls and its history, call by call, and the theorem.
+pub mod Standing
+pub mod Owing
+pub mod Leaving
+pub mod Blocking
+pub mod Arrivals
+pub mod Ending
+pub mod Together
+pub mod EachLook
+pub mod OwnAbort
+pub mod OtherAbort
+pub mod Joining
+pub mod Deletions
+pub mod Handing
+pub mod Invariant
+pub mod Recording
+pub mod OtherCalls
+pub mod Breakable
+pub mod AbortCalls
+pub mod Demand

@@ -1,0 +1,430 @@
+-- Call 12 carries what holds of the history on: refused, answered from a note, or worked on.
+use Prim.Native.Nat.{ℕ, suc, _≤_, _<_, _^_}
+use mathlib.Core.Path.{_≡_, refl, sym, _∙_, ap, subst}
+use mathlib.Core.Logic.{inl}
+use mathlib.Core.Bool.{Bool, true, false, _&&_}
+use mathlib.Core.Option.{Option, none, some}
+use mathlib.Core.List.{List, [], _∷_, _++_, map}
+use native.Mathlib.Omega.{arith}
+use lib.Dec.{eqb, leb}
+use lib.ListN.{length, getElem?}
+use borrow.Author.Tests.{leb-true, ltb-true, eqb-true, eq-eqb}
+use Rattle.machine.specs.declared.Answer.{Answer}
+use Rattle.machine.specs.declared.Call.{Call}
+use Rattle.machine.specs.declared.Call.the-variants.{Abort}
+use Rattle.machine.specs.Calls.{inRange, isEndpoint, isAllowance, isBadge}
+use Rattle.machine.specs.Lists.{put, Mem, Rising}
+use Rattle.machine.specs.State.{State, Debt, nothing, owns, noted, Status, missing, live, closing, Endpoint}
+use Rattle.machine.specs.State.{Line, setThread, withDebt}
+use Rattle.machine.specs.Scheduling.{choose}
+use Rattle.machine.specs.Endpoints.{senders, dropped, dropDebt}
+use Rattle.machine.specs.Results.{Look, Result, plain, counted, refuse, done}
+use Rattle.machine.specs.Aborts.{dropOther, abortOpen, abortAt, hasNote, abortUnless, abort}
+use Rattle.machine.specs.Machine.{byCaller, perform, performIf, step}
+use Rattle.machine.specs.Sound.{Sound}
+use Rattle.machine.specs.History.{Aborting, Ended, Reported, Waiting, Walk, History, Outcome, isAccepted}
+use Rattle.machine.specs.History.{namedLooks, lineName, waitingIn, letsGo, isNoteOf, reportOf, reportIf, apart}
+use Rattle.machine.specs.History.{unchanged, comesIn, courseOf, startOf, walk, close, walked, walks, abortsBy}
+use Rattle.machine.specs.History.{abortsOf, outcomeOf, outcomeIf, recorded, told}
+use Rattle.machine.specs.Claim.{less, removedBy, Reports}
+use Rattle.machine.specs.Tied.{noteIn, noteFrom, Tied}
+use Rattle.machine.proofs.Lists.{Same, same, other, same?, clash}
+use Rattle.machine.proofs.Sublists.{sub-only, rising-sub, entry-last}
+use Rattle.machine.proofs.Preserved.Mid.{sound-mid}
+use Rattle.machine.proofs.Preserved.Statuses.{keeps-self, keeps-debt}
+use Rattle.machine.proofs.Preserved.Aborts.{both-true}
+use Rattle.machine.proofs.Demand3.Standing.{Core, core-grow}
+use Rattle.machine.proofs.Demand3.Owing.{still-self, tied-still, tied-drop}
+use Rattle.machine.proofs.Demand3.Leaving.{leaves-self, leaves-debt}
+use Rattle.machine.proofs.Demand3.Blocking.{stays-choose, leaves-choose, still-choose}
+use Rattle.machine.proofs.Demand3.Together.{Gone, walkAt}
+use Rattle.machine.proofs.Demand3.EachLook.{Frame, frame-keeps}
+use Rattle.machine.proofs.Demand3.OwnAbort.{Ran}
+use Rattle.machine.proofs.Demand3.Joining.{came-in, ran}
+use Rattle.machine.proofs.Preserved.Steps.{step-sound}
+use Rattle.machine.proofs.Demand3.Invariant.{Called, Inv}
+use Rattle.machine.proofs.Demand3.Recording.{abortCallOf}
+use Rattle.machine.proofs.Demand3.OtherCalls.{fits, idle-core}
+use Rattle.machine.proofs.Demand3.Breakable.{next}
+
+length-named : (since : ℕ → ℕ) (l : List Look) → length (namedLooks since l) ≡ length l
+length-named since [] = refl
+length-named since (v ∷ l) = ap suc (length-named since l)
+
+-- The chooser leaves the queues.
+frame-choose :
+    (since : ℕ → ℕ) (e : ℕ) (s q : State) (l : List Look) → Frame since e s q l → Frame since e s (choose q) l
+frame-choose since e s q l F =
+    let T = stays-choose q in
+    record {
+      others = λ f i. ap (λ (x : ℕ → Endpoint). x f .waiters) (T .endpoints) ∙ F .others f i;
+      own = ap (λ (x : ℕ → Endpoint). map since (x e .waiters)) (T .endpoints) ∙ F .own;
+      lines = λ i. ap (λ (x : ℕ → Line). x i) (T .lines) ∙ F .lines i;
+      met = F .met;
+    }
+
+core-choose :
+    (past : List Call) (answers : List Answer) (n : ℕ) (since : ℕ → ℕ) (s : State) (standing : ℕ → Option Aborting)
+    (ended : List Ended) → Core past answers n since (s .threads) (s .endpoints) standing ended
+    → Core past answers n since (choose s .threads) (choose s .endpoints) standing ended
+core-choose past answers n since s standing ended C = rw (stays-choose s .threads, stays-choose s .endpoints) C
+
+-- The caller's note, in the history and in the machine.
+pub note-is :
+    (e b : ℕ) (o : Option Reported) (d : Debt) → noteFrom o ≡ noteIn d → isNoteOf e b o ≡ hasNote e b d
+note-is e b o d h = from o ∙ ap (hasNote e b) h ∙ alone d
+  where
+    from : (o : Option Reported) → isNoteOf e b o ≡ hasNote e b (noteFrom o)
+    from none = refl
+    from (some r) = refl
+
+    alone : (d : Debt) → hasNote e b (noteIn d) ≡ hasNote e b d
+    alone nothing = refl
+    alone (owns f) = refl
+    alone (noted f c) = refl
+
+-- The noted abort.
+record Noted (o : Option Reported) (e b : ℕ) : Type 0 where
+  of : Reported
+  is : o ≡ some of
+  endpoint : of .endpoint ≡ e
+  badge : of .badge ≡ b
+
+noted-of : (o : Option Reported) (e b : ℕ) → noteFrom o ≡ noted e b → Noted o e b
+noted-of none e b h = let z : _≡_ {A = ℕ} 0 1 = cc in absurd (omega arith)
+noted-of (some r) e b h = record { of = r; is = refl; endpoint = cc; badge = cc }
+
+-- The queues ascend still where the looks have removed from them.
+frame-rising :
+    (since : ℕ → ℕ) (e : ℕ) (s r : State) (l : List Look) → Frame since e s r l
+    → ((f : ℕ) → Rising (map since (s .endpoints f .waiters))) → (f : ℕ) → Rising (map since (r .endpoints f .waiters))
+frame-rising since e s r l F R f = go (same? f e)
+  where
+    go : Same f e → Rising (map since (r .endpoints f .waiters))
+    go (same i _) = rw (i, F .own) (rising-sub (sub-only _ (map since (s .endpoints e .waiters))) (R e))
+    go (other i _) = rw (F .others f i) (R f)
+
+-- The numbers of a call 12 in range.
+range12 : (e a b : ℕ) → inRange (Abort e a b) ≡ true → (1 ≤ a) × (b < 2 ^ 28)
+range12 e a b p =
+    let q = both-true (isEndpoint e && isAllowance a) (isBadge b) p in
+    let r = both-true (isEndpoint e) (isAllowance a) (q .0) in
+    (leb-true 1 a (both-true (leb 1 a) (leb a 65535) (r .1) .0), ltb-true b (2 ^ 28) (q .1))
+
+-- What an accepted call 12 of thread t comes to, answered from a note or not.
+module _ (t e a b : ℕ) (s : State) (r : Result) (h : History) (runs : s .runs ≡ some t)
+    (accepted : isAccepted (r .answer) ≡ true) where
+  outcome-noted :
+      isNoteOf e b (h .aborts .debts .notes t) ≡ true
+      → outcomeIf (isAccepted (r .answer)) (Abort e a b) (s .runs) r h
+      ≡ apart (letsGo t (h .aborts .debts)) (h .aborts .debts .notes t) r h
+  unfolding outcomeIf outcomeOf abortsOf abortsBy
+  outcome-noted p =
+      ap (λ (x : Bool). outcomeIf x (Abort e a b) (s .runs) r h) accepted
+      ∙ ap (λ (k : Option ℕ). abortsOf k e a b r h) runs ∙ ap (λ (x : Bool). abortsBy x t e a b r h) p
+
+  outcome-walks :
+      isNoteOf e b (h .aborts .debts .notes t) ≡ false
+      → outcomeIf (isAccepted (r .answer)) (Abort e a b) (s .runs) r h ≡ walks t e a b r h
+  unfolding outcomeIf outcomeOf abortsOf abortsBy
+  outcome-walks p =
+      ap (λ (x : Bool). outcomeIf x (Abort e a b) (s .runs) r h) accepted
+      ∙ ap (λ (k : Option ℕ). abortsOf k e a b r h) runs ∙ ap (λ (x : Bool). abortsBy x t e a b r h) p
+
+-- What the history has of ended aborts and debts.
+abbrev goneOf : History → Gone
+goneOf h = record { ended = h .aborts .ended; debts = h .aborts .debts }
+
+-- The walk starts where the call found the history.
+abbrev startAt : ℕ → ℕ → ℕ → State → History → Walk
+startAt t e b s h =
+    walkAt (h .since) e s (h .aborts .standing e) (came-in t e b (h .aborts .standing e) (goneOf h))
+
+walks-from :
+    (t e a b : ℕ) (s : State) (r : Result) (h : History) (w : Walk)
+    → h .waiting .messages e ≡ map (h .since) (senders (s .threads) (s .endpoints e .waiters)) → h .aborts .stray ≡ []
+    → close (courseOf t e b h)
+    (walk (namedLooks (h .since) (r .looks)) a (courseOf t e b h) (startAt t e b s h)) ≡ w
+    → walks t e a b r h
+    ≡ walked e
+    (reportIf (walk (namedLooks (h .since) (r .looks)) a (courseOf t e b h) (startAt t e b s h) .standing) b) w h
+unfolding walks
+walks-from t e a b s r h w m p q =
+    ap (λ (x : Walk).
+    walked e (reportIf (walk (namedLooks (h .since) (r .looks)) a (courseOf t e b h) x .standing) b)
+    (close (courseOf t e b h) (walk (namedLooks (h .since) (r .looks)) a (courseOf t e b h) x)) h) start
+    ∙ ap (λ (x : Walk).
+    walked e
+    (reportIf (walk (namedLooks (h .since) (r .looks)) a (courseOf t e b h) (startAt t e b s h) .standing) b) x h) q
+  where
+    start : startOf t e b h ≡ startAt t e b s h
+    start =
+        ap (λ (k : List ℕ).
+        record {
+          standing = h .aborts .standing e;
+          queued = k;
+          ended = h .aborts .ended;
+          debts = comesIn t e b (h .aborts .standing e) (h .aborts .debts);
+          stray = h .aborts .stray;
+        }) m
+        ∙ ap (λ (l : List ℕ).
+        record {
+          standing = h .aborts .standing e;
+          queued = map (h .since) (senders (s .threads) (s .endpoints e .waiters));
+          ended = h .aborts .ended;
+          debts = comesIn t e b (h .aborts .standing e) (h .aborts .debts);
+          stray = l;
+        }) p
+
+module _ (past : List Call) (s : State) (h : History) (I : Inv past s h) (e a b : ℕ) where
+  -- The record of a call 12, from what it left of the queues.
+  called :
+      (r : Result) (o : Outcome) → Frame (h .since) e s (r .state) (r .looks)
+      → r .answer ≡ counted (r .answer .code) (length (r .looks))
+      → (r .answer .code ≡ 0
+      → Reports (recorded (h .since) o (Abort e a b) r h)
+      (abortCallOf e a b r (waitingIn (h .since) (r .state)) (o .reports) h))
+      → Called (recorded (h .since) o (Abort e a b) r h)
+      (abortCallOf e a b r (waitingIn (h .since) (r .state)) (o .reports) h)
+  unfolding recorded
+  called r o F answer reports =
+      record {
+        reports = reports;
+        others = λ f i. ap (map (h .since)) (F .others f i) ∙ sym (queue f);
+        own = F .own ∙ ap (less (removedBy (namedLooks (h .since) (r .looks)))) (sym (queue e));
+        lines =
+            λ l. ap (lineName (h .since)) (F .lines l) ∙ sym (ap (λ (w : Waiting). w .lines l) (I .waiting));
+        met = λ v i. subst (λ (l : List ℕ). Mem (v .waiter) l) (sym (queue e)) (F .met v i);
+        counts = count ∙ sym (length-named (h .since) (r .looks));
+        answer =
+            ap (getElem? (h .answers ++ (r .answer ∷ []))) (I .now ∙ sym (I .answered))
+            ∙ entry-last (h .answers) (r .answer)
+            ∙ ap some (answer ∙ ap (counted (r .answer .code)) (sym count));
+      }
+    where
+      queue : (f : ℕ) → h .waiting .queues f ≡ map (h .since) (s .endpoints f .waiters)
+      queue f = ap (λ (w : Waiting). w .queues f) (I .waiting)
+
+      count : r .answer .count ≡ length (r .looks)
+      count = ap (λ (x : Answer). x .count) answer
+
+  refused12 :
+      (n : ℕ) → isAccepted (plain (suc n)) ≡ false
+      → Inv (past ++ (Abort e a b ∷ [])) s (told (Abort e a b) s (refuse (suc n) s) h)
+  unfolding outcomeIf
+  refused12 n p =
+      next past s h I (Abort e a b) (refuse (suc n) s) (unchanged (refuse (suc n) s) h) refl (rw p)
+      (record {
+        sound = I .sound;
+        core = idle-core past s h I (Abort e a b) (refuse (suc n) s) (leaves-self s);
+        tied = I .tied;
+        rising = I .rising;
+        stray = I .stray;
+        new = λ z i. inl i;
+        kept = λ z i. i;
+        duty8 = tt;
+        duty12 =
+            called (refuse (suc n) s) (unchanged (refuse (suc n) s) h) (frame-keeps (h .since) e s s (keeps-self s))
+            refl (λ i. absurd (omega arith));
+      })
+
+  -- The note goes.
+  forgotten :
+      (t : ℕ) → s .threads t .debt ≡ noted e b
+      → Tied (setThread t (withDebt nothing (s .threads t)) s .threads) (s .endpoints) (letsGo t (h .aborts .debts))
+      (h .aborts .ended)
+  unfolding dropDebt dropped
+  forgotten t debt =
+      subst
+      (λ (k : Debt).
+      Tied (dropped k t s .threads) (dropped k t s .endpoints) (letsGo t (h .aborts .debts)) (h .aborts .ended)) debt
+      (tied-drop s (I .tied) t (I .sound .owners))
+
+  -- Answered from a note.
+  noted12 :
+      (t : ℕ) → s .runs ≡ some t → s .threads t .debt ≡ noted e b
+      → Sound (done (setThread t (withDebt nothing (s .threads t)) s) .state)
+      → Inv (past ++ (Abort e a b ∷ [])) (done (setThread t (withDebt nothing (s .threads t)) s) .state)
+      (told (Abort e a b) s (done (setThread t (withDebt nothing (s .threads t)) s)) h)
+  unfolding recorded
+  noted12 t runs debt S =
+      next past s h I (Abort e a b) (done q) o refl outcome
+      (record {
+        sound = S;
+        core = idle-core past s h I (Abort e a b) (done q) (leaves-choose s q (leaves-debt s t nothing));
+        tied = tied-still (still-choose q q (still-self q)) (λ z i. i) (forgotten t debt);
+        rising = frame-rising (h .since) e s (done q .state) [] frame (I .rising);
+        stray = I .stray;
+        new = λ z i. inl i;
+        kept = λ z i. i;
+        duty8 = tt;
+        duty12 = called (done q) o frame refl reports;
+      })
+    where
+      q : State
+      q = setThread t (withDebt nothing (s .threads t)) s
+
+      o : Outcome
+      o = apart (letsGo t (h .aborts .debts)) (h .aborts .debts .notes t) (done q) h
+
+      frame : Frame (h .since) e s (done q .state) []
+      frame = frame-choose (h .since) e s q [] (frame-keeps (h .since) e s q (keeps-debt s t nothing))
+
+      N : Noted (h .aborts .debts .notes t) e b
+      N = noted-of (h .aborts .debts .notes t) e b (I .tied .notes t ∙ ap noteIn debt)
+
+      reports :
+          _≡_ {A = ℕ} 0 0
+          → Reports (recorded (h .since) o (Abort e a b) (done q) h)
+          (abortCallOf e a b (done q) (waitingIn (h .since) (done q .state)) (o .reports) h)
+      reports z =
+          let F = I .tied .heard t (N .of) (N .is) in
+          record {
+            reported = N .of;
+            is = N .is;
+            of-endpoint = N .endpoint;
+            of-badge = N .badge;
+            ended =
+                record {
+                  ended = F .0;
+                  found = F .1;
+                  same = F .2;
+                  by = omega (arith, I .core .over (F .0) (F .1) .by);
+                };
+          }
+
+      outcome : outcomeIf (isAccepted (plain 0)) (Abort e a b) (s .runs) (done q) h ≡ o
+      outcome =
+          outcome-noted t e a b s (done q) h runs refl
+          (note-is e b (h .aborts .debts .notes t) (s .threads t .debt) (I .tied .notes t)
+          ∙ ap (hasNote e b) debt ∙ rw (eq-eqb e e refl, eq-eqb b b refl))
+
+  -- Worked on.
+  works12 :
+      (t : ℕ) → s .runs ≡ some t → hasNote e b (s .threads t .debt) ≡ false → s .endpoints e .status ≡ live
+      → inRange (Abort e a b) ≡ true → Sound (abortOpen t e a b (dropOther t e b s) .state)
+      → Inv (past ++ (Abort e a b ∷ [])) (abortOpen t e a b (dropOther t e b s) .state)
+      (told (Abort e a b) s (abortOpen t e a b (dropOther t e b s)) h)
+  unfolding recorded
+  works12 t runs unnoted lives range S =
+      next past s h I (Abort e a b) r o refl outcome
+      (record {
+        sound = S;
+        core =
+            core-grow past (Abort e a b) (suc (h .now)) (fits past s h I) (h .since) (r .state .threads) (h .answers)
+            (r .answer) (r .state .endpoints) (put (h .aborts .standing) e (R .stands)) (R .gone .ended) core;
+        tied = subst (λ (x : State). Tied (x .threads) (x .endpoints) (R .gone .debts) (R .gone .ended))
+            (sym (R .chosen)) (tied-still (still-choose (R .state) (R .state) (still-self (R .state))) (λ z i. i)
+            (R .tied));
+        rising = frame-rising (h .since) e s (r .state) (r .looks) frame (I .rising);
+        stray = refl;
+        new = R .more .known;
+        kept = R .more .kept;
+        duty8 = tt;
+        duty12 = called r o frame (R .answer) reports;
+      })
+    where
+      r : Result
+      r = abortOpen t e a b (dropOther t e b s)
+
+      R : Ran past (h .answers) (h .since) (h .aborts .standing) t e b (h .now) s a (startAt t e b s h)
+          (abortOpen t e a b (dropOther t e b s))
+      R =
+          ran past (h .answers) (h .since) (h .aborts .standing) (goneOf h) t e b (h .now) (I .now)
+          (range12 e a b range .1) s a (range12 e a b range .0) (sound-mid (I .sound)) (I .core) (I .tied) runs lives
+
+      o : Outcome
+      o =
+          record {
+            aborts =
+                record {
+                  standing = put (h .aborts .standing) e (R .stands);
+                  ended = R .gone .ended;
+                  debts = R .gone .debts;
+                  stray = [];
+                };
+            reports =
+                reportIf
+                (walk (namedLooks (h .since) (r .looks)) a (courseOf t e b h) (startAt t e b s h) .standing) b;
+          }
+
+      frame : Frame (h .since) e s (r .state) (r .looks)
+      frame =
+          subst (λ (x : State). Frame (h .since) e s x (r .looks)) (sym (R .chosen))
+          (frame-choose (h .since) e s (R .state) (r .looks) (R .frame))
+
+      outcome : outcomeIf (isAccepted (r .answer)) (Abort e a b) (s .runs) r h ≡ o
+      outcome =
+          outcome-walks t e a b s r h runs (R .accepted)
+          (note-is e b (h .aborts .debts .notes t) (s .threads t .debt) (I .tied .notes t) ∙ unnoted)
+          ∙ walks-from t e a b s r h _ (ap (λ (w : Waiting). w .messages e) (I .waiting)) (I .stray) (R .closes)
+
+      core :
+          Core past (h .answers) (suc (h .now)) (h .since) (r .state .threads) (r .state .endpoints)
+          (put (h .aborts .standing) e (R .stands)) (R .gone .ended)
+      core =
+          subst
+          (λ (x : State).
+          Core past (h .answers) (suc (h .now)) (h .since) (x .threads) (x .endpoints)
+          (put (h .aborts .standing) e (R .stands)) (R .gone .ended))
+          (sym (R .chosen))
+          (core-choose past (h .answers) (suc (h .now)) (h .since) (R .state)
+          (put (h .aborts .standing) e (R .stands)) (R .gone .ended) (R .core))
+
+      reports :
+          r .answer .code ≡ 0
+          → Reports (recorded (h .since) o (Abort e a b) r h)
+          (abortCallOf e a b r (waitingIn (h .since) (r .state)) (o .reports) h)
+      reports z =
+          let F = R .reports z in
+          record {
+            reported = reportOf (F .0 .abort);
+            is = F .2;
+            of-endpoint = F .3;
+            of-badge = F .4;
+            ended = record { ended = F .0; found = F .1; same = refl; by = F .5 };
+          }
+
+  at12 :
+      (t : ℕ) → s .runs ≡ some t → hasNote e b (s .threads t .debt) ≡ false → inRange (Abort e a b) ≡ true
+      → (x : Status)
+      → s .endpoints e .status ≡ x → Sound (abortAt x t e a b s .state)
+      → Inv (past ++ (Abort e a b ∷ [])) (abortAt x t e a b s .state) (told (Abort e a b) s (abortAt x t e a b s) h)
+  unfolding abortAt
+  at12 t runs unnoted range missing p S = refused12 22 refl
+  at12 t runs unnoted range closing p S = refused12 24 refl
+  at12 t runs unnoted range live p S = works12 t runs unnoted p range S
+
+  noted-is : (d : Debt) → hasNote e b d ≡ true → d ≡ noted e b
+  noted-is nothing p = absurd (clash p refl)
+  noted-is (owns f) p = absurd (clash p refl)
+  noted-is (noted f c) p =
+      let r = both-true (eqb f e) (eqb c b) p in
+      ap (λ (x : ℕ). noted x c) (eqb-true f e (r .0)) ∙ ap (noted e) (eqb-true c b (r .1))
+
+  pub advance12 :
+      Inv (past ++ (Abort e a b ∷ [])) (step s (Abort e a b) .state) (told (Abort e a b) s (step s (Abort e a b)) h)
+  unfolding step performIf perform abort abortUnless
+  advance12 = go (inRange (Abort e a b)) refl (step-sound s (Abort e a b) (I .sound))
+    where
+      unless :
+          (t : ℕ) → s .runs ≡ some t → inRange (Abort e a b) ≡ true → (x : Bool)
+          → hasNote e b (s .threads t .debt) ≡ x → Sound (abortUnless x t e a b s .state)
+          → Inv (past ++ (Abort e a b ∷ [])) (abortUnless x t e a b s .state)
+          (told (Abort e a b) s (abortUnless x t e a b s) h)
+      unless t runs range true p S = noted12 t runs (noted-is (s .threads t .debt) p) S
+      unless t runs range false p S = at12 t runs p range (s .endpoints e .status) refl S
+
+      by :
+          inRange (Abort e a b) ≡ true → (k : Option ℕ) → s .runs ≡ k
+          → Sound (byCaller k (λ t. abort t e a b) s .state)
+          → Inv (past ++ (Abort e a b ∷ [])) (byCaller k (λ t. abort t e a b) s .state)
+          (told (Abort e a b) s (byCaller k (λ t. abort t e a b) s) h)
+      by range none p S = refused12 19 refl
+      by range (some t) p S = unless t p range (hasNote e b (s .threads t .debt)) refl S
+
+      go : (x : Bool) → inRange (Abort e a b) ≡ x → Sound (performIf x (Abort e a b) s .state)
+          → Inv (past ++ (Abort e a b ∷ [])) (performIf x (Abort e a b) s .state)
+          (told (Abort e a b) s (performIf x (Abort e a b) s) h)
+      go true p S = by p (s .runs) refl S
+      go false p S = refused12 18 refl

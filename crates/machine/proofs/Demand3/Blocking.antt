@@ -1,0 +1,238 @@
+-- The chooser changes nothing that Core reads; a caller that blocks becomes a waiter with a new name.
+use Prim.Native.Nat.{ℕ, suc, _≤_}
+use mathlib.Core.Path.{_≡_, refl, sym, _∙_, ap, subst}
+use mathlib.Core.Logic.{_⊎_}
+use mathlib.Core.Bool.{Bool, true, false}
+use mathlib.Core.Option.{Option, none, some}
+use mathlib.Core.List.{List, [], _∷_, _++_}
+use native.Mathlib.Omega.{arith}
+use lib.ListN.{length}
+use Rattle.machine.specs.declared.Answer.{Answer}
+use Rattle.machine.specs.declared.Call.{Call}
+use Rattle.machine.specs.Lists.{put, Mem}
+use Rattle.machine.specs.State.{State, Thread, sending, Abort, live, Endpoint}
+use Rattle.machine.specs.Scheduling.{enqueue, standDown, dispatchHead, dispatchAt, dispatch, above, displace}
+use Rattle.machine.specs.Scheduling.{chooseFor, choose, highest}
+use Rattle.machine.specs.Results.{Result, plain}
+use Rattle.machine.specs.History.{Aborting, Ended, queues?}
+use Rattle.machine.specs.Claim.{isOld}
+use Rattle.machine.proofs.Lists.{Same, same, other, same?, put-all, put-same, put-other}
+use Rattle.machine.proofs.Sublists.{Sub, map-agree, entry-below, entry-last}
+use Rattle.machine.proofs.Demand3.Standing.{callOf, Made, Stood, Both, Over, Core, not-old, made-grow}
+use Rattle.machine.proofs.Demand3.Standing.{both-grow, over-grow}
+use Rattle.machine.proofs.Demand3.Owing.{Still}
+use Rattle.machine.proofs.Demand3.Leaving.{Leaves}
+
+-- Threads, endpoints and lines are as they were.
+pub record Stays (s r : State) : Type 0 where
+  pub threads : r .threads ≡ s .threads
+  pub endpoints : r .endpoints ≡ s .endpoints
+  pub lines : r .lines ≡ s .lines
+
+stays-head : (l : List ℕ) (p : ℕ) (s : State) → Stays s (dispatchHead l p s)
+unfolding dispatchHead
+stays-head [] p s = record { threads = refl; endpoints = refl; lines = refl }
+stays-head (t ∷ q) p s = record { threads = refl; endpoints = refl; lines = refl }
+
+stays-at : (o : Option ℕ) (s : State) → Stays s (dispatchAt o s)
+unfolding dispatchAt
+stays-at none s = record { threads = refl; endpoints = refl; lines = refl }
+stays-at (some p) s = stays-head (s .levels p) p s
+
+stays-displace : (b : Bool) (t : ℕ) (s : State) → Stays s (displace b t s)
+unfolding displace dispatch standDown enqueue
+stays-displace true t s =
+    let H = stays-at (highest (standDown t s .levels)) (standDown t s) in
+    record { threads = H .threads; endpoints = H .endpoints; lines = H .lines }
+stays-displace false t s = record { threads = refl; endpoints = refl; lines = refl }
+
+stays-for : (o : Option ℕ) (s : State) → Stays s (chooseFor o s)
+unfolding chooseFor dispatch
+stays-for none s = stays-at (highest (s .levels)) s
+stays-for (some t) s = stays-displace (above (s .threads t .priority) (highest (s .levels))) t s
+
+pub stays-choose : (s : State) → Stays s (choose s)
+unfolding choose
+stays-choose s = stays-for (s .runs) s
+
+pub leaves-choose : (s r : State) → Leaves s r → Leaves s (choose r)
+leaves-choose s r H = rw (stays-choose r .threads, stays-choose r .endpoints) H
+
+pub still-choose : (s r : State) → Still s r → Still s (choose r)
+still-choose s r H = rw (stays-choose r .threads, stays-choose r .endpoints) H
+
+-- Of two queues, the second is the first, or t has joined its tail.
+abbrev pub Joins : ℕ → List ℕ → List ℕ → Type 0
+Joins t l m = (m ≡ l) ⊎ (m ≡ l ++ (t ∷ []))
+
+-- The caller blocks in the call c: up to the state between, nobody comes to wait; then the caller does.
+pub record Blocks (s : State) (c : Call) (r : Result) : Type 0 where
+  pub caller : ℕ
+  pub runs : s .runs ≡ some caller
+  pub answer : r .answer ≡ plain 1
+  pub queues : queues? c 1 ≡ true
+  pub between : State
+  pub leaves : Leaves s between
+  pub able : callOf (between .threads caller) ≡ none
+  pub aside : (e : ℕ) (a : Abort) → between .endpoints e .abort ≡ some a → Mem caller (a .pending) → ⊥
+  pub entry : Thread
+  pub calls : callOf entry ≡ some c
+  pub threads : r .state .threads ≡ put (between .threads) caller entry
+  pub abort : (e : ℕ) → r .state .endpoints e .abort ≡ between .endpoints e .abort
+  pub status : (e : ℕ) → r .state .endpoints e .status ≡ between .endpoints e .status
+  pub joins : (e : ℕ) → Joins caller (between .endpoints e .waiters) (r .state .endpoints e .waiters)
+
+-- Core reads of an endpoint its status and its abort.
+core-same :
+    (past : List Call) (answers : List Answer) (n : ℕ) (since : ℕ → ℕ) (f : ℕ → Thread) (x y : ℕ → Endpoint)
+    (standing : ℕ → Option Aborting) (ended : List Ended) → ((e : ℕ) → y e .abort ≡ x e .abort)
+    → ((e : ℕ) → y e .status ≡ x e .status) → Core past answers n since f x standing ended
+    → Core past answers n since f y standing ended
+core-same past answers n since f x y standing ended abort status C =
+    record {
+      made = C .made;
+      apart = C .apart;
+      stands = λ e. rw (abort e) (C .stands e);
+      over =
+          λ z i.
+          let O = C .over z i in
+          record { exact = O .exact; by = O .by; clean = λ t e p l. O .clean t e p (sym (status e) ∙ l) };
+    }
+
+-- The new waiter t has a name that no abort has heard of.
+module _
+    (past : List Call) (n : ℕ) (fits : n ≤ suc (length past)) (since : ℕ → ℕ) (f : ℕ
+    → Thread) (t : ℕ) (x : Thread) where
+  stood-block :
+      (e : ℕ) (a : Abort) (z : Aborting) → (Mem t (a .pending) → ⊥) → Stood past n since f e a z
+      → Stood past n (put since t (length past)) (put f t x) e a z
+  stood-block e a z aside S =
+      record {
+        endpoint = S .endpoint;
+        badge = S .badge;
+        began = S .began;
+        old = S .old;
+        once = S .once;
+        part =
+            subst (λ (k : List ℕ). Sub (z .looked ++ k) (z .onto))
+            (sym (map-agree (put since t (length past)) since (a .pending) keeps)) (S .part);
+        left =
+            put-all
+            (λ u y. y .place ≡ sending e → Mem (put since t (length past) u) (z .onto)
+            → Mem (put since t (length past) u) (z .looked) ⊎ Mem u (a .pending))
+            f t x new
+            (λ u h p. rw (put-other since t u (length past) h) (S .left u p));
+        removed = S .removed;
+      }
+    where
+      keeps : (u : ℕ) → Mem u (a .pending) → put since t (length past) u ≡ since u
+      keeps u m = put-other since t u (length past) (λ q. aside (subst (λ (v : ℕ). Mem v (a .pending)) q m))
+
+      new :
+          x .place ≡ sending e → Mem (put since t (length past) t) (z .onto)
+          → Mem (put since t (length past) t) (z .looked) ⊎ Mem t (a .pending)
+      new p m =
+          let w = S .old (length past) (rw (put-same since t (length past)) at m) in absurd (omega (arith, S .began))
+
+  both-block :
+      (e : ℕ) (o : Option Abort) (p : Option Aborting) → ((a : Abort) → o ≡ some a → Mem t (a .pending) → ⊥)
+      → Both past n since f e o p → Both past n (put since t (length past)) (put f t x) e o p
+  both-block e none none aside B = B
+  both-block e none (some z) aside B = B
+  both-block e (some a) none aside B = B
+  both-block e (some a) (some z) aside B = stood-block e a z (aside a refl) B
+
+  over-block :
+      (endpoints : ℕ → Endpoint) (z : Ended) → Over past n since f endpoints z
+      → Over past n (put since t (length past)) (put f t x) endpoints z
+  over-block endpoints z O =
+      let E = O .exact in
+      record {
+        exact = E;
+        by = O .by;
+        clean =
+            put-all
+            (λ u y. (e : ℕ) → y .place ≡ sending e → endpoints e .status ≡ live
+            → isOld past (z .abort) (put since t (length past) u) ≡ false)
+            f t x
+            (λ e p l. rw (put-same since t (length past)) (not-old past (z .abort) (length past) (omega arith)))
+            (λ u h. rw (put-other since t u (length past) h) (O .clean u));
+      }
+
+  module _ (answers : List Answer) (c : Call) (able : callOf (f t) ≡ none) (calls : callOf x ≡ some c)
+      (whole : length answers ≡ length past) where
+    -- Of two waiters, u one that waited before.
+    unlike :
+        (u : ℕ) (d : Call) → ((u : ℕ) (c : Call) → callOf (f u) ≡ some c → Made past answers (since u) c)
+        → callOf (f u) ≡ some d → since u ≡ length past → ⊥
+    unlike u d made h q = let k = entry-below past (since u) d (made u d h .call) in omega arith
+
+    -- t waits, by the call c, answered 1.
+    core-block :
+        (endpoints : ℕ → Endpoint) (standing : ℕ → Option Aborting) (ended : List Ended)
+        → ((e : ℕ) (a : Abort) → endpoints e .abort ≡ some a → Mem t (a .pending) → ⊥)
+        → Core past answers n since f endpoints standing ended
+        → Core (past ++ (c ∷ [])) (answers ++ (plain 1 ∷ [])) n (put since t (length past)) (put f t x) endpoints
+        standing ended
+    core-block endpoints standing ended aside C =
+        record {
+          made =
+              put-all
+              (λ u y. (d : Call) → callOf y ≡ some d
+              → Made (past ++ (c ∷ [])) (answers ++ (plain 1 ∷ [])) (put since t (length past) u) d)
+              f t x mine
+              (λ u h d k. rw (put-other since t u (length past) h)
+              (made-grow past answers c d (plain 1) (since u) (C .made u d k)));
+          apart = apart;
+          stands =
+              λ e. both-grow past c n fits (put since t (length past)) (put f t x) e (endpoints e .abort) (standing e)
+              (both-block e (endpoints e .abort) (standing e) (aside e) (C .stands e));
+          over =
+              λ z i. over-grow past c n fits (put since t (length past)) (put f t x) endpoints z
+              (over-block endpoints z (C .over z i));
+        }
+      where
+        mine :
+            (d : Call) → callOf x ≡ some d
+            → Made (past ++ (c ∷ [])) (answers ++ (plain 1 ∷ [])) (put since t (length past) t) d
+        mine d h =
+            let same : c ≡ d = cc in
+            rw (put-same since t (length past), ← same)
+            (record {
+              call = entry-last past c;
+              answer = rw (← whole) (entry-last answers (plain 1));
+            })
+
+        old : (u : ℕ) → (u ≡ t → ⊥) → put since t (length past) u ≡ since u
+        old u h = put-other since t u (length past) h
+
+        new : (u : ℕ) → u ≡ t → put since t (length past) u ≡ length past
+        new u h = ap (put since t (length past)) h ∙ put-same since t (length past)
+
+        was : (u : ℕ) (d : Call) → (u ≡ t → ⊥) → callOf (put f t x u) ≡ some d → callOf (f u) ≡ some d
+        was u d h k = ap callOf (sym (put-other f t u x h)) ∙ k
+
+        apart :
+            (u v : ℕ) (k d : Call) → callOf (put f t x u) ≡ some k → callOf (put f t x v) ≡ some d
+            → put since t (length past) u ≡ put since t (length past) v → u ≡ v
+        apart u v k d p q e = go (same? u t) (same? v t)
+          where
+            go : Same u t → Same v t → u ≡ v
+            go (same i _) (same j _) = i ∙ sym j
+            go (same i _) (other j _) =
+                absurd (unlike v d (C .made) (was v d j q) (sym (old v j) ∙ sym e ∙ new u i))
+            go (other i _) (same j _) = absurd (unlike u k (C .made) (was u k i p) (sym (old u i) ∙ e ∙ new v j))
+            go (other i _) (other j _) = C .apart u v k d (was u k i p) (was v d j q) (sym (old u i) ∙ e ∙ old v j)
+
+    -- The same, of what the call left.
+    pub core-blocks :
+        (place : ℕ) → place ≡ length past → (g : ℕ → Thread) → g ≡ put f t x → (a : Answer) → a ≡ plain 1
+        → (endpoints y : ℕ → Endpoint) → ((e : ℕ) → y e .abort ≡ endpoints e .abort)
+        → ((e : ℕ) → y e .status ≡ endpoints e .status) → (standing : ℕ → Option Aborting) (ended : List Ended)
+        → ((e : ℕ) (a : Abort) → endpoints e .abort ≡ some a → Mem t (a .pending) → ⊥)
+        → Core past answers n since f endpoints standing ended
+        → Core (past ++ (c ∷ [])) (answers ++ (a ∷ [])) n (put since t place) g y standing ended
+    core-blocks place p g q a r endpoints y abort status standing ended aside C =
+        rw (p, q, r)
+        (core-same (past ++ (c ∷ [])) (answers ++ (plain 1 ∷ [])) n (put since t (length past)) (put f t x) endpoints y
+        standing ended abort status (core-block endpoints standing ended aside C))

@@ -1,0 +1,167 @@
+-- Calls 11 and 12 carry what holds of the history from the list so far to the list with one more call.
+use Prim.Native.Nat.{ℕ, suc, _≤_}
+use mathlib.Core.Path.{_≡_, refl, sym, _∙_, ap, subst}
+use mathlib.Core.Logic.{_⊎_, inl, inr}
+use mathlib.Core.Bool.{Bool, true, false}
+use mathlib.Core.Option.{Option, none, some}
+use mathlib.Core.List.{List, [], _∷_, _++_, map}
+use native.Mathlib.Omega.{arith}
+use Rattle.machine.specs.declared.Call.{Call}
+use Rattle.machine.specs.declared.Call.the-variants.{Delete}
+use Rattle.machine.specs.Calls.{inRange}
+use Rattle.machine.specs.Lists.{put, Rising}
+use Rattle.machine.specs.State.{State, Status, missing, live, closing}
+use Rattle.machine.specs.Endpoints.{dropDebt, endAbort}
+use Rattle.machine.specs.Results.{Look, Result, plain, refuse}
+use Rattle.machine.specs.Aborts.{deleteFrom, deleteAt, delete, abort}
+use Rattle.machine.specs.Machine.{byCaller, perform, performIf, step}
+use Rattle.machine.specs.Sound.{Sound}
+use Rattle.machine.specs.History.{Aborting, Ended, History, Outcome, isAccepted, queues?, named, unchanged}
+use Rattle.machine.specs.History.{deletes, outcomeOf, outcomeIf, recorded, told}
+use Rattle.machine.specs.Claim.{In}
+use Rattle.machine.proofs.Preserved.Mid.{sound-mid}
+use Rattle.machine.proofs.Demand3.Standing.{core-grow}
+use Rattle.machine.proofs.Demand3.Leaving.{leaves-self}
+use Rattle.machine.proofs.Demand3.Deletions.{delete-accepted, delete-looks, delete-queues, delete-none, tied-none}
+use Rattle.machine.proofs.Demand3.Deletions.{delete-some, tied-some}
+use Rattle.machine.proofs.Preserved.Steps.{step-sound}
+use Rattle.machine.proofs.Demand3.Invariant.{Inv}
+use Rattle.machine.proofs.Demand3.Recording.{Goes, goes}
+use Rattle.machine.proofs.Demand3.OtherCalls.{fits, idle-core, idle-rising}
+
+module _ (past : List Call) (s : State) (h : History) (I : Inv past s h) where
+  -- The history of a call that names no waiter, by what it comes to for the aborts.
+  told-as :
+      (c : Call) (r : Result) (o : Outcome) → queues? c (r .answer .code) ≡ false
+      → outcomeIf (isAccepted (r .answer)) c (s .runs) r h ≡ o → told c s r h ≡ recorded (h .since) o c r h
+  unfolding told named
+  told-as c r o p q = rw (p, q)
+
+  pub next :
+      (c : Call) (r : Result) (o : Outcome) → queues? c (r .answer .code) ≡ false
+      → outcomeIf (isAccepted (r .answer)) c (s .runs) r h ≡ o → Goes past s h I c r (h .since) o
+      → Inv (past ++ (c ∷ [])) (r .state) (told c s r h)
+  next c r o p q G =
+      subst (Inv (past ++ (c ∷ [])) (r .state)) (sym (told-as c r o p q)) (goes past s h I c r (h .since) o G)
+
+  -- Call 11
+
+  module _ (e a : ℕ) where
+    refused11 :
+        (n : ℕ) → isAccepted (plain n) ≡ false
+        → Inv (past ++ (Delete e a ∷ [])) s (told (Delete e a) s (refuse n s) h)
+    unfolding outcomeIf
+    refused11 n p =
+        next (Delete e a) (refuse n s) (unchanged (refuse n s) h) refl (rw p)
+        (record {
+          sound = I .sound;
+          core = idle-core past s h I (Delete e a) (refuse n s) (leaves-self s);
+          tied = I .tied;
+          rising = I .rising;
+          stray = I .stray;
+          new = λ z i. inl i;
+          kept = λ z i. i;
+          duty8 = tt;
+          duty12 = tt;
+        })
+
+    module _ (t : ℕ) (runs : s .runs ≡ some t)
+        (S : Sound (deleteFrom e a (endAbort closing e (dropDebt t s)) .state)) where
+      abbrev r : Result
+      r = deleteFrom e a (endAbort closing e (dropDebt t s))
+
+      no-stray : map (λ (v : Look). h .since (v .waiter)) (r .looks) ++ h .aborts .stray ≡ []
+      no-stray =
+          ap (λ (l : List Look). map (λ (v : Look). h .since (v .waiter)) l ++ h .aborts .stray)
+          (delete-looks e a (endAbort closing e (dropDebt t s))) ∙ I .stray
+
+      rising : (f : ℕ) → Rising (map (h .since) (r .state .endpoints f .waiters))
+      rising =
+          idle-rising past s h I (r .state)
+          (delete-queues past (h .answers) (h .since) (h .aborts .standing) (h .aborts .ended) (h .aborts .debts) t e a
+          (h .now) s (sound-mid (I .sound)) (I .core) (I .tied))
+
+      deletes-on :
+          (k : Option Aborting) → h .aborts .standing e ≡ k
+          → Goes past s h I (Delete e a) r (h .since) (deletes k e (some t) r h)
+      unfolding deletes
+      deletes-on none p =
+          record {
+            sound = S;
+            core =
+                core-grow past (Delete e a) (suc (h .now)) (fits past s h I) (h .since) _ (h .answers) _ _
+                (h .aborts .standing) (h .aborts .ended)
+                (delete-none past (h .answers) (h .since) (h .aborts .standing) (h .aborts .ended) (h .aborts .debts) t
+                e a (h .now) s (sound-mid (I .sound)) (I .core) (I .tied) p);
+            tied =
+                tied-none past (h .answers) (h .since) (h .aborts .standing) (h .aborts .ended) (h .aborts .debts) t e
+                a (h .now) s (sound-mid (I .sound)) (I .core) (I .tied) p;
+            rising = rising;
+            stray = no-stray;
+            new = λ z i. inl i;
+            kept = λ z i. i;
+            duty8 = tt;
+            duty12 = tt;
+          }
+      deletes-on (some x) p =
+          record {
+            sound = S;
+            core =
+                core-grow past (Delete e a) (suc (h .now)) (fits past s h I) (h .since) _ (h .answers) _ _
+                (put (h .aborts .standing) e none) _
+                (delete-some past (h .answers) (h .since) (h .aborts .standing) (h .aborts .ended) (h .aborts .debts) t
+                e a (h .now) s (sound-mid (I .sound)) (I .core) (I .tied) x p);
+            tied =
+                tied-some past (h .answers) (h .since) (h .aborts .standing) (h .aborts .ended) (h .aborts .debts) t e
+                a (h .now) s (sound-mid (I .sound)) (I .core) (I .tied) x p;
+            rising = rising;
+            stray = no-stray;
+            new = new;
+            kept = λ z i. inr i;
+            duty8 = tt;
+            duty12 = tt;
+          }
+        where
+          new :
+              (z : Ended) → In z (record { abort = x; by = h .now } ∷ h .aborts .ended)
+              → In z (h .aborts .ended) ⊎ (h .now ≤ z .by)
+          new z (inl i) = inr (rw i (omega arith))
+          new z (inr i) = inl i
+
+      outcome11 :
+          outcomeIf (isAccepted (r .answer)) (Delete e a) (s .runs) r h ≡ deletes (h .aborts .standing e) e (some t) r h
+      unfolding outcomeIf outcomeOf
+      outcome11 =
+          ap (λ (b : Bool). outcomeIf b (Delete e a) (s .runs) r h)
+          (delete-accepted e a (endAbort closing e (dropDebt t s)))
+          ∙ ap (λ (o : Option ℕ). deletes (h .aborts .standing e) e o r h) runs
+
+      deletes-next : Inv (past ++ (Delete e a ∷ [])) (r .state) (told (Delete e a) s r h)
+      deletes-next =
+          next (Delete e a) r (deletes (h .aborts .standing e) e (some t) r h) refl outcome11
+          (deletes-on (h .aborts .standing e) refl)
+
+    delete-at :
+        (t : ℕ) → s .runs ≡ some t → (x : Status) → Sound (deleteAt x t e a s .state)
+        → Inv (past ++ (Delete e a ∷ [])) (deleteAt x t e a s .state) (told (Delete e a) s (deleteAt x t e a s) h)
+    unfolding deleteAt
+    delete-at t runs missing S = refused11 23 refl
+    delete-at t runs live S = deletes-next t runs S
+    delete-at t runs closing S = deletes-next t runs S
+
+    pub advance11 :
+        Inv (past ++ (Delete e a ∷ [])) (step s (Delete e a) .state) (told (Delete e a) s (step s (Delete e a)) h)
+    unfolding step performIf perform delete
+    advance11 = go (inRange (Delete e a)) (step-sound s (Delete e a) (I .sound))
+      where
+        by : (k : Option ℕ) → s .runs ≡ k → Sound (byCaller k (λ t. delete t e a) s .state)
+            → Inv (past ++ (Delete e a ∷ [])) (byCaller k (λ t. delete t e a) s .state)
+            (told (Delete e a) s (byCaller k (λ t. delete t e a) s) h)
+        by none p S = refused11 20 refl
+        by (some t) p S = delete-at t p (s .endpoints e .status) S
+
+        go : (b : Bool) → Sound (performIf b (Delete e a) s .state)
+            → Inv (past ++ (Delete e a ∷ [])) (performIf b (Delete e a) s .state)
+            (told (Delete e a) s (performIf b (Delete e a) s) h)
+        go true S = by (s .runs) refl S
+        go false S = refused11 19 refl

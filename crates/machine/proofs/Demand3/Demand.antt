@@ -1,0 +1,108 @@
+-- Demand 3, for every list of calls.
+use Prim.Native.Nat.{ℕ}
+use mathlib.Core.Path.{_≡_, refl, sym, _∙_, ap, subst}
+use mathlib.Core.Bool.{Bool}
+use mathlib.Core.Option.{Option, none, some}
+use mathlib.Core.List.{List, [], _∷_, _++_, append-assoc, append-nil}
+use native.Mathlib.Omega.{arith}
+use Rattle.machine.specs.declared.Call.{Call}
+use Rattle.machine.specs.declared.Call.the-variants.{CreateThread, DestroyThread, SetPriority, CreateEndpoint}
+use Rattle.machine.specs.declared.Call.the-variants.{Interrupt, Tick, Send, Receive, Yield, Wait, Delete, Abort}
+use Rattle.machine.specs.State.{State, freshState}
+use Rattle.machine.specs.Aborts.{abortUnless, abort}
+use Rattle.machine.specs.Machine.{byCaller, perform, performIf, step}
+use Rattle.machine.specs.History.{Reported, Run, History, told, runFrom, freshHistory, freshRun, historyOf}
+use Rattle.machine.specs.Claim.{Claim}
+use Rattle.machine.specs.Tied.{Tied, NotesFirst}
+use Rattle.machine.proofs.Demand3.Leaving.{no-call}
+use Rattle.machine.proofs.Preserved.Steps.{fresh-sound}
+use Rattle.machine.proofs.Demand3.Invariant.{Inv, claim}
+use Rattle.machine.proofs.Demand3.OtherCalls.{advance}
+use Rattle.machine.proofs.Demand3.Breakable.{advance11}
+use Rattle.machine.proofs.Demand3.AbortCalls.{note-is, advance12}
+
+no-report : {P : Type 0} {r : Reported} → none ≡ some r → P
+no-report {P} {r} h = let z : _≡_ {A = ℕ} 0 1 = cc in absurd (omega arith)
+
+-- Nothing has happened yet.
+fresh : Inv [] freshState freshHistory
+fresh =
+    record {
+      sound = fresh-sound;
+      now = refl;
+      answered = refl;
+      waiting = refl;
+      core =
+          record {
+            made = λ t c h. no-call refl h;
+            apart = λ t u c d h. no-call refl h;
+            stands = λ e. tt;
+            over = λ z i. absurd i;
+          };
+      tied = record { workers = λ e. refl; notes = λ t. refl; heard = λ t r h. no-report h };
+      rising = λ e. tt;
+      stray = refl;
+      given = λ d i. absurd i;
+      called = λ y i. absurd i;
+      recorded12 = λ i e a b h. no-call refl h;
+      recorded8 = λ i e a h. no-call refl h;
+    }
+
+-- One more call.
+onward :
+    (past : List Call) (s : State) (h : History) (c : Call) → Inv past s h
+    → Inv (past ++ (c ∷ [])) (step s c .state) (told c s (step s c) h)
+onward past s h (CreateThread t p) I = advance past s h I (CreateThread t p) tt
+onward past s h (DestroyThread t) I = advance past s h I (DestroyThread t) tt
+onward past s h (SetPriority t p) I = advance past s h I (SetPriority t p) tt
+onward past s h (CreateEndpoint e) I = advance past s h I (CreateEndpoint e) tt
+onward past s h (Interrupt l) I = advance past s h I (Interrupt l) tt
+onward past s h Tick I = advance past s h I Tick tt
+onward past s h (Send e b m) I = advance past s h I (Send e b m) tt
+onward past s h (Receive e) I = advance past s h I (Receive e) tt
+onward past s h Yield I = advance past s h I Yield tt
+onward past s h (Wait l) I = advance past s h I (Wait l) tt
+onward past s h (Delete e a) I = advance11 past s h I e a
+onward past s h (Abort e a b) I = advance12 past s h I e a b
+
+-- The rest of the list.
+along :
+    (calls past : List Call) (x : Run) → Inv past (x .state) (x .history)
+    → Inv (past ++ calls) (runFrom step calls x .state) (runFrom step calls x .history)
+unfolding runFrom
+along [] past x I = rw append-nil I
+along (c ∷ l) past x I =
+    subst
+    (λ (k : List Call). Inv k (runFrom step (c ∷ l) x .state) (runFrom step (c ∷ l) x .history))
+    (append-assoc past (c ∷ []) l)
+    (along l (past ++ (c ∷ []))
+    (record {
+      state = step (x .state) c .state;
+      history = told c (x .state) (step (x .state) c) (x .history);
+    })
+    (onward past (x .state) (x .history) c I))
+
+-- For every list of the twelve calls, with any numbers, refused ones included, made in turn from fresh tables, the
+-- claim holds after the list.
+pub demand : (calls : List Call) → Claim calls (historyOf calls)
+demand calls = claim calls (runFrom step calls freshRun .state) (historyOf calls) (along calls [] freshRun fresh)
+
+-- Whoever owns an abort or has a note of one in the machine does so in the history, which reads neither, and every note
+-- is of an abort that has ended.
+pub debts-are :
+    (calls : List Call)
+    → Tied (runFrom step calls freshRun .state .threads) (runFrom step calls freshRun .state .endpoints)
+    (historyOf calls .aborts .debts) (historyOf calls .aborts .ended)
+debts-are calls = along calls [] freshRun fresh .tied
+
+-- Whoever has a note in the history is answered from it, whatever has become of the endpoint.
+pub notes-first : NotesFirst step
+unfolding step performIf perform abort abortUnless
+notes-first calls t e a b range runs note =
+    ap (λ (x : Bool). performIf x (Abort e a b) s .answer) range
+    ∙ ap (λ (o : Option ℕ). byCaller o (λ u. abort u e a b) s .answer) runs
+    ∙ ap (λ (x : Bool). abortUnless x t e a b s .answer)
+    (sym (note-is e b (historyOf calls .aborts .debts .notes t) (s .threads t .debt) (debts-are calls .notes t)) ∙ note)
+  where
+    s : State
+    s = runFrom step calls freshRun .state

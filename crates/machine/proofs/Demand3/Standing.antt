@@ -1,0 +1,210 @@
+-- What holds of a list so far, its state and its aborts, after every call and, inside a call 12, after every look.
+use Prim.Native.Nat.{ℕ, suc, _≤_, _<_}
+use mathlib.Core.Path.{_≡_, refl, sym, _∙_, ap}
+use mathlib.Core.Logic.{_⊎_}
+use mathlib.Core.Bool.{Bool, true, false, _&&_}
+use mathlib.Core.Option.{Option, none, some}
+use mathlib.Core.List.{List, [], _∷_, _++_, map}
+use native.Mathlib.Omega.{arith}
+use lib.Dec.{ltb}
+use lib.ListN.{length, getElem?}
+use borrow.Author.Tests.{ltb-true, le-ltb}
+use Rattle.machine.specs.declared.Answer.{Answer}
+use Rattle.machine.specs.declared.Call.{Call}
+use Rattle.machine.specs.declared.Call.the-variants.{Send, Receive, Wait}
+use Rattle.machine.specs.Lists.{only, Mem, Distinct}
+use Rattle.machine.specs.State.{Thread, Place, absent, able, sending, receiving, waiting, Abort, live}
+use Rattle.machine.specs.State.{Endpoint}
+use Rattle.machine.specs.Results.{plain}
+use Rattle.machine.specs.History.{Aborting, Ended}
+use Rattle.machine.specs.Claim.{In, isSendOf, isOld}
+use Rattle.machine.proofs.Preserved.Ready.{none-some}
+use Rattle.machine.proofs.Sublists.{Sub, sub-trans, sub-distinct, sub-length, sub-mem, sub-left, only-agree}
+use Rattle.machine.proofs.Sublists.{entry-keep}
+use Rattle.machine.proofs.Sublists.{entry-grow}
+
+-- The call that a waiter made, by its place, badge and message.
+abbrev pub callAt : Place → ℕ → ℕ → Option Call
+callAt absent b m = none
+callAt able b m = none
+callAt (sending e) b m = some (Send e b m)
+callAt (receiving e) b m = some (Receive e)
+callAt (waiting l) b m = some (Wait l)
+
+abbrev pub callOf : Thread → Option Call
+callOf x = callAt (x .place) (x .badge) (x .message)
+
+-- Queued to send, by place and by call.
+pub sends-call : (x : Thread) (e : ℕ) → x .place ≡ sending e → callOf x ≡ some (Send e (x .badge) (x .message))
+sends-call x e h = ap (λ (p : Place). callAt p (x .badge) (x .message)) h
+
+pub call-sends :
+    (x : Thread) (e b m : ℕ) → callOf x ≡ some (Send e b m)
+    → (x .place ≡ sending e) × (x .badge ≡ b) × (x .message ≡ m)
+call-sends x e b m h = go (x .place) refl h
+  where
+    go : (p : Place) → x .place ≡ p → callAt p (x .badge) (x .message) ≡ some (Send e b m)
+        → (x .place ≡ sending e) × (x .badge ≡ b) × (x .message ≡ m)
+    go absent q k = absurd (none-some refl k)
+    go able q k = absurd (none-some refl k)
+    go (sending f) q k = ((cc), (cc), (cc))
+    go (receiving f) q k = let z : _≡_ {A = ℕ} 0 1 = cc in absurd (omega arith)
+    go (waiting l) q k = let z : _≡_ {A = ℕ} 0 1 = cc in absurd (omega arith)
+
+-- The call at place w of the list is c, answered 1.
+pub record Made (past : List Call) (answers : List Answer) (w : ℕ) (c : Call) : Type 0 where
+  pub call : getElem? past w ≡ some c
+  pub answer : getElem? answers w ≡ some (plain 1)
+
+-- Of an abort, ended or not, what the claim says of its looks; it began before n.
+pub record Exact (past : List Call) (n : ℕ) (x : Aborting) : Type 0 where
+  pub began : x .began < n
+  pub removed : x .removed ≡ only (isOld past x) (x .looked)
+  pub once : Distinct (x .looked)
+  pub most : length (x .looked) ≤ length (x .onto)
+  pub among : (w : ℕ) → Mem w (x .looked) → Mem w (x .onto)
+
+-- The abort that stands at e, in the machine and in the history.
+pub record Stood
+    (past : List Call) (n : ℕ) (since : ℕ → ℕ) (threads : ℕ → Thread) (e : ℕ) (a : Abort) (x : Aborting) : Type 0 where
+  pub endpoint : x .endpoint ≡ e
+  pub badge : x .badge ≡ a .badge
+  pub began : x .began < n
+  pub old : (w : ℕ) → Mem w (x .onto) → w < x .began
+  pub once : Distinct (x .onto)
+  pub part : Sub (x .looked ++ map since (a .pending)) (x .onto)
+  pub left :
+      (t : ℕ) → threads t .place ≡ sending e → Mem (since t) (x .onto) → Mem (since t) (x .looked) ⊎ Mem t (a .pending)
+  pub removed : x .removed ≡ only (isOld past x) (x .looked)
+
+-- They stand together.
+abbrev pub Both : List Call → ℕ → (ℕ → ℕ) → (ℕ → Thread) → ℕ → Option Abort → Option Aborting → Type 0
+Both past n since threads e none none = Unit {0}
+Both past n since threads e none (some x) = ⊥
+Both past n since threads e (some a) none = ⊥
+Both past n since threads e (some a) (some x) = Stood past n since threads e a x
+
+-- An abort that has ended: nobody who is queued at a live endpoint is old for it.
+pub record Over
+    (past : List Call) (n : ℕ) (since : ℕ → ℕ) (threads : ℕ → Thread) (endpoints : ℕ
+    → Endpoint) (z : Ended) : Type 0 where
+  pub exact : Exact past n (z .abort)
+  pub by : z .by < n
+  pub clean :
+      (t f : ℕ) → threads t .place ≡ sending f → endpoints f .status ≡ live → isOld past (z .abort) (since t) ≡ false
+
+pub record Core
+    (past : List Call) (answers : List Answer) (n : ℕ) (since : ℕ → ℕ) (threads : ℕ → Thread) (endpoints : ℕ → Endpoint)
+    (standing : ℕ → Option Aborting) (ended : List Ended) : Type 0 where
+  -- A waiter's name is the place of its call, and no two have the same.
+  pub made : (t : ℕ) (c : Call) → callOf (threads t) ≡ some c → Made past answers (since t) c
+  pub apart :
+      (t u : ℕ) (c d : Call) → callOf (threads t) ≡ some c → callOf (threads u) ≡ some d → since t ≡ since u → t ≡ u
+  pub stands : (e : ℕ) → Both past n since threads e (endpoints e .abort) (standing e)
+  pub over : (z : Ended) → In z ended → Over past n since threads endpoints z
+
+-- What an abort says of its looks while it stands.
+pub stood-exact :
+    (past : List Call) (n : ℕ) (since : ℕ → ℕ) (threads : ℕ → Thread) (e : ℕ) (a : Abort) (x : Aborting)
+    → Stood past n since threads e a x → Exact past n x
+stood-exact past n since threads e a x S =
+    let p = sub-trans (sub-left (x .looked) (map since (a .pending))) (S .part) in
+    record {
+      began = S .began;
+      removed = S .removed;
+      once = sub-distinct p (S .once);
+      most = sub-length p;
+      among = sub-mem p;
+    }
+
+-- The list grows
+
+-- Whether a waiter is old is settled by what was there when the abort began.
+pub isOld-grow :
+    (past : List Call) (c : Call) (x : Aborting) (w : ℕ) → x .began ≤ length past
+    → isOld (past ++ (c ∷ [])) x w ≡ isOld past x w
+isOld-grow past c x w h = go (ltb w (x .began)) refl
+  where
+    go : (b : Bool) → ltb w (x .began) ≡ b → isOld (past ++ (c ∷ [])) x w ≡ isOld past x w
+    go true e =
+        let k : w < length past = omega (arith, ltb-true w (x .began) e) in
+        ap (λ (o : Option Call). ltb w (x .began) && isSendOf (x .endpoint) (x .badge) o)
+        (entry-keep past (c ∷ []) w k)
+    go false e = rw e
+
+-- One who comes later is not old.
+pub not-old : (past : List Call) (x : Aborting) (w : ℕ) → x .began ≤ w → isOld past x w ≡ false
+not-old past x w h = rw (le-ltb w (x .began) h)
+
+only-grow :
+    (past : List Call) (c : Call) (x : Aborting) (l : List ℕ) → x .began ≤ length past
+    → only (isOld past x) l ≡ only (isOld (past ++ (c ∷ [])) x) l
+only-grow past c x l h = only-agree _ _ l (λ w m. sym (isOld-grow past c x w h))
+
+pub made-grow :
+    (past : List Call) (answers : List Answer) (c d : Call) (a : Answer) (w : ℕ) → Made past answers w d
+    → Made (past ++ (c ∷ [])) (answers ++ (a ∷ [])) w d
+made-grow past answers c d a w M =
+    record {
+      call = entry-grow past c w d (M .call);
+      answer = entry-grow answers a w (plain 1) (M .answer);
+    }
+
+module _ (past : List Call) (c : Call) (n : ℕ) (fits : n ≤ suc (length past)) where
+  exact-grow : (x : Aborting) → Exact past n x → Exact (past ++ (c ∷ [])) n x
+  exact-grow x E =
+      record {
+        began = E .began;
+        removed = E .removed ∙ only-grow past c x (x .looked) (omega arith);
+        once = E .once;
+        most = E .most;
+        among = E .among;
+      }
+
+  module _ (since : ℕ → ℕ) (threads : ℕ → Thread) where
+    stood-grow :
+        (e : ℕ) (a : Abort) (x : Aborting) → Stood past n since threads e a x
+        → Stood (past ++ (c ∷ [])) n since threads e a x
+    stood-grow e a x S =
+        record {
+          endpoint = S .endpoint;
+          badge = S .badge;
+          began = S .began;
+          old = S .old;
+          once = S .once;
+          part = S .part;
+          left = S .left;
+          removed = S .removed ∙ only-grow past c x (x .looked) (omega arith);
+        }
+
+    pub both-grow :
+        (e : ℕ) (o : Option Abort) (p : Option Aborting) → Both past n since threads e o p
+        → Both (past ++ (c ∷ [])) n since threads e o p
+    both-grow e none none B = B
+    both-grow e none (some x) B = B
+    both-grow e (some a) none B = B
+    both-grow e (some a) (some x) B = stood-grow e a x B
+
+    pub over-grow :
+        (endpoints : ℕ → Endpoint) (z : Ended) → Over past n since threads endpoints z
+        → Over (past ++ (c ∷ [])) n since threads endpoints z
+    over-grow endpoints z O =
+        let E = O .exact in
+        record {
+          exact = exact-grow (z .abort) E;
+          by = O .by;
+          clean = λ t f p l. isOld-grow past c (z .abort) (since t) (omega arith) ∙ O .clean t f p l;
+        }
+
+    pub core-grow :
+        (answers : List Answer) (a : Answer) (endpoints : ℕ → Endpoint) (standing : ℕ → Option Aborting)
+        (ended : List Ended)
+        → Core past answers n since threads endpoints standing ended
+        → Core (past ++ (c ∷ [])) (answers ++ (a ∷ [])) n since threads endpoints standing ended
+    core-grow answers a endpoints standing ended C =
+        record {
+          made = λ t d h. made-grow past answers c d a (since t) (C .made t d h);
+          apart = C .apart;
+          stands = λ e. both-grow e (endpoints e .abort) (standing e) (C .stands e);
+          over = λ z i. over-grow endpoints z (C .over z i);
+        }

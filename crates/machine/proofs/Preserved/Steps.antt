@@ -1,0 +1,106 @@
+-- Every call keeps the tables sound, and fresh tables are sound.
+use Prim.Native.Nat.{ℕ, _^_}
+use mathlib.Core.Path.{_≡_, refl}
+use mathlib.Core.Bool.{Bool, true, false, _&&_}
+use mathlib.Core.Option.{Option, none, some}
+use borrow.Author.Tests.{leb-true, ltb-true}
+use Rattle.machine.specs.declared.Call.{Call}
+use Rattle.machine.specs.declared.Call.the-variants.{CreateThread, DestroyThread, SetPriority, CreateEndpoint}
+use Rattle.machine.specs.declared.Call.the-variants.{Interrupt, Tick, Send, Receive, Yield, Wait, Delete, Abort}
+use Rattle.machine.specs.Calls.{inRange, isThread, isPriority, isEndpoint, isBadge, isMessage, isAllowance}
+use Rattle.machine.specs.State.{State, freshState}
+use Rattle.machine.specs.Results.{Result}
+use Rattle.machine.specs.Machine.{byCaller, perform, performIf, step}
+use Rattle.machine.specs.Sound.{Sound}
+use Rattle.machine.proofs.Lists.{clash}
+use Rattle.machine.proofs.Preserved.Ready.{none-some}
+use Rattle.machine.proofs.Preserved.Sites.{differ, not-at, not-awaited}
+use Rattle.machine.proofs.Preserved.Threads.{create-sound, destroy-sound, priority-sound, tick-sound, yield-sound}
+use Rattle.machine.proofs.Preserved.Transfers.{endpoint-sound, send-sound, receive-sound}
+use Rattle.machine.proofs.Preserved.Interrupts.{interrupt-sound, wait-sound}
+use Rattle.machine.proofs.Preserved.Debts.{nothing-owns}
+use Rattle.machine.proofs.Preserved.Deletes.{delete-sound}
+use Rattle.machine.proofs.Preserved.Aborts.{abort-sound}
+
+-- Both tests hold.
+both : (a b : Bool) → (a && b) ≡ true → (a ≡ true) × (b ≡ true)
+both true true h = (refl, refl)
+both true false h = absurd (clash h refl)
+both false true h = absurd (clash h refl)
+both false false h = absurd (clash h refl)
+
+-- The running thread's call: nobody running is refused.
+by-caller :
+    (f : ℕ → State → Result) (s : State) → Sound s → ((t : ℕ) → s .runs ≡ some t → Sound (f t s .state))
+    → Sound (byCaller (s .runs) f s .state)
+by-caller f s S h = go (s .runs) refl
+  where
+    go : (r : Option ℕ) → s .runs ≡ r → Sound (byCaller r f s .state)
+    go none e = S
+    go (some t) e = h t e
+
+perform-sound : (s : State) (c : Call) → Sound s → inRange c ≡ true → Sound (perform c s .state)
+unfolding perform
+perform-sound s (CreateThread t p) S h =
+    let k = both (isThread t) (isPriority p) h in
+    create-sound s t p S (leb-true t 255 (k .0)) (leb-true p 255 (k .1))
+perform-sound s (DestroyThread t) S h = destroy-sound s t S
+perform-sound s (SetPriority t p) S h =
+    let k = both (isThread t) (isPriority p) h in
+    priority-sound s t p S (leb-true p 255 (k .1))
+perform-sound s (CreateEndpoint e) S h = endpoint-sound s e S (leb-true e 63 h)
+perform-sound s (Interrupt l) S h = interrupt-sound s l S (leb-true l 31 h)
+perform-sound s Tick S h = tick-sound s S
+perform-sound s (Send e b m) S h =
+    let k = both (isEndpoint e && isBadge b) (isMessage m) h in
+    let j = both (isEndpoint e) (isBadge b) (k .0) in
+    by-caller _ s S (λ t r. send-sound s t e S r b m (ltb-true b (2 ^ 28) (j .1)) (ltb-true m (2 ^ 28) (k .1)))
+perform-sound s (Receive e) S h = by-caller _ s S (λ t r. receive-sound s t e S r)
+perform-sound s Yield S h = by-caller _ s S (λ t r. yield-sound s t S r)
+perform-sound s (Wait l) S h = by-caller _ s S (λ t r. wait-sound s t l S r (leb-true l 31 h))
+perform-sound s (Delete e a) S h =
+    let k = both (isEndpoint e) (isAllowance a) h in
+    by-caller _ s S (λ t r. delete-sound t e a s S r (leb-true e 63 (k .0)))
+perform-sound s (Abort e a b) S h =
+    let k = both (isEndpoint e && isAllowance a) (isBadge b) h in
+    let j = both (isEndpoint e) (isAllowance a) (k .0) in
+    by-caller _ s S (λ t r. abort-sound t e a b s S r (leb-true e 63 (j .0)) (ltb-true b (2 ^ 28) (k .1)))
+
+-- Make tables fresh: no thread, endpoint or pending line.
+pub fresh-sound : Sound freshState
+fresh-sound =
+    record {
+      ranges =
+          record {
+            numbers = λ t present. absurd (present refl);
+            unused-thread = λ t h. refl;
+            unused-endpoint = λ e h. refl;
+            unused-line = λ l h. refl;
+            abort-badge = λ e a h. absurd (none-some refl h);
+          };
+      queues =
+          record {
+            running = λ t h. absurd (none-some refl h);
+            ready = λ t p. (λ m. absurd m, λ r. absurd (differ (r .0 .0) refl refl));
+            ready-once = λ p. tt;
+            queued = λ t e. (λ m. absurd m, λ q. absurd (not-at refl refl refl q));
+            queued-once = λ e. tt;
+            one-kind = λ e t u h k. absurd (differ h refl refl);
+            on-line = λ t l. (λ h. absurd (not-awaited refl h), λ h. absurd (differ h refl refl));
+          };
+      chosen =
+          record { none-above = λ t u h. absurd (none-some refl h); none-ready = λ h u r. differ (r .0) refl refl };
+      statuses = record { empty = λ e h. refl; no-abort = λ e h. refl };
+      marks = record { part = λ e a h. absurd (none-some refl h); none-outside = λ e t a h. absurd (none-some refl h) };
+      owners = record { each-other = λ e t. (λ h. absurd (none-some refl h), λ h. absurd (nothing-owns refl h)) };
+      outcomes = record { blocked = λ t h. refl; stored = λ t h. (refl, refl) };
+    }
+
+-- Every call, whatever its numbers, leaves sound tables sound.
+pub step-sound : (s : State) (c : Call) → Sound s → Sound (step s c .state)
+unfolding step performIf
+step-sound s c S = go (inRange c) refl
+  where
+    go : (b : Bool) → inRange c ≡ b → Sound (performIf b c s .state)
+    go true h = perform-sound s c S h
+    go false h = S

@@ -1,0 +1,192 @@
+-- The claim bites: each machine that goes wrong makes it, or another statement, false on a short list of calls.
+use Prim.Native.Nat.{ℕ}
+use mathlib.Core.Path.{_≡_, refl, _∙_, ap}
+use mathlib.Core.Logic.{inl, inr}
+use mathlib.Core.Bool.{Bool, true, _&&_}
+use mathlib.Core.Option.{Option, none, some}
+use mathlib.Core.List.{List, [], _∷_}
+use native.Mathlib.Omega.{arith}
+use lib.Dec.{eqb}
+use lib.ListN.{length}
+use borrow.Author.Tests.{eqb-true}
+use Rattle.machine.specs.declared.Answer.{Answer}
+use Rattle.machine.specs.declared.Call.{Call}
+use Rattle.machine.specs.declared.Call.the-variants.{CreateThread, DestroyThread, CreateEndpoint, Send, Receive}
+use Rattle.machine.specs.declared.Call.the-variants.{Interrupt, Tick, Yield, Wait, Delete, Abort}
+use Rattle.machine.specs.Calls.{numberOf}
+use Rattle.machine.specs.State.{State}
+use Rattle.machine.specs.Results.{Result}
+use Rattle.machine.specs.Machine.{step}
+use Rattle.machine.specs.History.{Ended, Reported, runFrom, freshRun, historyBy}
+use Rattle.machine.specs.Claim.{In, Claim}
+use Rattle.machine.specs.Tied.{NotesFirst}
+use Rattle.machine.proofs.Calls.Ticks.{ticks-kept}
+use Rattle.machine.proofs.Lists.{clash}
+use Rattle.machine.proofs.Preserved.Aborts.{both-true}
+use Rattle.machine.proofs.Runs.Computed.{computed}
+use Rattle.machine.proofs.Runs.Wrong.{idler, remover, copier, boaster, taker, marker, repeater, thief, noter}
+use Rattle.machine.proofs.Runs.Wrong.{lifo, hider, ghost, latecomer, refiller}
+
+-- The call that the reported abort began in.
+beganOf : Option Reported → ℕ
+beganOf none = 0
+beganOf (some r) = r .began
+
+-- All aborts of the list began in call n.
+allBegan : ℕ → List Ended → Bool
+allBegan n [] = true
+allBegan n (z ∷ l) = eqb (z .abort .began) n && allBegan n l
+
+all-began : (n : ℕ) (l : List Ended) → allBegan n l ≡ true → (z : Ended) → In z l → z .abort .began ≡ n
+unfolding allBegan
+all-began n [] h z i = absurd i
+all-began n (x ∷ l) h z (inl e) =
+    ap (λ (y : Ended). y .abort .began) e ∙ eqb-true (x .abort .began) n (both-true _ _ h .0)
+all-began n (x ∷ l) h z (inr i) = all-began n l (both-true (eqb (x .abort .began) n) (allBegan n l) h .1) z i
+
+headOf : List ℕ → ℕ
+headOf [] = 0
+headOf (x ∷ l) = x
+
+-- Threads 1 and 2 wait to send under badge 7; thread 3 runs.
+abbrev two-lookups : List Call → List Call
+two-lookups l =
+    CreateThread 1 10 ∷ CreateThread 2 10 ∷ CreateEndpoint 0 ∷ Send 0 7 100 ∷ Send 0 7 101 ∷ CreateThread 3 20 ∷ l
+
+-- reported-ended: the second call 12 is answered 0, and the abort stands.
+pub idler-fails :
+    Claim (two-lookups (Abort 0 1 7 ∷ Abort 0 1 7 ∷ []))
+    (historyBy idler (two-lookups (Abort 0 1 7 ∷ Abort 0 1 7 ∷ []))) → ⊥
+unfolding computed idler
+idler-fails C = C .reported-ended _ (inl refl) refl .ended .found
+
+-- removed-exactly: the waiter of badge 8 is removed by the abort of badge 7.
+abbrev one-other : List Call
+one-other = CreateThread 1 10 ∷ CreateEndpoint 0 ∷ Send 0 8 200 ∷ CreateThread 3 20 ∷ Abort 0 5 7 ∷ []
+
+pub remover-fails : Claim one-other (historyBy remover one-other) → ⊥
+unfolding computed remover
+remover-fails C = omega (arith, ap length (C .removed-exactly _ (inr (_, inl refl, refl))))
+
+-- counted: nobody was looked at, and the answer counts 5.
+abbrev none-queued : List Call
+none-queued = CreateThread 1 10 ∷ CreateEndpoint 0 ∷ Abort 0 5 7 ∷ []
+
+pub copier-fails : Claim none-queued (historyBy copier none-queued) → ⊥
+unfolding computed copier
+copier-fails C = omega (arith, C .counted _ (inl refl))
+
+-- reported-ended: the first call 12 is answered 0 with a waiter left.
+pub boaster-fails :
+    Claim (two-lookups (Abort 0 1 7 ∷ [])) (historyBy boaster (two-lookups (Abort 0 1 7 ∷ []))) → ⊥
+unfolding computed boaster
+boaster-fails C = C .reported-ended _ (inl refl) refl .ended .found
+
+-- no-old-message: the delete ends the abort, and the receive after it takes a message queued under badge 7 before.
+abbrev closed-then-taken : List Call
+closed-then-taken =
+    CreateThread 1 10 ∷ CreateThread 2 10 ∷ CreateThread 4 10 ∷ CreateEndpoint 0 ∷ Send 0 7 100 ∷ Send 0 7 101
+    ∷ Send 0 7 102 ∷ CreateThread 3 20 ∷ Abort 0 1 7 ∷ Delete 0 1 ∷ Receive 0 ∷ []
+
+pub taker-fails : Claim closed-then-taken (historyBy taker closed-then-taken) → ⊥
+unfolding computed taker
+taker-fails C = clash refl (C .no-old-message _ (inl refl) _ (inl refl) (omega arith) 6 (inl refl))
+
+-- not-more: the end mark's thread is destroyed, made anew and queues behind another, and the abort looks at both.
+abbrev mark-again : List Call
+mark-again =
+    CreateThread 1 10 ∷ CreateThread 2 10 ∷ CreateThread 4 10 ∷ CreateEndpoint 0 ∷ Send 0 7 100 ∷ Send 0 8 101
+    ∷ Send 0 8 102 ∷ CreateThread 3 20 ∷ Abort 0 1 7 ∷ DestroyThread 4 ∷ CreateThread 5 40 ∷ Send 0 8 103
+    ∷ CreateThread 4 40 ∷ Send 0 8 104 ∷ Abort 0 9 7 ∷ []
+
+pub marker-fails : Claim mark-again (historyBy marker mark-again) → ⊥
+unfolding computed marker
+marker-fails C = omega (arith, C .not-more _ (inr (_, inl refl, refl)))
+
+-- not-twice: broken off at a kept waiter, the abort looks at it again.
+abbrev two-others : List Call
+two-others =
+    CreateThread 1 10 ∷ CreateThread 2 10 ∷ CreateEndpoint 0 ∷ Send 0 8 100 ∷ Send 0 8 101 ∷ CreateThread 3 20
+    ∷ Abort 0 1 7 ∷ Abort 0 1 7 ∷ []
+
+pub repeater-fails : Claim two-others (historyBy repeater two-others) → ⊥
+unfolding computed repeater
+repeater-fails C = C .not-twice _ (inl (0, refl)) .0 (inl refl)
+
+-- every-look-of-an-abort: refused by 20, the call has removed the waiter of badge 8.
+abbrev nobody-runs : List Call
+nobody-runs = CreateThread 1 10 ∷ CreateEndpoint 0 ∷ Send 0 8 200 ∷ Abort 0 5 7 ∷ []
+
+pub thief-fails : Claim nobody-runs (historyBy thief nobody-runs) → ⊥
+unfolding computed thief
+thief-fails C = omega (arith, ap length (C .every-look-of-an-abort))
+
+-- reported-ended: thread 3's first abort has ended, by thread 6's call, and its note is used up in call 10; its next is
+-- broken off in call 15, and call 16 is answered 0.
+abbrev noted-work : List Call
+noted-work =
+    two-lookups
+    (Abort 0 1 7 ∷ CreateThread 6 30 ∷ Abort 0 5 7 ∷ DestroyThread 6 ∷ Abort 0 1 7 ∷ Wait 0 ∷ Send 0 7 102
+    ∷ Send 0 7 103 ∷ Interrupt 0 ∷ Abort 0 1 7 ∷ Abort 0 1 7 ∷ [])
+
+pub noter-fails : Claim noted-work (historyBy noter noted-work) → ⊥
+unfolding computed noter beganOf allBegan
+noter-fails C =
+    let R = C .reported-ended _ (inl refl) refl in
+    let p : 15 ≡ R .reported .began = ap beganOf (R .is) in
+    let same = ap (λ (r : Reported). r .began) (R .ended .same) in
+    let q = all-began 6 (historyBy noter noted-work .aborts .ended) refl (R .ended .ended) (R .ended .found) in
+    omega (arith, p, q, same)
+
+-- hands-over: of two messages the later is handed over.
+pub lifo-fails : Claim (two-lookups (Receive 0 ∷ [])) (historyBy lifo (two-lookups (Receive 0 ∷ []))) → ⊥
+unfolding computed lifo headOf
+lifo-fails C =
+    let H = C .hands-over _ (inl refl) in
+    let m : 4 ≡ H .message = ap headOf (H .handed) in
+    omega (arith, m, H .longest 3 (inl refl))
+
+-- messages-sent: who came by a call 7 does not send.
+abbrev one-lookup : List Call
+one-lookup = CreateThread 1 10 ∷ CreateEndpoint 0 ∷ Send 0 7 100 ∷ []
+
+pub hider-fails : Claim one-lookup (historyBy hider one-lookup) → ⊥
+unfolding computed hider
+hider-fails C = omega (arith, ap length (C .messages-sent 0))
+
+-- looks-at-waiters: the second call 12 counts a look at a thread that has gone.
+abbrev gone-lookup : List Call
+gone-lookup =
+    CreateThread 1 10 ∷ CreateThread 2 10 ∷ CreateEndpoint 0 ∷ Send 0 7 100 ∷ Send 0 8 101 ∷ CreateThread 3 20
+    ∷ Abort 0 1 7 ∷ DestroyThread 2 ∷ Abort 0 5 7 ∷ []
+
+pub ghost-fails : Claim gone-lookup (historyBy ghost gone-lookup) → ⊥
+unfolding computed ghost
+ghost-fails C = C .looks-at-waiters _ (inl refl) _ (inl refl)
+
+-- NotesFirst: the endpoint of thread 1's abort is deleted, and its next abort call there is refused by 23.
+abbrev noted-gone : List Call
+noted-gone =
+    CreateThread 2 5 ∷ CreateEndpoint 0 ∷ Send 0 7 100 ∷ CreateThread 3 5 ∷ Send 0 7 101 ∷ CreateThread 1 10
+    ∷ Abort 0 1 7 ∷ CreateThread 6 11 ∷ Delete 0 9 ∷ DestroyThread 6 ∷ []
+
+pub latecomer-fails : NotesFirst latecomer → ⊥
+unfolding computed latecomer
+latecomer-fails N =
+    let q : _≡_ {A = ℕ} 23 0 = ap (λ (x : Answer). x .code) (N noted-gone 1 0 5 7 refl refl refl) in omega arith
+
+-- "Nothing else changes a thread's ticks" than creation, destruction and the tick: a yield does.
+abbrev TicksKept : (State → Call → Result) → Type 0
+TicksKept f =
+    (s : State) (c : Call) → (numberOf c ≡ 1 → ⊥) → (numberOf c ≡ 2 → ⊥) → (numberOf c ≡ 6 → ⊥) → (u : ℕ)
+    → f s c .state .threads u .ticks ≡ s .threads u .ticks
+
+pub step-keeps : TicksKept step
+step-keeps = ticks-kept
+
+pub refiller-fails : TicksKept refiller → ⊥
+unfolding computed refiller
+refiller-fails K =
+    let q : _≡_ {A = ℕ} 5 4 =
+    K (runFrom step (CreateThread 1 10 ∷ Tick ∷ []) freshRun .state) Yield (λ h. omega arith) (λ h. omega arith)
+    (λ h. omega arith) 1 in omega arith

@@ -1,0 +1,55 @@
+-- The words of an abort, by whether one stands.
+use borrow.Author.Needs.{needs}
+use Rattle.sound_queues.proofs.Aborting.{abort-none, abort-odd, abort-stands}
+use Rattle.sound_queues.proofs.endpoints.abort.Statement.{statement}
+use Rattle.sound_queues.proofs.endpoints.abort.Tie as tie
+
+endpoint-requires : tie.Need-endpoint-requires
+endpoint-requires c κs = search needs
+
+endpoint-requires-2 : tie.Need-endpoint-requires-2
+endpoint-requires-2 c κs = search needs
+
+endpoint-requires-3 : tie.Need-endpoint-requires-3
+endpoint-requires-3 c κs = search needs
+
+endpoint-requires-4 : tie.Need-endpoint-requires-4
+endpoint-requires-4 c κs = search needs
+
+endpoint-requires-5 : tie.Need-endpoint-requires-5
+endpoint-requires-5 c κs = search needs
+
+returns : tie.Need-returns
+returns c =
+    rw (← c .before .before .before .before .before .endpoint .ensures)
+    (abort-none _ _ (c .before .before .before .before .endpoint2 .ensures)
+    (c .before .before .before .endpoint3 .ensures)
+    (c .before .before .endpoint4 .ensures) _ (c .before .if1 .taken) (c .endpoint5 .ensures))
+
+returns-2 : tie.Need-returns-2
+returns-2 c =
+    rw (← c .before .before .before .before .before .endpoint .ensures) (abort-odd _ _ _ (c .if2 .taken))
+
+owner-requires : tie.Need-owner-requires
+owner-requires c κs = search needs
+
+returns-3 : tie.Need-returns-3
+returns-3 c =
+    rw (← c .before .before .before .before .before .before .endpoint .ensures)
+    (abort-stands _ _ (c .before .before .before .before .before .endpoint2 .ensures)
+    (c .before .before .before .before .endpoint3 .ensures) (c .before .before .before .endpoint4 .ensures) _
+    (c .before .before .if1 .left) (c .before .if2 .left) (c .owner .ensures))
+
+pub abort-spec : {M : Type 1} → statement M
+abort-spec =
+    tie.close
+    (tie.spec
+    endpoint-requires
+    endpoint-requires-2
+    endpoint-requires-3
+    endpoint-requires-4
+    endpoint-requires-5
+    returns
+    returns-2
+    owner-requires
+    returns-3)

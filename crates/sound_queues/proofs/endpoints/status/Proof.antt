@@ -1,0 +1,37 @@
+-- The status of an endpoint, by its word.
+use borrow.Author.Needs.{needs}
+use Rattle.sound_queues.proofs.Aborting.{status-absent, status-live, status-closing}
+use Rattle.sound_queues.proofs.endpoints.status.Statement.{statement}
+use Rattle.sound_queues.proofs.endpoints.status.Tie as tie
+
+endpoint-requires : tie.Need-endpoint-requires
+endpoint-requires c κs = search needs
+
+endpoint-requires-2 : tie.Need-endpoint-requires-2
+endpoint-requires-2 c κs = search needs
+
+add-head : tie.Need-add-head
+add-head c = search needs
+
+head-requires : tie.Need-head-requires
+head-requires c κs = search needs
+
+returns : tie.Need-returns
+returns c =
+    rw (← c .before .before .before .endpoint .ensures)
+    (status-absent _ _ _ (c .before .before .endpoint2 .ensures) (c .before .if1 .taken) (c .head .ensures))
+
+returns-2 : tie.Need-returns-2
+returns-2 c =
+    rw (← c .before .before .before .endpoint .ensures)
+    (status-live _ _ _ (c .before .before .endpoint2 .ensures) (c .if2 .taken))
+
+returns-3 : tie.Need-returns-3
+returns-3 c =
+    rw (← c .before .before .before .endpoint .ensures)
+    (status-closing _ _ _ (c .before .before .endpoint2 .ensures) (c .before .if1 .left) (c .if2 .left))
+
+pub status-spec : {M : Type 1} → statement M
+status-spec =
+    tie.close
+    (tie.spec endpoint-requires endpoint-requires-2 add-head head-requires returns returns-2 returns-3)

@@ -1,0 +1,65 @@
+// The queues of the levels: each is walked once, by its next links, and its threads are marked. A walk ends after as
+// many threads as there are, whatever the links say.
+ghost use mathlib.Core.Path.{_≡_};
+ghost use Prim.Native.Nat.{_≤_};
+ghost use lib.ListN.{length};
+ghost use Rattle.layout.specs.Tests.{all};
+ghost use Rattle.soundness.specs.Checks.{levelTest, met, metBelow};
+ghost use Rattle.sound_queues.specs.Steps.{readyBehind};
+ghost use Rattle.sound_queues.specs.Marks.{marksOf, Walk, Walks};
+use layout::Field;
+
+// Thread t, met behind link x in the queue of level p: it is linked back, and ready at p.
+fn ready(tables: &[u32], p: usize, x: usize, t: usize) -> bool
+    requires { ⌜ (length (now tables) ≡ 4096) × (t ≤ 255) ⌝ }
+    ensures { λ r. ⌜ r ≡ readyBehind (now (tables .entry)) p x t ⌝ }
+{
+    let prev = words::prev(tables, t);
+    let place = words::thread(tables, Field::Place, t);
+    let priority = words::thread(tables, Field::Priority, t);
+    let running = words::running(tables);
+    (prev == x) & ((place == 1) & (priority == p) & (running != t + 1))
+}
+
+fn level(tables: &[u32], scratch: &mut [u32], p: usize) -> bool
+    requires { ⌜ (length (now tables) ≡ 4096) × (length (now scratch) ≡ 256) × (p ≤ 255) ⌝ }
+    ensures { λ r. ⌜ Walk (now (scratch .entry)) (now (scratch .exit)) (met (now (tables .entry)) p)
+        (levelTest (now (tables .entry)) p) r ⌝ }
+{
+    let mut x: usize = 0;
+    let mut y = words::head(tables, p);
+    let mut left: usize = 257;
+    while 0 < left {
+        if y == 0 {
+            return words::tail(tables, p) == x;
+        }
+        if 256 < y {
+            return false;
+        }
+        let t = y - 1;
+        if !ready(tables, p, x, t) {
+            return false;
+        }
+        crate::marks::mark(scratch, t);
+        x = y;
+        y = words::next(tables, t);
+        left -= 1;
+    }
+    false
+}
+
+pub fn levels(tables: &[u32], scratch: &mut [u32]) -> bool
+    requires { ⌜ (length (now tables) ≡ 4096) × (length (now scratch) ≡ 256)
+        × (now scratch ≡ marksOf (metBelow 0 (now tables))) ⌝ }
+    ensures { λ r. ⌜ Walks (now (scratch .exit)) (metBelow 256 (now (tables .entry)))
+        (all 256 (levelTest (now (tables .entry)))) r ⌝ }
+{
+    let mut p = 0;
+    while p < 256 {
+        if !level(tables, scratch, p) {
+            return false;
+        }
+        p += 1;
+    }
+    true
+}

@@ -1,0 +1,37 @@
+// Each thread stands where its place says: it was met in a queue exactly if it belongs in one, and whoever was not met
+// has links 0.
+ghost use mathlib.Core.Path.{_≡_};
+ghost use Prim.Native.Nat.{_≤_};
+ghost use lib.ListN.{length};
+ghost use Rattle.layout.specs.Tests.{all};
+ghost use Rattle.soundness.specs.Checks.{placedTest, metBelow};
+ghost use Rattle.sound_queues.specs.Marks.{marksOf};
+use layout::Field;
+
+fn place(tables: &[u32], scratch: &[u32], t: usize) -> bool
+    requires { ⌜ (length (now tables) ≡ 4096) × (length (now scratch) ≡ 256)
+        × (now scratch ≡ marksOf (metBelow 320 (now tables))) × (t ≤ 255) ⌝ }
+    ensures { λ r. ⌜ r ≡ placedTest (now (tables .entry)) t ⌝ }
+{
+    let met = crate::marks::marked(scratch, t);
+    let place = words::thread(tables, Field::Place, t);
+    let running = words::running(tables);
+    let queued = ((place == 1) & (running != t + 1)) | ((2 <= place) & (place < 130));
+    let bare = (words::next(tables, t) == 0) & (words::prev(tables, t) == 0);
+    (met == queued) & (met | bare)
+}
+
+pub fn places(tables: &[u32], scratch: &[u32]) -> bool
+    requires { ⌜ (length (now tables) ≡ 4096) × (length (now scratch) ≡ 256)
+        × (now scratch ≡ marksOf (metBelow 320 (now tables))) ⌝ }
+    ensures { λ r. ⌜ r ≡ all 256 (placedTest (now (tables .entry))) ⌝ }
+{
+    let mut t = 0;
+    while t < 256 {
+        if !place(tables, scratch, t) {
+            return false;
+        }
+        t += 1;
+    }
+    true
+}

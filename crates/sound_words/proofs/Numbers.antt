@@ -1,0 +1,85 @@
+-- The tests of a thread's block, as the code takes them: by the values read.
+use Prim.Native.Nat.{ℕ, zero, suc, _+_, _-_, _≤_, _<_, _^_}
+use mathlib.Core.Bool.{Bool, true, false, _&&_}
+use mathlib.Core.List.{List}
+use mathlib.Core.Path.{_≡_, refl, ap, sym, _∙_}
+use native.Mathlib.Numerals.{add-one, add-two}
+use native.Mathlib.Omega.{arith}
+use lib.Dec.{eqb, leb, ltb}
+use borrow.Author.Tests.{lt-ltb, le-ltb, eq-eqb, ne-eqb, leb-true}
+use Rattle.layout.specs.declared.Field.{Field}
+use Rattle.layout.specs.declared.Part.{Part}
+use Rattle.layout.specs.Addresses.{ofLine, at, word}
+use Rattle.soundness.specs.Checks.{threadIn, endpointIn, numbersTest, storedTest, waitsTest, owesTest, absentTest}
+use Rattle.soundness.specs.Checks.{presentTest, blockTest}
+
+module _ (m : List ℕ) (t : ℕ) {p : ℕ} (is : p ≡ threadIn m Field.Place t) where
+  pub waits-not : p < 130 → true ≡ waitsTest m t
+  unfolding waitsTest
+  waits-not h = rw (← is, lt-ltb p 130 h)
+
+  pub waits-line : {w : ℕ} → 130 ≤ p → w ≡ word m (at (ofLine (p - 130))) → eqb w (t + 2) ≡ waitsTest m t
+  unfolding waitsTest
+  waits-line {w} h e = rw (← is, le-ltb p 130 h, ← e, add-two)
+
+  pub block-absent : {r : Bool} → p ≡ 0 → r ≡ absentTest m t → r ≡ blockTest m t
+  unfolding blockTest
+  block-absent h e = rw (← is, eq-eqb p 0 h) e
+
+  pub block-present : {r : Bool} → (p ≡ 0 → ⊥) → r ≡ presentTest m t → r ≡ blockTest m t
+  unfolding blockTest
+  block-present h e = rw (← is, ne-eqb p 0 h) e
+
+module _ (m : List ℕ) (t : ℕ) {n : ℕ} (noted : n ≡ threadIn m Field.Note t) where
+  owes-zero : (w : ℕ) → w ≡ 0 → eqb n 0 ≡ owesTest w m t
+  unfolding owesTest
+  owes-zero zero h = rw noted
+  owes-zero (suc w) h = absurd (omega arith)
+
+  owes-owner :
+      (w : ℕ) {o : ℕ} → (w ≡ 0 → ⊥) → w ≤ 64 → o ≡ endpointIn m Part.Owner (w - 1)
+      → (eqb n 0 && eqb o (t + 1)) ≡ owesTest w m t
+  unfolding owesTest
+  owes-owner zero z h e = absurd (z refl)
+  owes-owner (suc w) z h e =
+      let q : suc w - 1 ≡ w = omega arith in
+      rw (lt-ltb w 64 h, ← noted, add-one) (ap (λ (k : ℕ). eqb n 0 && eqb k (suc t)) (rw q at e))
+
+  owes-badge : (w : ℕ) → (w ≡ 0 → ⊥) → 64 < w → (leb w 128 && ltb n (2 ^ 28)) ≡ owesTest w m t
+  unfolding owesTest
+  owes-badge zero z h = absurd (z refl)
+  owes-badge (suc w) z h = rw (le-ltb w 64 (omega arith), noted)
+
+  module _ {w : ℕ} (is : w ≡ threadIn m Field.Owes t) where
+    pub owing-nothing : w ≡ 0 → eqb n 0 ≡ owesTest (threadIn m Field.Owes t) m t
+    owing-nothing h = rw (← is) (owes-zero w h)
+
+    pub owing-abort :
+        {o : ℕ} → (w ≡ 0 → ⊥) → w ≤ 64 → o ≡ endpointIn m Part.Owner (w - 1)
+        → (eqb n 0 && eqb o (t + 1)) ≡ owesTest (threadIn m Field.Owes t) m t
+    owing-abort z h e = rw (← is) (owes-owner w z h e)
+
+    pub owing-note :
+        (w ≡ 0 → ⊥) → 64 < w → (leb w 128 && ltb n (2 ^ 28)) ≡ owesTest (threadIn m Field.Owes t) m t
+    owing-note z h = rw (← is) (owes-badge w z h)
+
+and-left : (a b : Bool) → (a && b) ≡ true → a ≡ true
+and-left true b e = refl
+and-left false b e = e
+
+module _ (m : List ℕ) (t : ℕ) {n : Bool} (numbers : n ≡ numbersTest m t) where
+  pub present-not : n ≡ false → false ≡ presentTest m t
+  unfolding presentTest
+  present-not h = rw (← numbers, h)
+
+  pub present-all :
+      {s w o : Bool} → n ≡ true → s ≡ storedTest m t → w ≡ waitsTest m t → o ≡ owesTest (threadIn m Field.Owes t) m t
+      → ((s && w) && o) ≡ presentTest m t
+  unfolding presentTest
+  present-all h e f g = rw (← numbers, h, e, f, g)
+
+  pub place-small : n ≡ true → threadIn m Field.Place t ≤ 161
+  unfolding numbersTest
+  place-small h =
+      leb-true (threadIn m Field.Place t) 161
+      (and-left _ _ (and-left _ _ (and-left _ _ (and-left _ _ (and-left _ _ (sym numbers ∙ h))))))

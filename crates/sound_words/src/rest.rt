@@ -1,0 +1,51 @@
+// The interrupt lines and the unused words.
+ghost use mathlib.Core.Path.{_≡_};
+ghost use Prim.Native.Nat.{_≤_};
+ghost use lib.ListN.{length};
+ghost use Rattle.layout.specs.Tests.{all};
+ghost use Rattle.soundness.specs.Checks.{lineTest, unusedTest};
+use layout::Field;
+
+// A line's waiter waits on it.
+fn line(tables: &[u32], l: usize) -> bool
+    requires { ⌜ (length (now tables) ≡ 4096) × (l ≤ 31) ⌝ }
+    ensures { λ r. ⌜ r ≡ lineTest (now (tables .entry)) l ⌝ }
+{
+    let line = words::line(tables, l);
+    if line < 2 {
+        return true;
+    }
+    if 257 < line {
+        return false;
+    }
+    words::thread(tables, Field::Place, line - 2) == 130 + l
+}
+
+pub fn lines(tables: &[u32]) -> bool
+    requires { ⌜ length (now tables) ≡ 4096 ⌝ }
+    ensures { λ r. ⌜ r ≡ all 32 (lineTest (now (tables .entry))) ⌝ }
+{
+    let mut l = 0;
+    while l < 32 {
+        if !line(tables, l) {
+            return false;
+        }
+        l += 1;
+    }
+    true
+}
+
+// The unused words are 0.
+pub fn unused(tables: &[u32]) -> bool
+    requires { ⌜ length (now tables) ≡ 4096 ⌝ }
+    ensures { λ r. ⌜ r ≡ all 470 (unusedTest (now (tables .entry))) ⌝ }
+{
+    let mut i = 0;
+    while i < 470 {
+        if words::unused(tables, i) != 0 {
+            return false;
+        }
+        i += 1;
+    }
+    true
+}

@@ -1,0 +1,114 @@
+// The blocks of the threads: an absent thread's words are 0, a present thread's are in range and agree with each other.
+// Each function answers a test of checks/specs/Checks; the tests of one thread are joined without branches.
+ghost use mathlib.Core.Path.{_≡_};
+ghost use Prim.Native.Nat.{_≤_};
+ghost use lib.ListN.{length};
+ghost use Rattle.layout.specs.declared.Field.{Field};
+ghost use Rattle.layout.specs.Tests.{all};
+ghost use Rattle.soundness.specs.Checks.{threadIn, absentTest, numbersTest, storedTest, waitsTest, owesTest};
+ghost use Rattle.soundness.specs.Checks.{presentTest, blockTest};
+use layout::Field;
+use layout::Part;
+
+// An absent thread's words are 0.
+fn absent(tables: &[u32], t: usize) -> bool
+    requires { ⌜ (length (now tables) ≡ 4096) × (t ≤ 255) ⌝ }
+    ensures { λ r. ⌜ r ≡ absentTest (now (tables .entry)) t ⌝ }
+{
+    (words::thread(tables, Field::Priority, t) == 0)
+        & (words::thread(tables, Field::Ticks, t) == 0)
+        & (words::thread(tables, Field::Outcome, t) == 0)
+        & (words::thread(tables, Field::Badge, t) == 0)
+        & (words::thread(tables, Field::Message, t) == 0)
+        & (words::thread(tables, Field::Owes, t) == 0)
+        & (words::thread(tables, Field::Note, t) == 0)
+}
+
+// A present thread's numbers are in range.
+fn numbers(tables: &[u32], t: usize) -> bool
+    requires { ⌜ (length (now tables) ≡ 4096) × (t ≤ 255) ⌝ }
+    ensures { λ r. ⌜ r ≡ numbersTest (now (tables .entry)) t ⌝ }
+{
+    let ticks = words::thread(tables, Field::Ticks, t);
+    (words::thread(tables, Field::Place, t) <= 161)
+        & (words::thread(tables, Field::Priority, t) <= 255)
+        & ((1 <= ticks) & (ticks <= 5))
+        & (words::thread(tables, Field::Outcome, t) <= 5)
+        & (words::thread(tables, Field::Badge, t) < 0x1000_0000)
+        & (words::thread(tables, Field::Message, t) < 0x1000_0000)
+}
+
+// Outcome, badge and message stand only where a thread stores them.
+fn stored(tables: &[u32], t: usize) -> bool
+    requires { ⌜ (length (now tables) ≡ 4096) × (t ≤ 255) ⌝ }
+    ensures { λ r. ⌜ r ≡ storedTest (now (tables .entry)) t ⌝ }
+{
+    let place = words::thread(tables, Field::Place, t);
+    let outcome = words::thread(tables, Field::Outcome, t);
+    let nothing = (words::thread(tables, Field::Badge, t) == 0)
+        & (words::thread(tables, Field::Message, t) == 0);
+    ((place == 1) | (outcome == 0)) & ((outcome == 2) | ((2 <= place) & (place < 66)) | nothing)
+}
+
+// A thread on a line is the line's waiter.
+fn waits(tables: &[u32], t: usize) -> bool
+    requires { ⌜ (length (now tables) ≡ 4096) × (t ≤ 255) × (threadIn (now tables) Field.Place t ≤ 161) ⌝ }
+    ensures { λ r. ⌜ r ≡ waitsTest (now (tables .entry)) t ⌝ }
+{
+    let place = words::thread(tables, Field::Place, t);
+    if place < 130 {
+        return true;
+    }
+    words::line(tables, place - 130) == t + 2
+}
+
+// What a thread owes: nothing, an abort that names it as owner, or a note.
+fn owing(tables: &[u32], t: usize) -> bool
+    requires { ⌜ (length (now tables) ≡ 4096) × (t ≤ 255) ⌝ }
+    ensures { λ r. ⌜ r ≡ owesTest (threadIn (now (tables .entry)) Field.Owes t) (now (tables .entry)) t ⌝ }
+{
+    let owes = words::thread(tables, Field::Owes, t);
+    let note = words::thread(tables, Field::Note, t);
+    if owes == 0 {
+        return note == 0;
+    }
+    if owes <= 64 {
+        return (note == 0) & (words::endpoint(tables, Part::Owner, owes - 1) == t + 1);
+    }
+    (owes <= 128) & (note < 0x1000_0000)
+}
+
+// A present thread. Where its numbers are in range, its line exists.
+fn present(tables: &[u32], t: usize) -> bool
+    requires { ⌜ (length (now tables) ≡ 4096) × (t ≤ 255) ⌝ }
+    ensures { λ r. ⌜ r ≡ presentTest (now (tables .entry)) t ⌝ }
+{
+    if !numbers(tables, t) {
+        return false;
+    }
+    stored(tables, t) & waits(tables, t) & owing(tables, t)
+}
+
+fn block(tables: &[u32], t: usize) -> bool
+    requires { ⌜ (length (now tables) ≡ 4096) × (t ≤ 255) ⌝ }
+    ensures { λ r. ⌜ r ≡ blockTest (now (tables .entry)) t ⌝ }
+{
+    if words::thread(tables, Field::Place, t) == 0 {
+        return absent(tables, t);
+    }
+    present(tables, t)
+}
+
+pub fn threads(tables: &[u32]) -> bool
+    requires { ⌜ length (now tables) ≡ 4096 ⌝ }
+    ensures { λ r. ⌜ r ≡ all 256 (blockTest (now (tables .entry))) ⌝ }
+{
+    let mut t = 0;
+    while t < 256 {
+        if !block(tables, t) {
+            return false;
+        }
+        t += 1;
+    }
+    true
+}
