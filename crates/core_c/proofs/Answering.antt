@@ -9,7 +9,7 @@ use Rattle.machine.specs.Results.{plain}
 use Rattle.lent_tables.specs.Entries.{Checked, checked}
 use Rattle.journal.specs.declared.types.Written.{Written}
 use Rattle.journal.specs.declared.types.Named.{Named}
-use Rattle.journal.specs.Steps.{named, nameOf}
+use Rattle.journal.specs.Steps.{asNamed, callNamed}
 use Rattle.journal.proofs.Answers.{name-named}
 use Rattle.kernel.specs.Entry.{Called}
 use Rattle.core_c.specs.Numbers.{callIn}
@@ -40,20 +40,20 @@ module _ (m y : List ℕ) {x : List ℕ} {code : ℕ} (e : checkedOf code x ≡ 
 
 -- by whether a call is named
 pub called-for :
-    (m y : List ℕ) (n : Named) (o : Option Call) (r : Called) → n ≡ named o → r ≡ calledFor o m y →
-    r ≡ calledFor (nameOf n) m y
-called-for m y n o r e f = f ∙ ap (λ (p : Option Call). calledFor p m y) (sym (ap nameOf e ∙ name-named o))
+    (m y : List ℕ) (n : Named) (o : Option Call) (r : Called) → n ≡ asNamed o → r ≡ calledFor o m y →
+    r ≡ calledFor (callNamed n) m y
+called-for m y n o r e f = f ∙ ap (λ (p : Option Call). calledFor p m y) (sym (ap callNamed e ∙ name-named o))
 
 -- the four numbers of the answer are stored
 pub answered-is :
-    (m y ns : List ℕ) (n : Named) (a : Answer) (m′ y′ : List ℕ) → n ≡ named (callIn ns) →
-    calledOf a m′ y′ ≡ calledFor (nameOf n) m y →
+    (m y ns : List ℕ) (n : Named) (a : Answer) (m′ y′ : List ℕ) → n ≡ asNamed (callIn ns) →
+    calledOf a m′ y′ ≡ calledFor (callNamed n) m y →
     _≡_ {A = Answered} (record { code = a .code; answer = four a; tables = m′; scratch = y′ }) (answered m y ns)
 unfolding answered
 answered-is m y ns n a m′ y′ e f =
-    ap asAnswered (f ∙ ap (λ (o : Option Call). calledFor o m y) (ap nameOf e ∙ name-named (callIn ns)))
+    ap asAnswered (f ∙ ap (λ (o : Option Call). calledFor o m y) (ap callNamed e ∙ name-named (callIn ns)))
 
 pub written-for :
-    (ns : List ℕ) (n : Named) (r : Written) → n ≡ named (callIn ns) → r ≡ writtenFor (nameOf n) →
+    (ns : List ℕ) (n : Named) (r : Written) → n ≡ asNamed (callIn ns) → r ≡ writtenFor (callNamed n) →
     r ≡ writtenFor (callIn ns)
-written-for ns n r e f = f ∙ ap writtenFor (ap nameOf e ∙ name-named (callIn ns))
+written-for ns n r e f = f ∙ ap writtenFor (ap callNamed e ∙ name-named (callIn ns))

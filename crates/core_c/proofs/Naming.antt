@@ -8,15 +8,15 @@ use borrow.Author.Tests.{eq-eqb, ne-eqb}
 use Rattle.machine.specs.declared.Call.the-variants.{Send, Abort}
 use Rattle.journal.specs.Words.{unused, callOf}
 use Rattle.journal.specs.declared.types.Named.{Named}
-use Rattle.journal.specs.Steps.{named, nameOf}
+use Rattle.journal.specs.Steps.{asNamed, callNamed}
 use Rattle.journal.proofs.Answers.{unused-above}
 use Rattle.core_c.specs.Numbers.{number, subject, argument, badge, message, short, callIn}
 
 -- a call with neither badge nor message, behind both tests
 pub short-is :
-    (ns : List ℕ) (call inner r : Named) → call ≡ named (callOf (number ns) (subject ns) (argument ns) []) →
-    inner ≡ named (unused (message ns) (nameOf call)) → r ≡ named (unused (badge ns) (nameOf inner)) →
-    r ≡ named (short ns)
+    (ns : List ℕ) (call inner r : Named) → call ≡ asNamed (callOf (number ns) (subject ns) (argument ns) []) →
+    inner ≡ asNamed (unused (message ns) (callNamed call)) → r ≡ asNamed (unused (badge ns) (callNamed inner)) →
+    r ≡ asNamed (short ns)
 unfolding short
 short-is ns call inner r e f g = unused-above (badge ns) _ inner r (unused-above (message ns) _ call inner e f) g
 

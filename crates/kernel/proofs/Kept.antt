@@ -19,7 +19,7 @@ use Rattle.layout.specs.Words.{image}
 use Rattle.soundness.specs.Tables.{stateOf}
 use Rattle.soundness.proofs.Tables.{state-exact}
 use Rattle.layout.proofs.Ends.{none-some}
-use Rattle.layout.proofs.Tests.{Tells, tells-and, tells-eqb}
+use Rattle.layout.proofs.Tests.{Decides, tells-and, tells-eqb}
 use Rattle.lent_tables.specs.Entries.{zeros}
 use Rattle.kernel.specs.Entry.{Called, taken, called}
 use Rattle.kernel.specs.Kept.{Kept, lengths, unsound, refused, holds}
@@ -28,7 +28,7 @@ use Rattle.kernel.proofs.Entry.{calledOf}
 -- The test of the lengths.
 sizes :
     (m scratch : List ℕ)
-    → Tells (eqb (length m) 4096 && eqb (length scratch) 256) ((length m ≡ 4096) × (length scratch ≡ 256))
+    → Decides (eqb (length m) 4096 && eqb (length scratch) 256) ((length m ≡ 4096) × (length scratch ≡ 256))
 sizes m scratch = tells-and (tells-eqb (length m) 4096) (tells-eqb (length scratch) 256)
 
 module _ (m scratch : List ℕ) (c : Call) where

@@ -1,11 +1,11 @@
-// The entries on the lent tables: make them fresh, and check them. The check makes the tests of scans and walks, which
-// go once through all words, and accepts exactly those that show a sound state.
+// The entries on the lent tables: make them fresh, and check them. The check makes the tests of sound_words and
+// sound_queues, which go once through all words, and accepts exactly those that show a sound state.
 ghost use mathlib.Core.Path.{_≡_};
 ghost use lib.ListN.{length, replicate};
 ghost use Rattle.soundness.specs.Checks.{goodTest};
 ghost use Rattle.lent_tables.specs.Entries.{Freshened, Checked, freshened, checked};
 
-// All tests. The queues are walked before the places are tried, which go by the marks.
+// All tests. The queues are walked before the places are tried, which go by whom they met.
 fn passes(tables: &[u32], scratch: &mut [u32]) -> bool
     requires { ⌜ (length (now tables) ≡ 4096) × (now scratch ≡ replicate 256 0) ⌝ }
     ensures { λ r. ⌜ r ≡ goodTest (now (tables .entry)) ⌝ }
@@ -34,7 +34,7 @@ pub fn fresh(tables: &mut [u32]) -> u32
     if tables.len() != 4096 {
         return 16;
     }
-    sound_queues::marks::clear(tables);
+    words::clear(tables);
     0
 }
 
@@ -49,9 +49,9 @@ pub fn check(tables: &[u32], scratch: &mut [u32]) -> u32
     if scratch.len() != 256 {
         return 16;
     }
-    sound_queues::marks::clear(scratch);
+    words::clear(scratch);
     let passed = passes(tables, scratch);
-    sound_queues::marks::clear(scratch);
+    words::clear(scratch);
     if passed {
         return 0;
     }

@@ -15,7 +15,7 @@ use Rattle.machine.specs.State.{State, Place, Abort, Endpoint}
 use Rattle.machine.specs.Scheduling.{enqueue, wake}
 use Rattle.machine.specs.Endpoints.{pendingOf, leaveEndpoint, wakeFrom}
 use Rattle.machine.specs.Results.{Look}
-use Rattle.machine.specs.Aborts.{Looked, hits, lookAt, look, after, lookUpTo, pendingAt}
+use Rattle.machine.specs.Aborts.{Looked, hits, lookAt, look, afterLook, lookUpTo, pendingAt}
 use Rattle.machine.specs.Sound.{Queued}
 use Rattle.machine.specs.History.{Aborting, NamedLook, Walk, Course, namedLooks, reportOf, settle}
 use Rattle.machine.specs.History.{lookedAt, takeLook, walk}
@@ -181,8 +181,8 @@ module _
       (m : ℕ) (s : State) (x : Aborting) (d : Gone) (c : Course) (u : ℕ) (l : List ℕ)
       (r : Looked) → pendingAt e s ≡ u ∷ l → Going past answers n since standing e s (some x) d
       → Walked (look e u s) (lookedAt (record { waiter = since u; removed = hits e u s }) x) d m c r
-      → Walked s x d (suc m) c (after (record { waiter = u; removed = hits e u s }) r)
-  unfolding after
+      → Walked s x d (suc m) c (afterLook (record { waiter = u; removed = hits e u s }) r)
+  unfolding afterLook
   walked-after m s x d c u l r h G W =
       record {
         abort = W .abort;

@@ -5,7 +5,7 @@ use Rattle.machine.specs.Scheduling.{dispatchHead, dispatchAt, dispatch,
 use Rattle.machine.specs.Endpoints.{joinEndpoint, leaveEndpoint, wakeFrom, dropped, dropDebt, noteTo, note}
 use Rattle.machine.specs.Endpoints.{endAbort}
 use Rattle.machine.specs.Aborts.{oneMore, removeUpTo, deleted, deleteFrom, deleteAt, delete, hits, lookAt, look}
-use Rattle.machine.specs.Aborts.{after, lookUpTo, begin, joinAs, join, ended, lookedOwn, workOwn, beginAfter}
+use Rattle.machine.specs.Aborts.{afterLook, lookUpTo, begin, joinAs, join, ended, lookedOwn, workOwn, beginAfter}
 use Rattle.machine.specs.Aborts.{finished, lookedOther, workOther, underBadge, abortFrom, dropUnless, dropOther}
 use Rattle.machine.specs.Aborts.{abortOpen, abortAt, abortUnless, abort}
 use Rattle.machine.specs.Machine.{createIf, createThread, leaveReady, leave, destroyIf, destroyThread}
@@ -21,7 +21,7 @@ use Rattle.machine.specs.History.{outcomeIf, deliveredIf, delivered, abo
 unfoldable pub computed : Unit {0}
 unfolding put without only enqueue unqueue standDown wake block highestBelow highest dispatchHead dispatchAt dispatch
     displace chooseFor choose joinEndpoint leaveEndpoint wakeFrom dropped dropDebt noteTo note endAbort oneMore
-    removeUpTo deleted deleteFrom deleteAt delete hits lookAt look after lookUpTo begin joinAs join ended lookedOwn
+    removeUpTo deleted deleteFrom deleteAt delete hits lookAt look afterLook lookUpTo begin joinAs join ended lookedOwn
     workOwn beginAfter finished lookedOther workOther underBadge abortFrom dropUnless dropOther abortOpen abortAt
     abortUnless abort createIf createThread leaveReady leave destroyIf destroyThread moveReady changeUnless priorityIf
     setPriority createAt createEndpoint fire interrupt leaveTicks tickFor tick sendTo sendUnless sendAt send receiveFrom
