@@ -1,4 +1,4 @@
--- `journal::call_at` meets its contract: with 0 words taken no call is named, else the top bits are 1.
+-- With 0 words taken no call is named, else the top bits are 1.
 use mathlib.Core.Path.{sym, ap, _∙_}
 use Rattle.journal.specs.Steps.{asNamed}
 use Rattle.journal.proofs.Causes.{caused}

@@ -1,4 +1,4 @@
--- `journal::call_of` meets its contract: a send and an abort read on, and no other call does.
+-- A send and an abort read on, and no other call does.
 use mathlib.Core.Path.{ap, _∙_}
 use Rattle.journal.specs.Steps.{asNamed}
 use Rattle.journal.specs.Words.{callOf, sendOf}

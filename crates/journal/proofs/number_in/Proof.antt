@@ -1,4 +1,4 @@
--- `journal::number_in` meets its contract: the first word, if there is one, decides.
+-- The first word, if there is one, decides.
 use mathlib.Core.Path.{sym, ap}
 use Rattle.journal.specs.Steps.{asNumber}
 use Rattle.journal.proofs.Options.{number-missing, number-first, number-other}

@@ -1,4 +1,4 @@
--- `journal::short_call` meets its contract: each arm knows the number, and the table of calls computes there.
+-- Each arm knows the number, and the table of calls computes there.
 use mathlib.Core.Path.{sym, ap}
 use mathlib.Core.Option.{some}
 use Rattle.machine.specs.declared.Call.the-variants.{Tick, Yield}

@@ -1,4 +1,4 @@
--- `lister::finish` meets its contract: stopped, nothing held, or the line of 18.
+-- Stopped, nothing held, or the line of 18.
 use borrow.Author.Needs.{needs}
 use Rattle.listing.proofs.Parts.{counts}
 use Rattle.lister.proofs.Holding.{not-so, so}

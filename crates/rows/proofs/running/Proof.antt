@@ -1,4 +1,4 @@
--- `rows::running` meets its contract: a link is 0 for nobody, else one more than the thread.
+-- A link is 0 for nobody, else one more than the thread.
 use borrow.Author.Needs.{needs}
 use Rattle.rows.proofs.Taking.{nobody, somebody}
 use Rattle.rows.proofs.running.Statement.{statement}

@@ -1,4 +1,4 @@
--- `summary_edges::main` meets its contract: what is marked and written in each turn is a summary.
+-- What is marked and written in each turn is a summary.
 use Prim.Native.Nat.{_≤_, _-_}
 use native.Mathlib.Omega.{arith}
 use borrow.Author.Needs.{needs}

@@ -1,4 +1,4 @@
--- `summary::Summary::new` meets its contract: the words of the empty set compute to 0.
+-- The words of the empty set compute to 0.
 use mathlib.Core.Path.{refl}
 use Rattle.summary.specs.Levels.{bits, wordOf, topOf, levelWords, summaryOf}
 use Rattle.summary.proofs.Summary.new.Statement.{statement}
