@@ -9,13 +9,12 @@ use mathlib.Core.List.{List, [], _∷_, _++_, map}
 use lib.Dec.{eqb, leb}
 use Rattle.machine.specs.declared.Answer.{Answer}
 use Rattle.machine.specs.declared.Call.{Call}
-use Rattle.machine.specs.declared.Call.the-variants.{CreateThread, DestroyThread, SetPriority, CreateEndpoint}
-use Rattle.machine.specs.declared.Call.the-variants.{Interrupt, Tick, Send, Receive, Yield, Wait, Delete, Abort}
 use Rattle.machine.specs.Lists.{pick, put, without, only}
 use Rattle.machine.specs.State.{State, Line, quiet, pending, awaited, freshState}
 use Rattle.machine.specs.Endpoints.{senders}
 use Rattle.machine.specs.Results.{Look, Result}
 use Rattle.machine.specs.Machine.{step}
+use Rattle.machine.specs.Sorts.{Sort, other, destroys, waits, receives, yields, removes, looks, sortOf}
 
 -- A waiter's name is the place in the list of its call 7, 8 or 10 answered 1, counted from 0. A message is named as
 -- its waiter.
@@ -115,19 +114,14 @@ isAccepted a = leb (a .code) 2
 -- Names
 
 -- A call 7, 8 or 10 answered 1 makes its caller a waiter.
-abbrev pub queues? : Call → ℕ → Bool
-queues? (CreateThread t p) code = false
-queues? (DestroyThread t) code = false
-queues? (SetPriority t p) code = false
-queues? (CreateEndpoint e) code = false
-queues? (Interrupt l) code = false
-queues? Tick code = false
-queues? (Send e b m) code = eqb code 1
-queues? (Receive e) code = eqb code 1
-queues? Yield code = false
-queues? (Wait l) code = eqb code 1
-queues? (Delete e a) code = false
-queues? (Abort e a b) code = false
+abbrev pub queues? : Sort → ℕ → Bool
+queues? other code = false
+queues? (destroys t) code = false
+queues? waits code = eqb code 1
+queues? (receives e) code = eqb code 1
+queues? yields code = false
+queues? (removes e) code = false
+queues? (looks e a b) code = false
 
 unfoldable pub named : Bool → Option ℕ → ℕ → (ℕ → ℕ) → ℕ → ℕ
 named false caller n since = since
@@ -421,24 +415,19 @@ abortsOf none e a b r h = unchanged r h
 abortsOf (some t) e a b r h = abortsBy (isNoteOf e b (h .aborts .debts .notes t)) t e a b r h
 
 -- An accepted call. The running thread, the second argument, makes calls 7 to 12.
-unfoldable pub outcomeOf : Call → Option ℕ → Result → History → Outcome
-outcomeOf (CreateThread t p) o r h = unchanged r h
-outcomeOf (DestroyThread t) o r h = drops (some t) r h
-outcomeOf (SetPriority t p) o r h = unchanged r h
-outcomeOf (CreateEndpoint e) o r h = unchanged r h
-outcomeOf (Interrupt l) o r h = unchanged r h
-outcomeOf Tick o r h = unchanged r h
-outcomeOf (Send e b m) o r h = drops o r h
-outcomeOf (Receive e) o r h = drops o r h
-outcomeOf Yield o r h = drops o r h
-outcomeOf (Wait l) o r h = drops o r h
-outcomeOf (Delete e a) o r h = deletes (h .aborts .standing e) e o r h
-outcomeOf (Abort e a b) o r h = abortsOf o e a b r h
+unfoldable pub outcomeOf : Sort → Option ℕ → Result → History → Outcome
+outcomeOf other o r h = unchanged r h
+outcomeOf (destroys t) o r h = drops (some t) r h
+outcomeOf waits o r h = drops o r h
+outcomeOf (receives e) o r h = drops o r h
+outcomeOf yields o r h = drops o r h
+outcomeOf (removes e) o r h = deletes (h .aborts .standing e) e o r h
+outcomeOf (looks e a b) o r h = abortsOf o e a b r h
 
 -- A refused call comes to nothing.
-unfoldable pub outcomeIf : Bool → Call → Option ℕ → Result → History → Outcome
-outcomeIf true c o r h = outcomeOf c o r h
-outcomeIf false c o r h = unchanged r h
+unfoldable pub outcomeIf : Bool → Sort → Option ℕ → Result → History → Outcome
+outcomeIf true k o r h = outcomeOf k o r h
+outcomeIf false k o r h = unchanged r h
 
 -- Deliveries and calls 12
 
@@ -454,33 +443,23 @@ deliveredIf true e r w h =
       handed = only (λ x. not (isIn x (w .queues e))) (h .waiting .queues e);
     } ∷ h .deliveries
 
-unfoldable pub delivered : Call → Result → Waiting → History → List Delivery
-delivered (CreateThread t p) r w h = h .deliveries
-delivered (DestroyThread t) r w h = h .deliveries
-delivered (SetPriority t p) r w h = h .deliveries
-delivered (CreateEndpoint e) r w h = h .deliveries
-delivered (Interrupt l) r w h = h .deliveries
-delivered Tick r w h = h .deliveries
-delivered (Send e b m) r w h = h .deliveries
-delivered (Receive e) r w h = deliveredIf (eqb (r .answer .code) 0) e r w h
-delivered Yield r w h = h .deliveries
-delivered (Wait l) r w h = h .deliveries
-delivered (Delete e a) r w h = h .deliveries
-delivered (Abort e a b) r w h = h .deliveries
+unfoldable pub delivered : Sort → Result → Waiting → History → List Delivery
+delivered other r w h = h .deliveries
+delivered (destroys t) r w h = h .deliveries
+delivered waits r w h = h .deliveries
+delivered (receives e) r w h = deliveredIf (eqb (r .answer .code) 0) e r w h
+delivered yields r w h = h .deliveries
+delivered (removes e) r w h = h .deliveries
+delivered (looks e a b) r w h = h .deliveries
 
-unfoldable pub abortCallsOf : Call → Result → Waiting → Option Reported → History → List AbortCall
-abortCallsOf (CreateThread t p) r w x h = h .abortCalls
-abortCallsOf (DestroyThread t) r w x h = h .abortCalls
-abortCallsOf (SetPriority t p) r w x h = h .abortCalls
-abortCallsOf (CreateEndpoint e) r w x h = h .abortCalls
-abortCallsOf (Interrupt l) r w x h = h .abortCalls
-abortCallsOf Tick r w x h = h .abortCalls
-abortCallsOf (Send e b m) r w x h = h .abortCalls
-abortCallsOf (Receive e) r w x h = h .abortCalls
-abortCallsOf Yield r w x h = h .abortCalls
-abortCallsOf (Wait l) r w x h = h .abortCalls
-abortCallsOf (Delete e a) r w x h = h .abortCalls
-abortCallsOf (Abort e a b) r w x h =
+unfoldable pub abortCallsOf : Sort → Result → Waiting → Option Reported → History → List AbortCall
+abortCallsOf other r w x h = h .abortCalls
+abortCallsOf (destroys t) r w x h = h .abortCalls
+abortCallsOf waits r w x h = h .abortCalls
+abortCallsOf (receives e) r w x h = h .abortCalls
+abortCallsOf yields r w x h = h .abortCalls
+abortCallsOf (removes e) r w x h = h .abortCalls
+abortCallsOf (looks e a b) r w x h =
     record {
       place = h .now;
       endpoint = e;
@@ -497,22 +476,22 @@ abortCallsOf (Abort e a b) r w x h =
 -- The history of a list
 
 -- The history with one more call: the state it found and the result it had.
-unfoldable pub recorded : (ℕ → ℕ) → Outcome → Call → Result → History → History
-recorded since o c r h =
+unfoldable pub recorded : (ℕ → ℕ) → Outcome → Sort → Result → History → History
+recorded since o k r h =
     record {
       now = suc (h .now);
       answers = h .answers ++ (r .answer ∷ []);
       since = since;
       waiting = waitingIn since (r .state);
       aborts = o .aborts;
-      deliveries = delivered c r (waitingIn since (r .state)) h;
-      abortCalls = abortCallsOf c r (waitingIn since (r .state)) (o .reports) h;
+      deliveries = delivered k r (waitingIn since (r .state)) h;
+      abortCalls = abortCallsOf k r (waitingIn since (r .state)) (o .reports) h;
     }
 
 unfoldable pub told : Call → State → Result → History → History
 told c s r h =
-    recorded (named (queues? c (r .answer .code)) (s .runs) (h .now) (h .since))
-    (outcomeIf (isAccepted (r .answer)) c (s .runs) r h) c r h
+    recorded (named (queues? (sortOf c) (r .answer .code)) (s .runs) (h .now) (h .since))
+    (outcomeIf (isAccepted (r .answer)) (sortOf c) (s .runs) r h) (sortOf c) r h
 
 abbrev pub freshHistory : History
 freshHistory =

@@ -14,14 +14,15 @@ use Rattle.machine.specs.declared.Call.{Call}
 use Rattle.machine.specs.declared.Call.the-variants.{Abort}
 use Rattle.machine.specs.Calls.{inRange, isEndpoint, isAllowance, isBadge}
 use Rattle.machine.specs.Lists.{put, Mem, Rising}
-use Rattle.machine.specs.State.{State, Debt, nothing, owns, noted, Status, missing, live, closing, Endpoint}
-use Rattle.machine.specs.State.{Line, setThread, withDebt}
+use Rattle.machine.specs.State.{State, Debt, nothing, owns, noted, Status, missing, live, closing, Endpoint, Line}
+use Rattle.machine.specs.State.{setThread, withDebt}
 use Rattle.machine.specs.Scheduling.{choose}
 use Rattle.machine.specs.Endpoints.{senders, dropped, dropDebt}
 use Rattle.machine.specs.Results.{Look, Result, plain, counted, refuse, done}
 use Rattle.machine.specs.Aborts.{dropOther, abortOpen, abortAt, hasNote, abortUnless, abort}
 use Rattle.machine.specs.Machine.{byCaller, perform, performIf, step}
 use Rattle.machine.specs.Sound.{Sound}
+use Rattle.machine.specs.Sorts.{looks}
 use Rattle.machine.specs.History.{Aborting, Ended, Reported, Waiting, Walk, History, Outcome, isAccepted}
 use Rattle.machine.specs.History.{namedLooks, lineName, waitingIn, letsGo, isNoteOf, reportOf, reportIf, apart}
 use Rattle.machine.specs.History.{unchanged, comesIn, courseOf, startOf, walk, close, walked, walks, abortsBy}
@@ -116,19 +117,19 @@ module _ (t e a b : ℕ) (s : State) (r : Result) (h : History) (runs : s .runs 
     (accepted : isAccepted (r .answer) ≡ true) where
   outcome-noted :
       isNoteOf e b (h .aborts .debts .notes t) ≡ true
-      → outcomeIf (isAccepted (r .answer)) (Abort e a b) (s .runs) r h
+      → outcomeIf (isAccepted (r .answer)) (looks e a b) (s .runs) r h
       ≡ apart (letsGo t (h .aborts .debts)) (h .aborts .debts .notes t) r h
   unfolding outcomeIf outcomeOf abortsOf abortsBy
   outcome-noted p =
-      ap (λ (x : Bool). outcomeIf x (Abort e a b) (s .runs) r h) accepted
+      ap (λ (x : Bool). outcomeIf x (looks e a b) (s .runs) r h) accepted
       ∙ ap (λ (k : Option ℕ). abortsOf k e a b r h) runs ∙ ap (λ (x : Bool). abortsBy x t e a b r h) p
 
   outcome-walks :
       isNoteOf e b (h .aborts .debts .notes t) ≡ false
-      → outcomeIf (isAccepted (r .answer)) (Abort e a b) (s .runs) r h ≡ walks t e a b r h
+      → outcomeIf (isAccepted (r .answer)) (looks e a b) (s .runs) r h ≡ walks t e a b r h
   unfolding outcomeIf outcomeOf abortsOf abortsBy
   outcome-walks p =
-      ap (λ (x : Bool). outcomeIf x (Abort e a b) (s .runs) r h) accepted
+      ap (λ (x : Bool). outcomeIf x (looks e a b) (s .runs) r h) accepted
       ∙ ap (λ (k : Option ℕ). abortsOf k e a b r h) runs ∙ ap (λ (x : Bool). abortsBy x t e a b r h) p
 
 -- What the history has of ended aborts and debts.
@@ -182,9 +183,9 @@ module _ (past : List Call) (s : State) (h : History) (I : Inv past s h) (e a b 
       (r : Result) (o : Outcome) → Frame (h .since) e s (r .state) (r .looks)
       → r .answer ≡ counted (r .answer .code) (length (r .looks))
       → (r .answer .code ≡ 0
-      → Reports (recorded (h .since) o (Abort e a b) r h)
+      → Reports (recorded (h .since) o (looks e a b) r h)
       (abortCallOf e a b r (waitingIn (h .since) (r .state)) (o .reports) h))
-      → Called (recorded (h .since) o (Abort e a b) r h)
+      → Called (recorded (h .since) o (looks e a b) r h)
       (abortCallOf e a b r (waitingIn (h .since) (r .state)) (o .reports) h)
   unfolding recorded
   called r o F answer reports =
@@ -275,7 +276,7 @@ module _ (past : List Call) (s : State) (h : History) (I : Inv past s h) (e a b 
 
       reports :
           _≡_ {A = ℕ} 0 0
-          → Reports (recorded (h .since) o (Abort e a b) (done q) h)
+          → Reports (recorded (h .since) o (looks e a b) (done q) h)
           (abortCallOf e a b (done q) (waitingIn (h .since) (done q .state)) (o .reports) h)
       reports z =
           let F = I .tied .heard t (N .of) (N .is) in
@@ -293,7 +294,7 @@ module _ (past : List Call) (s : State) (h : History) (I : Inv past s h) (e a b 
                 };
           }
 
-      outcome : outcomeIf (isAccepted (plain 0)) (Abort e a b) (s .runs) (done q) h ≡ o
+      outcome : outcomeIf (isAccepted (plain 0)) (looks e a b) (s .runs) (done q) h ≡ o
       outcome =
           outcome-noted t e a b s (done q) h runs refl
           (note-is e b (h .aborts .debts .notes t) (s .threads t .debt) (I .tied .notes t)
@@ -353,7 +354,7 @@ module _ (past : List Call) (s : State) (h : History) (I : Inv past s h) (e a b 
           subst (λ (x : State). Frame (h .since) e s x (r .looks)) (sym (R .chosen))
           (frame-choose (h .since) e s (R .state) (r .looks) (R .frame))
 
-      outcome : outcomeIf (isAccepted (r .answer)) (Abort e a b) (s .runs) r h ≡ o
+      outcome : outcomeIf (isAccepted (r .answer)) (looks e a b) (s .runs) r h ≡ o
       outcome =
           outcome-walks t e a b s r h runs (R .accepted)
           (note-is e b (h .aborts .debts .notes t) (s .threads t .debt) (I .tied .notes t) ∙ unnoted)
@@ -373,7 +374,7 @@ module _ (past : List Call) (s : State) (h : History) (I : Inv past s h) (e a b 
 
       reports :
           r .answer .code ≡ 0
-          → Reports (recorded (h .since) o (Abort e a b) r h)
+          → Reports (recorded (h .since) o (looks e a b) r h)
           (abortCallOf e a b r (waitingIn (h .since) (r .state)) (o .reports) h)
       reports z =
           let F = R .reports z in

@@ -21,9 +21,10 @@ use Rattle.machine.specs.Results.{Result, plain, refuse, blocked}
 use Rattle.machine.specs.Machine.{isAbsent, isAble, isRunning, createIf, createThread, leaveReady, leave}
 use Rattle.machine.specs.Machine.{destroyIf, destroyThread, moveReady, changeUnless, priorityIf, setPriority}
 use Rattle.machine.specs.Machine.{createAt, createEndpoint, fire, interrupt, leaveTicks, tickFor, tick, sendTo}
-use Rattle.machine.specs.Machine.{sendUnless, sendAt, send, receiveFrom, receiveAt, receive, yield, waitAt}
-use Rattle.machine.specs.Machine.{wait, byCaller, perform, performIf, step}
+use Rattle.machine.specs.Machine.{sendUnless, sendAt, send, receiveFrom, receiveAt, receive, yield, waitAt, wait}
+use Rattle.machine.specs.Machine.{byCaller, perform, performIf, step}
 use Rattle.machine.specs.Sound.{Sound}
+use Rattle.machine.specs.Sorts.{Sort, other, destroys, waits, receives, yields, removes, looks, sortOf}
 use Rattle.machine.specs.History.{isAccepted, queues?}
 use Rattle.machine.proofs.Lists.{put-all}
 use Rattle.machine.proofs.Demand3.Standing.{callAt}
@@ -42,41 +43,37 @@ use Rattle.machine.specs.Mid.{Mid}
 use Rattle.machine.proofs.Preserved.Mid.{sound-mid}
 
 -- Whose debts an accepted call drops: its caller's, the second argument, or those of the thread that it destroys.
-abbrev pub dropsOf : Call → Option ℕ → Option ℕ
-dropsOf (CreateThread t p) o = none
-dropsOf (DestroyThread t) o = some t
-dropsOf (SetPriority t p) o = none
-dropsOf (CreateEndpoint e) o = none
-dropsOf (Interrupt l) o = none
-dropsOf Tick o = none
-dropsOf (Send e b m) o = o
-dropsOf (Receive e) o = o
-dropsOf Yield o = o
-dropsOf (Wait l) o = o
-dropsOf (Delete e a) o = o
-dropsOf (Abort e a b) o = o
+abbrev pub dropsOf : Sort → Option ℕ → Option ℕ
+dropsOf other o = none
+dropsOf (destroys t) o = some t
+dropsOf waits o = o
+dropsOf (receives e) o = o
+dropsOf yields o = o
+dropsOf (removes e) o = o
+dropsOf (looks e a b) o = o
 
 -- A refused call drops none.
-abbrev pub dropsIf : Bool → Call → Option ℕ → Option ℕ
+abbrev pub dropsIf : Bool → Sort → Option ℕ → Option ℕ
 dropsIf true c o = dropsOf c o
 dropsIf false c o = none
 
 -- The call drops those debts, and leaves the others.
 pub data Sheds (s : State) (c : Call) (r : Result) : Type 0 where
-  keeps : dropsIf (isAccepted (r .answer)) c (s .runs) ≡ none → Still s (r .state) → Sheds s c r
+  keeps : dropsIf (isAccepted (r .answer)) (sortOf c) (s .runs) ≡ none → Still s (r .state) → Sheds s c r
   sheds :
-      (t : ℕ) → dropsIf (isAccepted (r .answer)) c (s .runs) ≡ some t → Still (dropDebt t s) (r .state)
+      (t : ℕ) → dropsIf (isAccepted (r .answer)) (sortOf c) (s .runs) ≡ some t → Still (dropDebt t s) (r .state)
       → Sheds s c r
 
 pub data Turn (s : State) (c : Call) (r : Result) : Type 0 where
-  idle : Leaves s (r .state) → queues? c (r .answer .code) ≡ false → Sheds s c r → Turn s c r
+  idle : Leaves s (r .state) → queues? (sortOf c) (r .answer .code) ≡ false → Sheds s c r → Turn s c r
   blocks : Blocks s c r → Sheds s c r → Turn s c r
 
 module _ (s : State) where
   -- A refused call.
-  turn-refused : (c : Call) (n : ℕ) → isAccepted (plain n) ≡ false → queues? c n ≡ false → Turn s c (refuse n s)
+  turn-refused :
+      (c : Call) (n : ℕ) → isAccepted (plain n) ≡ false → queues? (sortOf c) n ≡ false → Turn s c (refuse n s)
   turn-refused c n h q =
-      idle (leaves-self s) q (keeps (ap (λ (b : Bool). dropsIf b c (s .runs)) h) (still-self s))
+      idle (leaves-self s) q (keeps (ap (λ (b : Bool). dropsIf b (sortOf c) (s .runs)) h) (still-self s))
 
   turn-create :
       (b : Bool) (t p : ℕ) → (b ≡ true → s .threads t .debt ≡ nothing)
@@ -233,7 +230,7 @@ module _ (s : State) (S : Sound s) where
   module _ (t : ℕ) (runs : s .runs ≡ some t) where
     -- What the caller owes is dropped, and then it blocks at a place.
     block-at :
-        (c : Call) (p : Place) (b m : ℕ) → callAt p b m ≡ some c → queues? c 1 ≡ true → (x : State)
+        (c : Call) (p : Place) (b m : ℕ) → callAt p b m ≡ some c → queues? (sortOf c) 1 ≡ true → (x : State)
         → x .threads ≡ put (dropDebt t s .threads) t (withPlace p 0 b m (dropDebt t s .threads t))
         → ((e : ℕ) → x .endpoints e .abort ≡ dropDebt t s .endpoints e .abort)
         → ((e : ℕ) → x .endpoints e .status ≡ dropDebt t s .endpoints e .status)
@@ -268,7 +265,7 @@ module _ (s : State) (S : Sound s) where
 
     -- and so it does at the tail of a queue.
     block-queue :
-        (c : Call) (p : Place) (e b m : ℕ) → callAt p b m ≡ some c → queues? c 1 ≡ true
+        (c : Call) (p : Place) (e b m : ℕ) → callAt p b m ≡ some c → queues? (sortOf c) 1 ≡ true
         → Blocks s c (blocked (block t p b m (joinEndpoint t e (dropDebt t s))))
     unfolding block joinEndpoint
     block-queue c p e b m calls queues =
@@ -281,7 +278,7 @@ module _ (s : State) (S : Sound s) where
 
     -- A call that blocks drops what the caller owes.
     sheds-block :
-        (c : Call) (p : Place) (b m : ℕ) → dropsOf c (s .runs) ≡ some t → (x : State) → Still (dropDebt t s) x
+        (c : Call) (p : Place) (b m : ℕ) → dropsOf (sortOf c) (s .runs) ≡ some t → (x : State) → Still (dropDebt t s) x
         → Sheds s c (blocked (block t p b m x))
     unfolding block
     sheds-block c p b m drops x H =
@@ -354,22 +351,17 @@ module _ (s : State) (S : Sound s) where
         go closing = turn-refused s (Receive e) 25 refl refl
 
 -- Every call but 11 and 12.
-abbrev pub Simple : Call → Type 0
-Simple (CreateThread t p) = Unit {0}
-Simple (DestroyThread t) = Unit {0}
-Simple (SetPriority t p) = Unit {0}
-Simple (CreateEndpoint e) = Unit {0}
-Simple (Interrupt l) = Unit {0}
-Simple Tick = Unit {0}
-Simple (Send e b m) = Unit {0}
-Simple (Receive e) = Unit {0}
-Simple Yield = Unit {0}
-Simple (Wait l) = Unit {0}
-Simple (Delete e a) = ⊥
-Simple (Abort e a b) = ⊥
+abbrev pub Simple : Sort → Type 0
+Simple other = Unit {0}
+Simple (destroys t) = Unit {0}
+Simple waits = Unit {0}
+Simple (receives e) = Unit {0}
+Simple yields = Unit {0}
+Simple (removes e) = ⊥
+Simple (looks e a b) = ⊥
 
 turn-caller :
-    (s : State) (c : Call) (f : ℕ → State → Result) → queues? c 20 ≡ false
+    (s : State) (c : Call) (f : ℕ → State → Result) → queues? (sortOf c) 20 ≡ false
     → ((t : ℕ) → s .runs ≡ some t → Turn s c (f t s)) → Turn s c (byCaller (s .runs) f s)
 turn-caller s c f q h = go (s .runs) refl
   where
@@ -377,7 +369,7 @@ turn-caller s c f q h = go (s .runs) refl
     go none e = turn-refused s c 20 refl q
     go (some t) e = h t e
 
-turn-perform : (s : State) → Sound s → (c : Call) → Simple c → Turn s c (perform c s)
+turn-perform : (s : State) → Sound s → (c : Call) → Simple (sortOf c) → Turn s c (perform c s)
 unfolding perform createThread destroyThread setPriority
 turn-perform s S (CreateThread t p) _ =
     turn-create s (isAbsent (s .threads t .place)) t p
@@ -394,24 +386,19 @@ turn-perform s S (Wait l) _ = turn-caller s (Wait l) (λ t. wait t l) refl (λ t
 turn-perform s S (Delete e a) n = absurd n
 turn-perform s S (Abort e a b) n = absurd n
 
-pub refused-name : (c : Call) → queues? c 19 ≡ false
-refused-name (CreateThread t p) = refl
-refused-name (DestroyThread t) = refl
-refused-name (SetPriority t p) = refl
-refused-name (CreateEndpoint e) = refl
-refused-name (Interrupt l) = refl
-refused-name Tick = refl
-refused-name (Send e b m) = refl
-refused-name (Receive e) = refl
-refused-name Yield = refl
-refused-name (Wait l) = refl
-refused-name (Delete e a) = refl
-refused-name (Abort e a b) = refl
+pub refused-name : (x : Sort) → queues? x 19 ≡ false
+refused-name other = refl
+refused-name (destroys t) = refl
+refused-name waits = refl
+refused-name (receives e) = refl
+refused-name yields = refl
+refused-name (removes e) = refl
+refused-name (looks e a b) = refl
 
-pub turn : (s : State) → Sound s → (c : Call) → Simple c → Turn s c (step s c)
+pub turn : (s : State) → Sound s → (c : Call) → Simple (sortOf c) → Turn s c (step s c)
 unfolding step performIf
 turn s S c n = go (inRange c)
   where
     go : (b : Bool) → Turn s c (performIf b c s)
     go true = turn-perform s S c n
-    go false = turn-refused s c 19 refl (refused-name c)
+    go false = turn-refused s c 19 refl (refused-name (sortOf c))

@@ -9,8 +9,8 @@ use mathlib.Core.List.{List, [], _∷_}
 use native.Mathlib.Omega.{arith}
 use lib.Dec.{eqb}
 use Rattle.machine.specs.Lists.{pick, put, without}
-use Rattle.machine.specs.State.{State, Thread, Debt, nothing, owns, noted, Abort, Status, Endpoint}
-use Rattle.machine.specs.State.{setThread, setEndpoint, withDebt}
+use Rattle.machine.specs.State.{State, Thread, Debt, nothing, owns, noted, Abort, Status, Endpoint, setThread}
+use Rattle.machine.specs.State.{setEndpoint, withDebt}
 use Rattle.machine.specs.Endpoints.{ownerOf, passing, withOwner, leaveEndpoint, wakeFrom, dropped, dropDebt}
 use Rattle.machine.specs.Endpoints.{noteTo, note, endAbort}
 use Rattle.machine.specs.Aborts.{begin, joinAs, join}
