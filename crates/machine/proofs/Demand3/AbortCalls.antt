@@ -23,10 +23,12 @@ use Rattle.machine.specs.Aborts.{dropOther, abortOpen, abortAt, hasNote,
 use Rattle.machine.specs.Machine.{byCaller, perform, performIf, step}
 use Rattle.machine.specs.Sound.{Sound}
 use Rattle.machine.specs.Sorts.{looks}
-use Rattle.machine.specs.History.{Aborting, Ended, Reported, Waiting, Walk, History, Outcome, isAccepted}
-use Rattle.machine.specs.History.{namedLooks, lineName, waitingIn, letsGo, isNoteOf, reportOf, reportIf, apart}
-use Rattle.machine.specs.History.{unchanged, comesIn, courseOf, startOf, walk, close, walked, walks, abortsBy}
-use Rattle.machine.specs.History.{abortsOf, outcomeOf, outcomeIf, recorded, told}
+use Rattle.machine.specs.History.{Aborting, Ended, Reported, Waiting, History, isAccepted, namedLooks, lineName}
+use Rattle.machine.specs.History.{waitingIn}
+use Rattle.machine.specs.Walk.{Walk, letsGo, isNoteOf, reportOf, reportIf, walk, close}
+use Rattle.machine.specs.Outcomes.{Outcome, apart, unchanged, comesIn, courseOf, startOf, walked, walks, abortsBy}
+use Rattle.machine.specs.Outcomes.{abortsOf, outcomeOf, outcomeIf}
+use Rattle.machine.specs.Recorded.{recorded, told}
 use Rattle.machine.specs.Claim.{less, removedBy, Reports}
 use Rattle.machine.specs.Tied.{noteIn, noteFrom, Tied}
 use Rattle.machine.proofs.Lists.{Same, same, other, same?, clash}

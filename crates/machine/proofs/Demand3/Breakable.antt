@@ -17,8 +17,9 @@ use Rattle.machine.specs.Aborts.{deleteFrom, deleteAt, delete, abort}
 use Rattle.machine.specs.Machine.{byCaller, perform, performIf, step}
 use Rattle.machine.specs.Sound.{Sound}
 use Rattle.machine.specs.Sorts.{removes, sortOf}
-use Rattle.machine.specs.History.{Aborting, Ended, History, Outcome, isAccepted, queues?, named, unchanged}
-use Rattle.machine.specs.History.{deletes, outcomeOf, outcomeIf, recorded, told}
+use Rattle.machine.specs.History.{Aborting, Ended, History, isAccepted, queues?, named}
+use Rattle.machine.specs.Outcomes.{Outcome, unchanged, deletes, outcomeOf, outcomeIf}
+use Rattle.machine.specs.Recorded.{recorded, told}
 use Rattle.machine.specs.Claim.{In}
 use Rattle.machine.proofs.Preserved.Mid.{sound-mid}
 use Rattle.machine.proofs.Demand3.Standing.{core-grow}

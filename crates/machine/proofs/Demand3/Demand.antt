@@ -11,7 +11,8 @@ use Rattle.machine.specs.declared.Call.the-variants.{Interrupt, Tick, Se
 use Rattle.machine.specs.State.{State, freshState}
 use Rattle.machine.specs.Aborts.{abortUnless, abort}
 use Rattle.machine.specs.Machine.{byCaller, perform, performIf, step}
-use Rattle.machine.specs.History.{Reported, Run, History, told, runFrom, freshHistory, freshRun, historyOf}
+use Rattle.machine.specs.History.{Reported, History}
+use Rattle.machine.specs.Recorded.{Run, told, runFrom, freshHistory, freshRun, historyOf}
 use Rattle.machine.specs.Claim.{Claim}
 use Rattle.machine.specs.Tied.{Tied, NotesFirst}
 use Rattle.machine.proofs.Demand3.Leaving.{no-call}

@@ -17,8 +17,8 @@ use Rattle.machine.specs.Endpoints.{pendingOf, leaveEndpoint, wakeFrom}
 use Rattle.machine.specs.Results.{Look}
 use Rattle.machine.specs.Aborts.{Looked, hits, lookAt, look, after, lookUpTo, pendingAt}
 use Rattle.machine.specs.Sound.{Queued}
-use Rattle.machine.specs.History.{Aborting, NamedLook, Walk, Course, namedLooks, reportOf, settle, lookedAt}
-use Rattle.machine.specs.History.{takeLook, walk}
+use Rattle.machine.specs.History.{Aborting, NamedLook, namedLooks}
+use Rattle.machine.specs.Walk.{Walk, Course, reportOf, settle, lookedAt, takeLook, walk}
 use Rattle.machine.specs.Claim.{In, removedBy, less}
 use Rattle.machine.proofs.Lists.{put-same, put-other}
 use Rattle.machine.proofs.Sublists.{sub-mem, sub-only, less-none, less-more, less-append, mem-map, map-without}

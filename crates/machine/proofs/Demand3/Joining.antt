@@ -15,8 +15,9 @@ use Rattle.machine.specs.State.{State, Thread, owns, Abort, live, setThr
 use Rattle.machine.specs.Endpoints.{underAbort, ownerOf, dropDebt}
 use Rattle.machine.specs.Aborts.{begin, joinAs, join, workOwn, underBadge, abortFrom, ownsThis, dropUnless}
 use Rattle.machine.specs.Aborts.{dropOther, abortOpen}
-use Rattle.machine.specs.History.{Aborting, Walk, isIn, joinsIn, letsGo, isUnder, goesOn, letsOther, comesIn}
-use Rattle.machine.specs.History.{walk}
+use Rattle.machine.specs.History.{Aborting, isIn}
+use Rattle.machine.specs.Walk.{Walk, joinsIn, letsGo, isUnder, walk}
+use Rattle.machine.specs.Outcomes.{goesOn, letsOther, comesIn}
 use Rattle.machine.specs.Tied.{listOf, Tied}
 use Rattle.machine.proofs.Lists.{Same, same, other, same?, clash, put-same}
 use Rattle.machine.proofs.Sublists.{sub-refl}

@@ -13,8 +13,9 @@ use Rattle.machine.specs.Lists.{put}
 use Rattle.machine.specs.State.{State, nothing, Abort, live, Endpoint}
 use Rattle.machine.specs.Endpoints.{senders, pendingOf, endAbort}
 use Rattle.machine.specs.Aborts.{Looked, pendingAt, lookUpTo, beginAfter, finished, lookedOther, workOther}
-use Rattle.machine.specs.History.{Aborting, Reported, NamedLook, Walk, Course, namedLooks, hearsBy, reportOf}
-use Rattle.machine.specs.History.{begins, ends, passes, settles, settle, walk, closes, close}
+use Rattle.machine.specs.History.{Aborting, Reported, NamedLook, namedLooks}
+use Rattle.machine.specs.Walk.{Walk, Course, hearsBy, reportOf, begins, ends, passes, settles, settle, walk}
+use Rattle.machine.specs.Walk.{closes, close}
 use Rattle.machine.proofs.Lists.{put-same}
 use Rattle.machine.proofs.Preserved.Debts.{nothing-owns, live-present, mid-endAbort, endAbort-entry}
 use Rattle.machine.proofs.Preserved.Debts.{endAbort-runs, endAbort-debt}

@@ -18,8 +18,9 @@ use Rattle.machine.specs.Results.{Look, Result, plain}
 use Rattle.machine.specs.Machine.{step}
 use Rattle.machine.specs.Sound.{Sound}
 use Rattle.machine.specs.Sorts.{Sort, other, destroys, waits, receives, yields, removes, looks, sortOf}
-use Rattle.machine.specs.History.{Waiting, History, Outcome, isIn, isAccepted, queues?, named, waitingIn, letGoBy}
-use Rattle.machine.specs.History.{drops, outcomeOf, outcomeIf, recorded, told}
+use Rattle.machine.specs.History.{Waiting, History, isIn, isAccepted, queues?, named, waitingIn}
+use Rattle.machine.specs.Outcomes.{Outcome, letGoBy, drops, outcomeOf, outcomeIf}
+use Rattle.machine.specs.Recorded.{recorded, told}
 use Rattle.machine.specs.Tied.{Tied}
 use Rattle.machine.proofs.Lists.{put-same, put-other}
 use Rattle.machine.proofs.Preserved.Sites.{differ}

@@ -17,8 +17,10 @@ use Rattle.machine.specs.State.{State}
 use Rattle.machine.specs.Results.{Result}
 use Rattle.machine.specs.Sound.{Sound}
 use Rattle.machine.specs.Sorts.{Sort, other, destroys, waits, receives, yields, removes, looks, sortOf}
-use Rattle.machine.specs.History.{Ended, Delivery, AbortCall, Waiting, Reported, Outcome, History, isIn}
-use Rattle.machine.specs.History.{waitingIn, namedLooks, delivered, deliveredIf, abortCallsOf, recorded}
+use Rattle.machine.specs.History.{Ended, Delivery, AbortCall, Waiting, Reported, History, isIn, waitingIn}
+use Rattle.machine.specs.History.{namedLooks}
+use Rattle.machine.specs.Outcomes.{Outcome}
+use Rattle.machine.specs.Recorded.{delivered, deliveredIf, abortCallsOf, recorded}
 use Rattle.machine.specs.Claim.{In}
 use Rattle.machine.specs.Tied.{Tied}
 use Rattle.machine.proofs.Sublists.{entry-below, entry-keep, entry-last, entry-cases, length-grow}

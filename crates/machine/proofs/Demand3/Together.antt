@@ -15,8 +15,8 @@ use Rattle.machine.specs.State.{State, Thread, able, sending, Abort, liv
 use Rattle.machine.specs.Scheduling.{enqueue, wake}
 use Rattle.machine.specs.Endpoints.{isSending, senders, pendingOf, passing, leaveEndpoint, wakeFrom}
 use Rattle.machine.specs.Aborts.{hits, lookAt, look}
-use Rattle.machine.specs.History.{Aborting, Ended, Debts, Walk, Course, isIn, isNone, leftOf, passes, settles}
-use Rattle.machine.specs.History.{settle, lookedAt, takes, takeLook}
+use Rattle.machine.specs.History.{Aborting, Ended, Debts, isIn}
+use Rattle.machine.specs.Walk.{Walk, Course, isNone, leftOf, passes, settles, settle, lookedAt, takes, takeLook}
 use Rattle.machine.specs.Claim.{isOld}
 use Rattle.machine.specs.Tied.{Tied}
 use Rattle.machine.proofs.Lists.{Same, same, other, same?, put-all, put-same, put-other, mem-left, mem-right}
