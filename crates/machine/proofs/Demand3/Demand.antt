@@ -20,7 +20,8 @@ use Rattle.machine.proofs.Preserved.Steps.{fresh-sound}
 use Rattle.machine.proofs.Demand3.Invariant.{Inv, claim}
 use Rattle.machine.proofs.Demand3.OtherCalls.{advance}
 use Rattle.machine.proofs.Demand3.Breakable.{advance11}
-use Rattle.machine.proofs.Demand3.AbortCalls.{note-is, advance12}
+use Rattle.machine.proofs.Demand3.AbortOutcomes.{note-is}
+use Rattle.machine.proofs.Demand3.AbortCalls.{advance12}
 
 no-report : {P : Type 0} {r : Reported} → none ≡ some r → P
 no-report {P} {r} h = let z : _≡_ {A = ℕ} 0 1 = cc in absurd (omega arith)

@@ -32,7 +32,8 @@ use Rattle.machine.proofs.Demand3.Leaving.{Leaves, core-leaves}
 use Rattle.machine.proofs.Demand3.Owing.{tied-still, tied-drop}
 use Rattle.machine.proofs.Demand3.EachLook.{queued-call}
 use Rattle.machine.proofs.Demand3.Blocking.{Joins, Blocks, core-blocks}
-use Rattle.machine.proofs.Demand3.Arrivals.{dropsIf, Sheds, keeps, sheds, Turn, idle, blocks, Simple, turn}
+use Rattle.machine.proofs.Demand3.HostCalls.{dropsIf, Sheds, keeps, sheds, Turn, idle, blocks}
+use Rattle.machine.proofs.Demand3.Arrivals.{Simple, turn}
 use Rattle.machine.proofs.Demand3.Handing.{Takes, handed-first, takes}
 use Rattle.machine.proofs.Preserved.Steps.{step-sound}
 use Rattle.machine.proofs.Demand3.Invariant.{Given, Inv, queued-apart}
