@@ -17,15 +17,15 @@ use Rattle.machine.specs.Endpoints.{pendingOf, leaveEndpoint, wakeFrom}
 use Rattle.machine.specs.Results.{Look}
 use Rattle.machine.specs.Aborts.{Looked, hits, lookAt, look, afterLook, lookUpTo, pendingAt}
 use Rattle.machine.specs.Sound.{Queued}
-use Rattle.machine.specs.History.{Aborting, NamedLook, Walk, Course, namedLooks, reportOf, settle}
-use Rattle.machine.specs.History.{lookedAt, takeLook, walk}
+use Rattle.machine.specs.History.{Aborting, NamedLook, namedLooks}
+use Rattle.machine.specs.Walk.{Walk, Course, reportOf, settle, lookedAt, takeLook, walk}
 use Rattle.machine.specs.Claim.{In, removedBy, less}
 use Rattle.machine.proofs.Lists.{put-same, put-other}
-use Rattle.machine.proofs.Sublists.{sub-mem, sub-only, less-none, less-more, less-append, mem-map}
-use Rattle.machine.proofs.Sublists.{map-without}
+use Rattle.machine.proofs.Sublists.{sub-mem, sub-only, less-none, less-more, less-append, mem-map, map-without}
 use Rattle.machine.proofs.Preserved.Statuses.{Keeps, keeps-self}
 use Rattle.machine.proofs.Demand3.Standing.{callAt, callOf, sends-call, Stood}
-use Rattle.machine.proofs.Demand3.Together.{Gone, walkAt, Going, going-abort, settle-pending, going-look, walk-look}
+use Rattle.machine.proofs.Demand3.Together.{Gone, walkAt, Going, going-abort, settle-pending, going-look}
+use Rattle.machine.proofs.Demand3.Together.{walk-look}
 
 walk-cons :
     (v : NamedLook) (l : List NamedLook) (k : ℕ) (c : Course) (w : Walk)
