@@ -29,8 +29,8 @@ abbrev pub counted : ℕ → ℕ → Answer
 counted n k = record { code = n; count = k; badge = 0; message = 0 }
 
 -- Badge and message are 0 except for a message taken by 8.
-abbrev pub received : ℕ → ℕ → Answer
-received b m = record { code = 0; count = 0; badge = b; message = m }
+abbrev pub receipt : ℕ → ℕ → Answer
+receipt b m = record { code = 0; count = 0; badge = b; message = m }
 
 -- A refused call: its number, three zeros, and everything left as it was.
 abbrev pub refuse : ℕ → State → Result

@@ -8,7 +8,7 @@ use Rattle.machine.specs.declared.Answer.{Answer}
 use Rattle.machine.specs.Lists.{first}
 use Rattle.machine.specs.State.{State, Status, receiving}
 use Rattle.machine.specs.Endpoints.{isSending, senders, joinEndpoint, wakeFrom, dropDebt}
-use Rattle.machine.specs.Results.{plain, received}
+use Rattle.machine.specs.Results.{plain, receipt}
 use Rattle.machine.specs.Machine.{receiveFrom, receiveAt, receive}
 use Rattle.machine.proofs.Preserved.Waking.{mid-wakeFrom}
 use Rattle.layout.specs.declared.Field.{Field}
@@ -59,13 +59,13 @@ module _ {u e : ℕ} where
     pub taken :
         {o : List ℕ} {a : Answer} {b x : ℕ} → Tells m (IsThread u) b (threadIn Field.Badge u)
         → Tells m (IsThread u) x (threadIn Field.Message u)
-        → Accepts n (received b x) a Chooses o → Performs m o a (TakesFrom u e) (takingFrom e u)
+        → Accepts n (receipt b x) a Chooses o → Performs m o a (TakesFrom u e) (takingFrom e u)
     taken {b = b} {x = x} B X A =
         record {
           answers = λ s M h.
               A .performs [] .answers (wakeFrom e u 1 0 0 s) (wakes .shows s M h) (chooses s h)
-              ∙ ap (λ (k : ℕ). received k x) (B .tells s M (sender-thread s h))
-              ∙ ap (λ (k : ℕ). received (s .threads u .badge) k) (X .tells s M (sender-thread s h));
+              ∙ ap (λ (k : ℕ). receipt k x) (B .tells s M (sender-thread s h))
+              ∙ ap (λ (k : ℕ). receipt (s .threads u .badge) k) (X .tells s M (sender-thread s h));
           shows = λ s M h. A .performs [] .shows (wakeFrom e u 1 0 0 s) (wakes .shows s M h) (chooses s h);
         }
 

@@ -21,7 +21,7 @@ use Rattle.machine.specs.State.{State, Debt, nothing, owns, noted, Statu
 use Rattle.machine.specs.State.{pending, awaited, Endpoint, missingEndpoint, setEndpoint}
 use Rattle.machine.specs.Scheduling.{choose}
 use Rattle.machine.specs.Endpoints.{underAbort, pendingOf, withOwner, dropped, dropDebt, endAbort}
-use Rattle.machine.specs.Results.{Look, Result, plain, counted, refuse, accept, received}
+use Rattle.machine.specs.Results.{Look, Result, plain, counted, refuse, accept, receipt}
 use Rattle.machine.specs.Aborts.{Removal, removeUpTo, deleted, deleteFrom, deleteAt, delete, Looked, pendingAt}
 use Rattle.machine.specs.Aborts.{lookUpTo, begin, join, ended, lookedOwn, workOwn, beginAfter, finished}
 use Rattle.machine.specs.Aborts.{lookedOther, workOther, underBadge, abortFrom, dropUnless, dropOther}
@@ -49,7 +49,7 @@ Exact s c n j r = (n ≡ 2) ↔ ((j ≡ allowanceOf c) × WorkLeft s r c)
 pub data Shape (s : State) : Call → Result → Type 0 where
   refused : {c : Call} (n : ℕ) → 19 ≤ n → n ≤ 27 → Shape s c (refuse n s)
   plainly : {c : Call} (n : ℕ) (r : State) → n ≤ 1 → numberOf c ≤ 10 → Shape s c (accept (plain n) [] r)
-  handed : {e : ℕ} (b m : ℕ) (r : State) → Shape s (Receive e) (accept (received b m) [] r)
+  handed : {e : ℕ} (b m : ℕ) (r : State) → Shape s (Receive e) (accept (receipt b m) [] r)
   removed :
       {e a : ℕ} (n j : ℕ) (r : State) → n ≤ 2 → j ≤ a → Exact s (Delete e a) n j (choose r) → Removed s e j (choose r)
       → Shape s (Delete e a) (accept (counted n j) [] r)
