@@ -6,17 +6,16 @@ use mathlib.Core.Option.{Option, none}
 use Rattle.machine.specs.declared.Answer.{Answer}
 use Rattle.machine.specs.declared.Call.{Call}
 use Rattle.machine.specs.Results.{plain}
-use Rattle.lent_tables.specs.Entries.{Checked, checked}
+use Rattle.lent_tables.specs.Entries.{Lent, lent, Checked, checked, Called}
 use Rattle.journal.specs.declared.types.Written.{Written}
 use Rattle.journal.specs.declared.types.Named.{Named}
 use Rattle.journal.specs.Steps.{asNamed, callNamed}
 use Rattle.journal.proofs.Answers.{name-named}
-use Rattle.kernel.specs.Entry.{Called}
 use Rattle.core_c.specs.Numbers.{callIn}
 use Rattle.core_c.specs.Entries.{Answered, refusal, calledFor, four, asAnswered, answered, writtenFor}
 
-abbrev calledOf : Answer → List ℕ → List ℕ → Called
-calledOf a m x = record { answer = a; tables = m; scratch = x }
+abbrev calledOf : Answer → Lent → Called
+calledOf a l = record { answer = a; left = l }
 
 abbrev checkedOf : ℕ → List ℕ → Checked
 checkedOf code x = record { code = code; scratch = x }
@@ -25,33 +24,34 @@ refusal-kept : (n : ℕ) → (n ≡ 0 → ⊥) → refusal n ≡ n
 refusal-kept zero h = absurd (h refl)
 refusal-kept (suc n) h = refl
 
-module _ (m y : List ℕ) {x : List ℕ} {code : ℕ} (e : checkedOf code x ≡ checked m y) where
+module _ (l : Lent) {x : List ℕ} {code : ℕ} (e : checkedOf code x ≡ checked l) where
   -- a refusal in place of the check's number
-  refused : {a : Answer} → a ≡ plain (refusal code) → calledOf a m x ≡ calledFor none m y
+  refused : {a : Answer} → a ≡ plain (refusal code) → calledOf a (lent (l .tables) x) ≡ calledFor none l
   refused {a} p =
-      ap (λ (b : Answer). calledOf b m x) p
-      ∙ ap (λ (r : Checked). calledOf (plain (refusal (r .code))) m (r .scratch)) e
+      ap (λ (b : Answer). calledOf b (lent (l .tables) x)) p
+      ∙ ap (λ (r : Checked). calledOf (plain (refusal (r .code))) (lent (l .tables) (r .scratch))) e
 
-  pub check-refused : {a : Answer} → (code ≡ 0 → ⊥) → a ≡ plain code → calledOf a m x ≡ calledFor none m y
+  pub check-refused :
+      {a : Answer} → (code ≡ 0 → ⊥) → a ≡ plain code → calledOf a (lent (l .tables) x) ≡ calledFor none l
   check-refused h p = refused (p ∙ ap plain (sym (refusal-kept code h)))
 
-  pub none-refused : {a : Answer} → code ≡ 0 → a ≡ plain 18 → calledOf a m x ≡ calledFor none m y
+  pub none-refused : {a : Answer} → code ≡ 0 → a ≡ plain 18 → calledOf a (lent (l .tables) x) ≡ calledFor none l
   none-refused h p = refused (p ∙ ap (λ (n : ℕ). plain (refusal n)) (sym h))
 
--- by whether a call is named
+-- by whether a call is asNamed
 pub called-for :
-    (m y : List ℕ) (n : Named) (o : Option Call) (r : Called) → n ≡ asNamed o → r ≡ calledFor o m y →
-    r ≡ calledFor (callNamed n) m y
-called-for m y n o r e f = f ∙ ap (λ (p : Option Call). calledFor p m y) (sym (ap callNamed e ∙ name-named o))
+    (l : Lent) (n : Named) (o : Option Call) (r : Called) → n ≡ asNamed o → r ≡ calledFor o l →
+    r ≡ calledFor (callNamed n) l
+called-for l n o r e f = f ∙ ap (λ (p : Option Call). calledFor p l) (sym (ap callNamed e ∙ name-named o))
 
 -- the four numbers of the answer are stored
 pub answered-is :
-    (m y ns : List ℕ) (n : Named) (a : Answer) (m′ y′ : List ℕ) → n ≡ asNamed (callIn ns) →
-    calledOf a m′ y′ ≡ calledFor (callNamed n) m y →
-    _≡_ {A = Answered} (record { code = a .code; answer = four a; tables = m′; scratch = y′ }) (answered m y ns)
+    (l : Lent) (ns : List ℕ) (n : Named) (a : Answer) (l′ : Lent) → n ≡ asNamed (callIn ns) →
+    calledOf a l′ ≡ calledFor (callNamed n) l →
+    _≡_ {A = Answered} (record { code = a .code; answer = four a; left = l′ }) (answered l ns)
 unfolding answered
-answered-is m y ns n a m′ y′ e f =
-    ap asAnswered (f ∙ ap (λ (o : Option Call). calledFor o m y) (ap callNamed e ∙ name-named (callIn ns)))
+answered-is l ns n a l′ e f =
+    ap asAnswered (f ∙ ap (λ (o : Option Call). calledFor o l) (ap callNamed e ∙ name-named (callIn ns)))
 
 pub written-for :
     (ns : List ℕ) (n : Named) (r : Written) → n ≡ asNamed (callIn ns) → r ≡ writtenFor (callNamed n) →

@@ -10,28 +10,32 @@ use Rattle.journal.specs.Words.{unused, callOf}
 use Rattle.journal.specs.declared.types.Named.{Named}
 use Rattle.journal.specs.Steps.{asNamed, callNamed}
 use Rattle.journal.proofs.Answers.{unused-above}
-use Rattle.core_c.specs.Numbers.{number, subject, argument, badge, message, short, callIn}
+use Rattle.core_c.specs.Numbers.{givenNumber, givenSubject, givenArgument, givenBadge, givenMessage}
+use Rattle.core_c.specs.Numbers.{short, callIn}
 
 -- a call with neither badge nor message, behind both tests
 pub short-is :
-    (ns : List ℕ) (call inner r : Named) → call ≡ asNamed (callOf (number ns) (subject ns) (argument ns) []) →
-    inner ≡ asNamed (unused (message ns) (callNamed call)) → r ≡ asNamed (unused (badge ns) (callNamed inner)) →
+    (ns : List ℕ) (call inner r : Named) →
+    call ≡ asNamed (callOf (givenNumber ns) (givenSubject ns) (givenArgument ns) []) →
+    inner ≡ asNamed (unused (givenMessage ns) (callNamed call)) → r ≡ asNamed (unused (givenBadge ns) (callNamed inner)) →
     r ≡ asNamed (short ns)
 unfolding short
-short-is ns call inner r e f g = unused-above (badge ns) _ inner r (unused-above (message ns) _ call inner e f) g
+short-is ns call inner r e f g =
+    unused-above (givenBadge ns) _ inner r (unused-above (givenMessage ns) _ call inner e f) g
 
 -- the three ways of `callIn`
 pub is-send :
-    (ns : List ℕ) → number ns ≡ 7 → unused (argument ns) (some (Send (subject ns) (badge ns) (message ns))) ≡ callIn ns
+    (ns : List ℕ) → givenNumber ns ≡ 7 →
+    unused (givenArgument ns) (some (Send (givenSubject ns) (givenBadge ns) (givenMessage ns))) ≡ callIn ns
 unfolding callIn
-is-send ns e = rw (eq-eqb (number ns) 7 e)
+is-send ns e = rw (eq-eqb (givenNumber ns) 7 e)
 
 pub is-abort :
-    (ns : List ℕ) → number ns ≡ 12 →
-    unused (message ns) (some (Abort (subject ns) (argument ns) (badge ns))) ≡ callIn ns
+    (ns : List ℕ) → givenNumber ns ≡ 12 →
+    unused (givenMessage ns) (some (Abort (givenSubject ns) (givenArgument ns) (givenBadge ns))) ≡ callIn ns
 unfolding callIn
 is-abort ns e = rw (e)
 
-pub is-short : (ns : List ℕ) → number ns ≢ 7 → number ns ≢ 12 → short ns ≡ callIn ns
+pub is-short : (ns : List ℕ) → givenNumber ns ≢ 7 → givenNumber ns ≢ 12 → short ns ≡ callIn ns
 unfolding callIn
-is-short ns h k = rw (ne-eqb (number ns) 7 h, ne-eqb (number ns) 12 k)
+is-short ns h k = rw (ne-eqb (givenNumber ns) 7 h, ne-eqb (givenNumber ns) 12 k)

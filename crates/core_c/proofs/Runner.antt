@@ -1,26 +1,23 @@
--- The thread of a link to who runs.
-use Prim.Native.Nat.{ℕ, zero, suc, _-_, _≤_}
+-- The number of who runs.
+use Prim.Native.Nat.{ℕ, _≤_}
 use mathlib.Core.Path.{_≡_, refl, sym, ap, _∙_}
 use mathlib.Core.List.{List}
+use mathlib.Core.Option.{some}
 use native.Mathlib.Omega.{arith}
-use Rattle.kernel.specs.Entry.{runningLink}
+use Rattle.machine.specs.declared.Runner.{Runner}
+use Rattle.machine.specs.declared.Runner.the-variants.{Nobody, Thread}
+use Rattle.machine.specs.Results.{threadOf}
+use Rattle.lent_tables.specs.Entries.{runnerIn}
 use Rattle.kernel.proofs.Runner.{running-within}
-use Rattle.core_c.specs.Entries.{threadOf}
+use Rattle.core_c.specs.Entries.{runnerNumber}
 
-pub nobody : (link is : ℕ) → link ≡ is → link ≡ 0 → 256 ≡ threadOf is
-nobody link is e z = ap threadOf (sym z ∙ e)
-
-before : (link : ℕ) → (link ≡ 0 → ⊥) → link - 1 ≡ threadOf link
-before zero h = absurd (h refl)
-before (suc t) h = omega arith
-
-pub somebody : (link is : ℕ) → link ≡ is → (link ≡ 0 → ⊥) → link - 1 ≡ threadOf is
-somebody link is e h = before link h ∙ ap threadOf e
+pub numbered : (m : List ℕ) (r k : Runner) → r ≡ runnerIn m → r ≡ k → runnerNumber k ≡ runnerNumber (runnerIn m)
+numbered m r k e g = ap runnerNumber (sym g ∙ e)
 
 -- "The thread that runs, or 256", whatever the words are.
-pub within : (m : List ℕ) → threadOf (runningLink m) ≤ 256
-within m = go (runningLink m) (running-within m)
+pub within : (m : List ℕ) → runnerNumber (runnerIn m) ≤ 256
+within m = go (runnerIn m) (running-within m)
   where
-    go : (link : ℕ) → link ≤ 256 → threadOf link ≤ 256
-    go zero h = omega arith
-    go (suc t) h = omega arith
+    go : (r : Runner) → ((t : ℕ) → threadOf r ≡ some t → t ≤ 255) → runnerNumber r ≤ 256
+    go Nobody h = omega arith
+    go (Thread t) h = omega (arith, h t refl)

@@ -4,22 +4,22 @@ use mathlib.Core.List.{List, [], _∷_}
 use mathlib.Core.Option.{Option, none, some}
 use Rattle.machine.specs.declared.Answer.{Answer}
 use Rattle.machine.specs.declared.Call.{Call}
+use Rattle.machine.specs.declared.Runner.{Runner}
+use Rattle.machine.specs.declared.Runner.the-variants.{Nobody, Thread}
 use Rattle.machine.specs.Results.{plain}
-use Rattle.lent_tables.specs.Entries.{checked}
+use Rattle.lent_tables.specs.Entries.{Lent, lent, checked, Called, called}
 use Rattle.journal.specs.declared.types.Read.{Read}
 use Rattle.journal.specs.declared.types.Read.the-variants.{Found, Refused, Ended}
 use Rattle.journal.specs.declared.types.Written.{Written}
 use Rattle.journal.specs.Words.{readAt, written}
-use Rattle.kernel.specs.Entry.{Called, called}
 use Rattle.core_c.specs.declared.types.Reading.{Reading}
 use Rattle.core_c.specs.Numbers.{callIn, numbersOf}
 
--- The code answered, the answer's four numbers, and the tables and the scratch left.
+-- The code answered, the answer's four numbers, and the memory left.
 pub record Answered : Type 0 where
   pub code : ℕ
   pub answer : List ℕ
-  pub tables : List ℕ
-  pub scratch : List ℕ
+  pub left : Lent
 
 -- 16 or 17 where the check answers so, else 18
 abbrev pub refusal : ℕ → ℕ
@@ -28,22 +28,21 @@ refusal (suc n) = suc n
 
 -- A call is taken as the core takes it. Where none is named, the tables are checked and stay, and the scratch is left
 -- as the check leaves it.
-abbrev pub calledFor : Option Call → List ℕ → List ℕ → Called
-calledFor (some c) m scratch = called m scratch c
-calledFor none m scratch =
-    record { answer = plain (refusal (checked m scratch .code)); tables = m; scratch = checked m scratch .scratch }
+abbrev pub calledFor : Option Call → Lent → Called
+calledFor (some c) l = called l c
+calledFor none l =
+    record { answer = plain (refusal (checked l .code)); left = lent (l .tables) (checked l .scratch) }
 
 -- code, count, badge, message
 abbrev pub four : Answer → List ℕ
 four a = a .code ∷ a .count ∷ a .badge ∷ a .message ∷ []
 
 abbrev pub asAnswered : Called → Answered
-asAnswered r =
-    record { code = r .answer .code; answer = four (r .answer); tables = r .tables; scratch = r .scratch }
+asAnswered r = record { code = r .answer .code; answer = four (r .answer); left = r .left }
 
 -- Take a call that passes as five numbers.
-unfoldable pub answered : List ℕ → List ℕ → List ℕ → Answered
-answered m scratch numbers = asAnswered (calledFor (callIn numbers) m scratch)
+unfoldable pub answered : Lent → List ℕ → Answered
+answered l numbers = asAnswered (calledFor (callIn numbers) l)
 
 -- Read: 0, the first word not yet read and the call's numbers; the reader's 18 or 19, its place and zeros; at the end
 -- of the journal 255, the place as it was and zeros.
@@ -60,7 +59,7 @@ abbrev pub writtenFor : Option Call → Written
 writtenFor (some c) = written c
 writtenFor none = record { code = 18; count = 0; words = 0 ∷ 0 ∷ 0 ∷ [] }
 
--- Who runs: the thread of the link; 256 where nobody runs.
-abbrev pub threadOf : ℕ → ℕ
-threadOf zero = 256
-threadOf (suc t) = t
+-- Who runs: the thread's number; 256 where nobody runs.
+abbrev pub runnerNumber : Runner → ℕ
+runnerNumber Nobody = 256
+runnerNumber (Thread t) = t

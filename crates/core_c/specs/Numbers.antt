@@ -11,30 +11,34 @@ use Rattle.machine.specs.Lists.{pick}
 use Rattle.journal.specs.Words.{unused, callOf}
 
 -- each of the five
-abbrev pub number : List ℕ → ℕ
-number ns = getD ns 0 0
+abbrev pub givenNumber : List ℕ → ℕ
+givenNumber ns = getD ns 0 0
 
-abbrev pub subject : List ℕ → ℕ
-subject ns = getD ns 1 0
+abbrev pub givenSubject : List ℕ → ℕ
+givenSubject ns = getD ns 1 0
 
-abbrev pub argument : List ℕ → ℕ
-argument ns = getD ns 2 0
+abbrev pub givenArgument : List ℕ → ℕ
+givenArgument ns = getD ns 2 0
 
-abbrev pub badge : List ℕ → ℕ
-badge ns = getD ns 3 0
+abbrev pub givenBadge : List ℕ → ℕ
+givenBadge ns = getD ns 3 0
 
-abbrev pub message : List ℕ → ℕ
-message ns = getD ns 4 0
+abbrev pub givenMessage : List ℕ → ℕ
+givenMessage ns = getD ns 4 0
 
 -- the call with neither badge nor message: the one that such a call word alone names in the journal
 unfoldable pub short : List ℕ → Option Call
-short ns = unused (badge ns) (unused (message ns) (callOf (number ns) (subject ns) (argument ns) []))
+short ns =
+    unused (givenBadge ns)
+    (unused (givenMessage ns) (callOf (givenNumber ns) (givenSubject ns) (givenArgument ns) []))
 
 -- the call that five numbers name, with no bound on a number: the core tries the ranges
 unfoldable pub callIn : List ℕ → Option Call
 callIn ns =
-    pick (eqb (number ns) 7) (unused (argument ns) (some (Send (subject ns) (badge ns) (message ns))))
-    (pick (eqb (number ns) 12) (unused (message ns) (some (Abort (subject ns) (argument ns) (badge ns))))
+    pick (eqb (givenNumber ns) 7)
+    (unused (givenArgument ns) (some (Send (givenSubject ns) (givenBadge ns) (givenMessage ns))))
+    (pick (eqb (givenNumber ns) 12)
+    (unused (givenMessage ns) (some (Abort (givenSubject ns) (givenArgument ns) (givenBadge ns))))
     (short ns))
 
 -- the five numbers of a call

@@ -4,13 +4,12 @@
 // test, and what the reader gives is what a call takes. Numbers that name no call are refused by 18, after 16 and 17.
 ghost use mathlib.Core.Path.{_≡_};
 ghost use mathlib.Core.Option.{none};
-ghost use Rattle.lent_tables.specs.Entries.{Freshened, Checked, freshened, checked};
+ghost use Rattle.lent_tables.specs.Entries.{lent, Freshened, Checked, Called, freshened, checked, runnerIn};
 ghost use Rattle.journal.specs.declared.types.Written.{Written};
 ghost use Rattle.journal.specs.Steps.{callNamed};
-ghost use Rattle.kernel.specs.Entry.{Called, runningLink};
 ghost use Rattle.core_c.specs.Numbers.{callIn};
 ghost use Rattle.core_c.specs.declared.types.Reading.{Reading};
-ghost use Rattle.core_c.specs.Entries.{Answered, calledFor, answered, reading, writtenFor, threadOf};
+ghost use Rattle.core_c.specs.Entries.{Answered, calledFor, answered, reading, writtenFor, runnerNumber};
 
 mod numbers;
 mod types;
@@ -20,6 +19,7 @@ use journal::types::Named;
 use journal::types::Read;
 use journal::types::Written;
 use machine::Answer;
+use machine::Runner;
 
 // That the journal has ended: no code of an answer.
 const ENDED: u32 = 255;
@@ -40,7 +40,7 @@ pub extern "C" fn nazsombet_fresh(tables: &mut [u32]) -> u32
 #[no_mangle]
 pub extern "C" fn nazsombet_check(tables: &[u32], scratch: &mut [u32]) -> u32
     ensures { λ r. ⌜ _≡_ {A = Checked} (record { code = r; scratch = now (scratch .exit) })
-        (checked (now (tables .entry)) (now (scratch .entry))) ⌝ }
+        (checked (lent (now (tables .entry)) (now (scratch .entry)))) ⌝ }
 {
     lent_tables::check(tables, scratch)
 }
@@ -48,8 +48,8 @@ pub extern "C" fn nazsombet_check(tables: &[u32], scratch: &mut [u32]) -> u32
 // The numbers name no call: 18, if the tables are sound.
 fn refuse(tables: &[u32], scratch: &mut [u32]) -> Answer
     ensures { λ r. ⌜ _≡_ {A = Called}
-        (record { answer = r; tables = now (tables .entry); scratch = now (scratch .exit) })
-        (calledFor none (now (tables .entry)) (now (scratch .entry))) ⌝ }
+        (record { answer = r; left = lent (now (tables .entry)) (now (scratch .exit)) })
+        (calledFor none (lent (now (tables .entry)) (now (scratch .entry)))) ⌝ }
 {
     let code = lent_tables::check(tables, scratch);
     if code != 0 {
@@ -61,8 +61,8 @@ fn refuse(tables: &[u32], scratch: &mut [u32]) -> Answer
 // Takes the call that the numbers name, if they name one.
 fn take(tables: &mut [u32], scratch: &mut [u32], named: Named) -> Answer
     ensures { λ r. ⌜ _≡_ {A = Called}
-        (record { answer = r; tables = now (tables .exit); scratch = now (scratch .exit) })
-        (calledFor (callNamed named) (now (tables .entry)) (now (scratch .entry))) ⌝ }
+        (record { answer = r; left = lent (now (tables .exit)) (now (scratch .exit)) })
+        (calledFor (callNamed named) (lent (now (tables .entry)) (now (scratch .entry)))) ⌝ }
 {
     let Named::One(call) = named else {
         return refuse(tables, scratch);
@@ -79,8 +79,8 @@ pub extern "C" fn nazsombet_call(
     answer: &mut [u32; 4],
 ) -> u32
     ensures { λ r. ⌜ _≡_ {A = Answered}
-        (record { code = r; answer = now (answer .exit); tables = now (tables .exit); scratch = now (scratch .exit) })
-        (answered (now (tables .entry)) (now (scratch .entry)) (now (call .entry))) ⌝ }
+        (record { code = r; answer = now (answer .exit); left = lent (now (tables .exit)) (now (scratch .exit)) })
+        (answered (lent (now (tables .entry)) (now (scratch .entry))) (now (call .entry))) ⌝ }
 {
     let named = numbers::call_in(*call);
     let a = take(tables, scratch, named);
@@ -156,11 +156,10 @@ pub extern "C" fn nazsombet_write(call: &[u32; 5], words: &mut [u32; 3], count: 
 // The thread that runs, 0 to 255, or NOBODY, whatever the words are.
 #[no_mangle]
 pub extern "C" fn nazsombet_running(tables: &[u32]) -> u32
-    ensures { λ r. ⌜ r ≡ threadOf (runningLink (now (tables .entry))) ⌝ }
+    ensures { λ r. ⌜ r ≡ runnerNumber (runnerIn (now (tables .entry))) ⌝ }
 {
-    let link = kernel::running(tables);
-    if link == 0 {
-        return NOBODY;
+    match kernel::running(tables) {
+        Runner::Nobody => NOBODY,
+        Runner::Thread(thread) => thread,
     }
-    link - 1
 }

@@ -14,59 +14,58 @@ use Rattle.machine.specs.Machine.{createAt, createEndpoint, perform, performIf,
 use Rattle.machine.specs.Sound.{Sound}
 use Rattle.machine.proofs.Calls.Running.{choose-keeps}
 use Rattle.machine.proofs.Preserved.Steps.{step-sound, fresh-sound}
+use Rattle.layout.specs.Addresses.{scratchWords}
 use Rattle.layout.specs.Words.{image}
 use Rattle.layout.proofs.Decode.{image-injective}
-use Rattle.lent_tables.specs.Entries.{zeros}
-use Rattle.kernel.specs.Entry.{Called, called}
+use Rattle.lent_tables.specs.Entries.{Lent, lent, zeros, Called, called}
+use Rattle.lent_tables.proofs.Verdict.{zeros-length}
 use Rattle.kernel.specs.Kept.{Kept}
 use Rattle.kernel.proofs.Kept.{kept-only}
 use Rattle.kernel.proofs.Turns.{called-image}
 
--- What a core makes of tables, scratch and call.
+-- What a core makes of the lent memory and a call.
 abbrev Core : Type 0
-Core = List ℕ → List ℕ → Call → Called
+Core = Lent → Call → Called
 
 abbrev Keeps : Core → Type 0
-Keeps f = (m scratch : List ℕ) (c : Call) → Kept m scratch c (f m scratch c)
+Keeps f = (l : Lent) (c : Call) → Kept l c (f l c)
 
 -- "A core that leaves tables untouched": it answers as it should.
 abbrev untoucher : Core
-untoucher m scratch c =
-    record { answer = called m scratch c .answer; tables = m; scratch = called m scratch c .scratch }
+untoucher l c =
+    record { answer = called l c .answer; left = lent (l .tables) (called l c .left .scratch) }
 
 -- "One always answering 0": tables and scratch are as they should be.
 abbrev nodder : Core
-nodder m scratch c =
-    record { answer = plain 0; tables = called m scratch c .tables; scratch = called m scratch c .scratch }
+nodder l c = record { answer = plain 0; left = called l c .left }
 
 -- "One refusing all calls", by the number n.
 abbrev refuser : ℕ → Core
-refuser n m scratch c = record { answer = plain n; tables = m; scratch = called m scratch c .scratch }
+refuser n l c = record { answer = plain n; left = lent (l .tables) (called l c .left .scratch) }
 
 -- One that makes refused tables fresh.
 abbrev clearer : Core
-clearer m scratch c =
+clearer l c =
     record {
-      answer = called m scratch c .answer;
-      tables = pick (leb 16 (called m scratch c .answer .code)) (image freshState) (called m scratch c .tables);
-      scratch = called m scratch c .scratch;
+      answer = called l c .answer;
+      left =
+          lent (pick (leb 16 (called l c .answer .code)) (image freshState) (called l c .left .tables))
+          (called l c .left .scratch);
     }
 
 -- One that leaves the scratch.
 abbrev leaver : Core
-leaver m scratch c =
-    record { answer = called m scratch c .answer; tables = called m scratch c .tables; scratch = scratch }
+leaver l c =
+    record { answer = called l c .answer; left = lent (called l c .left .tables) (l .scratch) }
 
 -- On the memory of a sound state a core that keeps demand 1 does what the machine does.
 does :
-    (f : Core) → Keeps f → (s : State) (scratch : List ℕ) (c : Call) → Sound s → length scratch ≡ 256
-    → f (image s) scratch c
-    ≡ record { answer = step s c .answer; tables = image (step s c .state); scratch = zeros }
+    (f : Core) → Keeps f → (s : State) (scratch : List ℕ) (c : Call) → Sound s → length scratch ≡ scratchWords
+    → f (lent (image s) scratch) c
+    ≡ record { answer = step s c .answer; left = lent (image (step s c .state)) zeros }
 does f K s scratch c S n =
-    kept-only (image s) scratch c (f (image s) scratch c) (K (image s) scratch c) ∙ called-image s scratch c S n
-
-zeros-length : length zeros ≡ 256
-zeros-length = length-replicate {A = ℕ} 256 0
+    let l = lent (image s) scratch in
+    kept-only l c (f l c) (K l c) ∙ called-image s scratch c S n
 
 -- The state after a first call: endpoint 0 is there.
 abbrev one-endpoint : State
@@ -96,7 +95,7 @@ apart e =
 pub untoucher-fails : Keeps untoucher → ⊥
 untoucher-fails K =
     let d = does untoucher K freshState zeros (CreateEndpoint 0) fresh-sound zeros-length in
-    apart (ap (λ (x : Called). x .tables) d)
+    apart (ap (λ (x : Called). x .left .tables) d)
 
 -- The answer: nobody runs on fresh tables, and a yield is answered 0 instead of 20.
 pub nodder-fails : Keeps nodder → ⊥
@@ -121,8 +120,8 @@ clearer-fails K =
     let e = called-image one-endpoint zeros (CreateThread 256 0) one-sound zeros-length in
     let d = does clearer K one-endpoint zeros (CreateThread 256 0) one-sound zeros-length in
     apart
-    (sym (ap (λ (x : Called). pick (leb 16 (x .answer .code)) (image freshState) (x .tables)) e)
-    ∙ ap (λ (x : Called). x .tables) d)
+    (sym (ap (λ (x : Called). pick (leb 16 (x .answer .code)) (image freshState) (x .left .tables)) e)
+    ∙ ap (λ (x : Called). x .left .tables) d)
 
 headOf : List ℕ → ℕ
 headOf [] = 0
@@ -132,6 +131,7 @@ headOf (x ∷ l) = x
 pub leaver-fails : Keeps leaver → ⊥
 unfolding headOf
 leaver-fails K =
-    let d = does leaver K freshState (replicate 256 1) Tick fresh-sound (length-replicate {A = ℕ} 256 1) in
-    let k = ap (λ (x : Called). headOf (x .scratch)) d in
+    let ones : List ℕ = replicate scratchWords 1 in
+    let d = does leaver K freshState ones Tick fresh-sound (length-replicate {A = ℕ} scratchWords 1) in
+    let k = ap (λ (x : Called). headOf (x .left .scratch)) d in
     omega (arith, k)

@@ -1,55 +1,72 @@
 -- Who runs, read from the tables.
-use Prim.Native.Nat.{ℕ, suc, _≤_, _<_}
+use Prim.Native.Nat.{ℕ, zero, suc, _-_, _≤_, _<_}
 use mathlib.Core.Path.{_≡_, refl, sym, _∙_, ap}
 use mathlib.Core.Bool.{Bool, true, false}
-use mathlib.Core.Option.{Option, none, some}
+use mathlib.Core.Option.{Option, none, some, Option·some-injective}
 use mathlib.Core.List.{List}
 use native.Mathlib.Omega.{arith}
 use lib.Dec.{eqb, leb}
 use lib.ListN.{length}
 use borrow.Author.Tests.{eq-eqb, ne-eqb, le-leb, lt-leb, leb-true}
+use Rattle.machine.specs.declared.Runner.the-variants.{Nobody, Thread}
 use Rattle.machine.specs.Lists.{pick}
 use Rattle.machine.specs.State.{State}
+use Rattle.machine.specs.Results.{threadOf}
 use Rattle.machine.specs.Sound.{Sound}
-use Rattle.layout.specs.Addresses.{word, at, running, slot}
+use Rattle.layout.specs.Addresses.{tableWords, word, at, running, slot}
 use Rattle.layout.specs.Words.{image, linkOf}
+use Rattle.layout.proofs.Ends.{none-some}
 use Rattle.layout.proofs.Image.{length-image, image-name}
 use Rattle.layout.proofs.Neat.{sound-neat}
 use Rattle.words.specs.Access.{Address}
-use Rattle.kernel.specs.Entry.{asLink, runningLink}
+use Rattle.lent_tables.specs.Entries.{runnerOf, asLink, runnerIn}
 
-pub no-tables : (m : List ℕ) → (length m ≡ 4096 → ⊥) → 0 ≡ runningLink m
-unfolding runningLink
-no-tables m h = rw (ne-eqb (length m) 4096 h)
+pub no-tables : (m : List ℕ) → (length m ≡ tableWords → ⊥) → Nobody ≡ runnerIn m
+unfolding runnerIn
+no-tables m h = rw (ne-eqb (length m) tableWords h)
 
-module _ (m : List ℕ) (i : ℕ) {r : ℕ} (h : length m ≡ 4096) (A : Address i (at running)) (e : r ≡ word m i) where
+module _ (m : List ℕ) (i : ℕ) {r : ℕ} (h : length m ≡ tableWords) (A : Address i (at running)) (e : r ≡ word m i) where
   here : word m (at running) ≡ r
   here = sym (e ∙ ap (word m) (A .is))
 
-  pub running-read : r ≤ 256 → r ≡ runningLink m
-  unfolding runningLink
-  running-read k = rw (eq-eqb (length m) 4096 h, here, le-leb r 256 k)
+  linked : runnerOf (asLink r) ≡ runnerIn m
+  unfolding runnerIn
+  linked = rw (eq-eqb (length m) tableWords h, here)
 
-  pub no-link : 256 < r → 0 ≡ runningLink m
-  unfolding runningLink
-  no-link k = rw (eq-eqb (length m) 4096 h, here, lt-leb r 256 k)
+  pub nobody-runs : r ≡ 0 → Nobody ≡ runnerIn m
+  nobody-runs z = ap (λ (w : ℕ). runnerOf (asLink w)) (sym z) ∙ linked
 
--- Whatever the words are, it is the link to a thread, or 0.
-pub running-within : (m : List ℕ) → runningLink m ≤ 256
-unfolding runningLink
-running-within m = go (eqb (length m) 4096) (leb (word m (at running)) 256) refl
+  pub no-link : 256 < r → Nobody ≡ runnerIn m
+  no-link k = ap (λ (b : Bool). runnerOf (pick b r 0)) (sym (lt-leb r 256 k)) ∙ linked
+
+  pub thread-runs : (r ≡ 0 → ⊥) → r ≤ 256 → Thread (r - 1) ≡ runnerIn m
+  thread-runs z k = before r z ∙ ap (λ (b : Bool). runnerOf (pick b r 0)) (sym (le-leb r 256 k)) ∙ linked
+    where
+      before : (w : ℕ) → (w ≡ 0 → ⊥) → Thread (w - 1) ≡ runnerOf w
+      before zero n = absurd (n refl)
+      before (suc t) n = ap Thread (omega arith)
+
+-- Whatever the words are, whoever runs is a thread.
+pub running-within : (m : List ℕ) (t : ℕ) → threadOf (runnerIn m) ≡ some t → t ≤ 255
+unfolding runnerIn
+running-within m t = go (eqb (length m) tableWords) (leb (word m (at running)) 256) (word m (at running)) refl
   where
-    go : (a b : Bool) → leb (word m (at running)) 256 ≡ b → pick a (pick b (word m (at running)) 0) 0 ≤ 256
-    go false b k = omega arith
-    go true false k = omega arith
-    go true true k = leb-true (word m (at running)) 256 k
+    small : (w : ℕ) → w ≤ 256 → threadOf (runnerOf w) ≡ some t → t ≤ 255
+    small zero k e = none-some e
+    small (suc u) k e = let same = Option·some-injective u t e in omega arith
 
--- In the memory of a sound state it is the link to the thread that runs.
-pub running-image : (s : State) → Sound s → runningLink (image s) ≡ linkOf (s .runs)
-unfolding runningLink
+    go : (a b : Bool) (w : ℕ) → leb w 256 ≡ b
+        → threadOf (pick a (runnerOf (pick b w 0)) Nobody) ≡ some t → t ≤ 255
+    go false b w k e = none-some e
+    go true false w k e = none-some e
+    go true true w k e = small w (leb-true w 256 k) e
+
+-- In the memory of a sound state it is the thread that runs.
+pub running-image : (s : State) → Sound s → threadOf (runnerIn (image s)) ≡ s .runs
+unfolding runnerIn
 running-image s S =
-    rw (eq-eqb (length (image s)) 4096 (length-image s), image-name s (slot running) tt) (small (s .runs) refl)
+    rw (eq-eqb (length (image s)) tableWords (length-image s), image-name s (slot running) tt) (go (s .runs) refl)
   where
-    small : (o : Option ℕ) → s .runs ≡ o → asLink (linkOf o) ≡ linkOf o
-    small none k = refl
-    small (some t) k = rw (le-leb (suc t) 256 (omega (arith, sound-neat s S .runs-small t k)))
+    go : (o : Option ℕ) → s .runs ≡ o → threadOf (runnerOf (asLink (linkOf o))) ≡ o
+    go none k = refl
+    go (some t) k = rw (le-leb (suc t) 256 (omega (arith, sound-neat s S .runs-small t k)))

@@ -3,8 +3,6 @@
 use Prim.Native.Nat.{ℕ, _≤_}
 use mathlib.Core.Path.{_≡_}
 use mathlib.Core.Option.{none, some}
-use mathlib.Core.List.{List}
-use lib.ListN.{length}
 use Rattle.machine.specs.declared.Call.{Call}
 use Rattle.machine.specs.State.{State}
 use Rattle.machine.specs.Results.{plain}
@@ -12,27 +10,24 @@ use Rattle.machine.specs.Machine.{step}
 use Rattle.machine.specs.Refusals.{refusalOf}
 use Rattle.machine.specs.Sound.{Sound}
 use Rattle.layout.specs.Words.{image}
-use Rattle.lent_tables.specs.Entries.{zeros}
-use Rattle.kernel.specs.Entry.{Called}
+use Rattle.lent_tables.specs.Entries.{Lent, lent, Sized, zeros, Called}
 
--- What the call c on the tables m and the scratch comes to: one case for each cause of document 01's list, in its
--- order, and one where there is none.
-pub data Kept (m scratch : List ℕ) (c : Call) : Called → Type 0 where
+-- What the call c on the memory l comes to: one case for each cause of document 01's list, in its order, and one where
+-- there is none.
+pub data Kept (l : Lent) (c : Call) : Called → Type 0 where
   -- "tables not 4,096 words, or scratch not 256 | 16"; both are left
-  lengths :
-      (length m ≡ 4096 → length scratch ≡ 256 → ⊥)
-      → Kept m scratch c (record { answer = plain 16; tables = m; scratch = scratch })
+  lengths : (Sized l → ⊥) → Kept l c (record { answer = plain 16; left = l })
   -- "tables unsound | 17": they are no sound state's memory; they are left, and the scratch is all zero
   unsound :
-      length m ≡ 4096 → length scratch ≡ 256 → ((s : State) → Sound s → m ≡ image s → ⊥)
-      → Kept m scratch c (record { answer = plain 17; tables = m; scratch = zeros })
+      Sized l → ((s : State) → Sound s → l .tables ≡ image s → ⊥)
+      → Kept l c (record { answer = plain 17; left = lent (l .tables) zeros })
   -- 19 to 27: the list's number for the sound state that they show; they are left, and the scratch is all zero
   refused :
-      (s : State) (n : ℕ) → length m ≡ 4096 → length scratch ≡ 256 → Sound s → m ≡ image s → refusalOf c s ≡ some n
-      → Kept m scratch c (record { answer = plain n; tables = m; scratch = zeros })
+      (s : State) (n : ℕ) → Sized l → Sound s → l .tables ≡ image s → refusalOf c s ≡ some n
+      → Kept l c (record { answer = plain n; left = lent (l .tables) zeros })
   -- accepted: the machine's answer in the sound state that they show, of code 0, 1 or 2; they hold the sound state that
   -- the machine comes to, and the scratch is all zero
   holds :
-      (s : State) → length m ≡ 4096 → length scratch ≡ 256 → Sound s → m ≡ image s → refusalOf c s ≡ none
+      (s : State) → Sized l → Sound s → l .tables ≡ image s → refusalOf c s ≡ none
       → step s c .answer .code ≤ 2 → Sound (step s c .state)
-      → Kept m scratch c (record { answer = step s c .answer; tables = image (step s c .state); scratch = zeros })
+      → Kept l c (record { answer = step s c .answer; left = lent (image (step s c .state)) zeros })

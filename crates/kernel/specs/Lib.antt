@@ -1,5 +1,4 @@
 -- What a call comes to on the lent memory, said as demand 1 says it, and calls made in turn.
-pub mod Entry
 pub mod Kept
 pub mod Turns
 pub mod Steps

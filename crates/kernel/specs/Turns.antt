@@ -13,9 +13,9 @@ use Rattle.machine.specs.Results.{plain}
 use Rattle.machine.specs.Machine.{step}
 use Rattle.machine.specs.Recorded.{freshRun, runFrom, historyOf}
 use Rattle.machine.specs.Claim.{Claim}
+use Rattle.layout.specs.Addresses.{scratchWords}
 use Rattle.layout.specs.Words.{image}
-use Rattle.lent_tables.specs.Entries.{freshened}
-use Rattle.kernel.specs.Entry.{called}
+use Rattle.lent_tables.specs.Entries.{lent, freshened, Called, called}
 
 -- A call and the scratch lent with it.
 pub record Attempt : Type 0 where
@@ -27,18 +27,22 @@ pub record Turns : Type 0 where
   pub answers : List Answer
   pub tables : List ℕ
 
+-- What one comes to on the tables m.
+abbrev pub tried : List ℕ → Attempt → Called
+tried m x = called (lent m (x .scratch)) (x .call)
+
 unfoldable pub turns : List Attempt → List ℕ → Turns
 turns [] m = record { answers = []; tables = m }
 turns (x ∷ l) m =
     record {
-      answers = called m (x .scratch) (x .call) .answer ∷ turns l (called m (x .scratch) (x .call) .tables) .answers;
-      tables = turns l (called m (x .scratch) (x .call) .tables) .tables;
+      answers = tried m x .answer ∷ turns l (tried m x .left .tables) .answers;
+      tables = turns l (tried m x .left .tables) .tables;
     }
 
 -- The calls that had a scratch of 256 words.
 unfoldable pub made : List Attempt → List Call
 made [] = []
-made (x ∷ l) = pick (eqb (length (x .scratch)) 256) (x .call ∷ made l) (made l)
+made (x ∷ l) = pick (eqb (length (x .scratch)) scratchWords) (x .call ∷ made l) (made l)
 
 -- The answers to all, given those to the calls made: to every other 16.
 abbrev pub fill : Bool → List Answer → (List Answer → List Answer) → List Answer
@@ -48,7 +52,7 @@ fill true (a ∷ l) f = a ∷ f l
 
 unfoldable pub filled : List Attempt → List Answer → List Answer
 filled [] l = []
-filled (x ∷ k) l = fill (eqb (length (x .scratch)) 256) l (λ r. filled k r)
+filled (x ∷ k) l = fill (eqb (length (x .scratch)) scratchWords) l (λ r. filled k r)
 
 -- "Its first call gets fresh tables, each later one the tables that the one before it left"; the scratch's "content at
 -- entry doesn't matter". From the tables that making fresh leaves, whatever scratch each call has, the answers that

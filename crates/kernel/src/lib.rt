@@ -3,11 +3,12 @@ ghost use mathlib.Core.Path.{_≡_};
 ghost use Rattle.machine.specs.Machine.{perform};
 ghost use Rattle.machine.specs.Sound.{Sound};
 ghost use Rattle.store.specs.Steps.{Shown};
+ghost use Rattle.lent_tables.specs.Entries.{lent, Called, called, runnerIn};
 ghost use Rattle.endings.specs.Results.{Asked, Performs};
-ghost use Rattle.kernel.specs.Entry.{Called, called, runningLink};
 ghost use Rattle.kernel.specs.Steps.{Ranged, Served, stepping};
 use machine::Answer;
 use machine::Call;
+use machine::Runner;
 
 // A call by its kind: 7 to 12 are made by the running thread, that of the link.
 fn carry_out(tables: &mut [u32], link: u32, c: Call) -> Answer
@@ -89,8 +90,8 @@ fn step(tables: &mut [u32], c: Call) -> Answer
 // Takes a call on tables and scratch of any length and content.
 pub fn call(tables: &mut [u32], scratch: &mut [u32], c: Call) -> Answer
     ensures { λ r. ⌜ _≡_ {A = Called}
-        (record { answer = r; tables = now (tables .exit); scratch = now (scratch .exit) })
-        (called (now (tables .entry)) (now (scratch .entry)) c) ⌝ }
+        (record { answer = r; left = lent (now (tables .exit)) (now (scratch .exit)) })
+        (called (lent (now (tables .entry)) (now (scratch .entry))) c) ⌝ }
 {
     let code = lent_tables::check(tables, scratch);
     if code != 0 {
@@ -99,16 +100,19 @@ pub fn call(tables: &mut [u32], scratch: &mut [u32], c: Call) -> Answer
     step(tables, c)
 }
 
-// The link to the thread that runs: t + 1 for thread t, 0 for nobody; 256 at most, whatever the words are.
-pub fn running(tables: &[u32]) -> u32
-    ensures { λ r. ⌜ r ≡ runningLink (now (tables .entry)) ⌝ }
+// Who runs: a thread or nobody, whatever the words are.
+pub fn running(tables: &[u32]) -> Runner
+    ensures { λ r. ⌜ r ≡ runnerIn (now (tables .entry)) ⌝ }
 {
-    if tables.len() != 4096 {
-        return 0;
+    if tables.len() != lent_tables::TABLE_WORDS {
+        return Runner::Nobody;
     }
     let link = words::get(tables, words::running_at());
-    if link > 256 {
-        return 0;
+    if link == 0 {
+        return Runner::Nobody;
     }
-    link
+    if link > 256 {
+        return Runner::Nobody;
+    }
+    Runner::Thread(link - 1)
 }

@@ -8,6 +8,13 @@ use Rattle.machine.specs.Lists.{pick}
 use Rattle.layout.specs.declared.Field.{Field}
 use Rattle.layout.specs.declared.Part.{Part}
 
+-- How many words are lent for the tables, and for the scratch beside them.
+abbrev pub tableWords : ℕ
+tableWords = 4096
+
+abbrev pub scratchWords : ℕ
+scratchWords = 256
+
 -- A word that is no link.
 pub data Slot : Type 0 where
   ofThread : Field → ℕ → Slot

@@ -13,7 +13,7 @@ use Rattle.summary.specs.Levels.{wordOf, topOf}
 use Rattle.layout.specs.declared.Field.{Field}
 use Rattle.layout.specs.declared.Part.{Part}
 use Rattle.layout.specs.Addresses.{Slot, ofThread, ofEndpoint, ofLine, summary, top, running, unused, Link, next}
-use Rattle.layout.specs.Addresses.{prev, head, tail, Name, slot, link, nameOf}
+use Rattle.layout.specs.Addresses.{prev, head, tail, Name, slot, link, nameOf, tableWords}
 
 -- None is 0, and thread t is t + 1.
 abbrev pub linkOf : Option ℕ → ℕ
@@ -142,4 +142,4 @@ tabulate (suc n) f = f 0 ∷ tabulate n (λ i. f (suc i))
 
 -- The memory of a state.
 unfoldable pub image : State → List ℕ
-image s = tabulate 4096 (λ i. wordAt s (nameOf i))
+image s = tabulate tableWords (λ i. wordAt s (nameOf i))

@@ -1,13 +1,19 @@
 // The entries on the lent tables: make them fresh, and check them. The check makes the tests of sound_words and
 // sound_queues, which go once through all words, and accepts exactly those that show a sound state.
 ghost use mathlib.Core.Path.{_≡_};
-ghost use lib.ListN.{length, replicate};
+ghost use lib.ListN.{length};
+ghost use Rattle.layout.specs.Addresses.{tableWords};
 ghost use Rattle.soundness.specs.Checks.{goodTest};
-ghost use Rattle.lent_tables.specs.Entries.{Freshened, Checked, freshened, checked};
+ghost use Rattle.lent_tables.specs.Entries.{lent, zeros, Freshened, Checked, freshened, checked};
+
+// The words lent: for the tables, and for the scratch beside them.
+pub const TABLE_WORDS: usize = 4096;
+
+pub const SCRATCH_WORDS: usize = 256;
 
 // All tests. The queues are walked before the places are tried, which go by whom they met.
 fn passes(tables: &[u32], scratch: &mut [u32]) -> bool
-    requires { ⌜ (length (now tables) ≡ 4096) × (now scratch ≡ replicate 256 0) ⌝ }
+    requires { ⌜ (length (now tables) ≡ tableWords) × (now scratch ≡ zeros) ⌝ }
     ensures { λ r. ⌜ r ≡ goodTest (now (tables .entry)) ⌝ }
 {
     if !sound_words::threads::threads(tables) {
@@ -31,7 +37,7 @@ pub fn fresh(tables: &mut [u32]) -> u32
     ensures { λ r. ⌜ _≡_ {A = Freshened} (record { code = r; tables = now (tables .exit) })
         (freshened (now (tables .entry))) ⌝ }
 {
-    if tables.len() != 4096 {
+    if tables.len() != TABLE_WORDS {
         return 16;
     }
     words::clear(tables);
@@ -41,12 +47,12 @@ pub fn fresh(tables: &mut [u32]) -> u32
 // Whether the tables show a sound state; they are not changed.
 pub fn check(tables: &[u32], scratch: &mut [u32]) -> u32
     ensures { λ r. ⌜ _≡_ {A = Checked} (record { code = r; scratch = now (scratch .exit) })
-        (checked (now (tables .entry)) (now (scratch .entry))) ⌝ }
+        (checked (lent (now (tables .entry)) (now (scratch .entry)))) ⌝ }
 {
-    if tables.len() != 4096 {
+    if tables.len() != TABLE_WORDS {
         return 16;
     }
-    if scratch.len() != 256 {
+    if scratch.len() != SCRATCH_WORDS {
         return 16;
     }
     words::clear(scratch);

@@ -3,6 +3,7 @@
 // writes.
 ghost use mathlib.Core.Path.{_≡_};
 ghost use lib.ListN.{length};
+ghost use Rattle.layout.specs.Addresses.{tableWords};
 
 mod lengths;
 mod memory;
@@ -12,7 +13,7 @@ mod sweep;
 
 // The text is that of tests/tables.txt; each table begins behind a #.
 fn show_tables(text: &[u8], kept: &mut [u32])
-    requires { ⌜ length (now kept) ≡ 4096 ⌝ }
+    requires { ⌜ length (now kept) ≡ tableWords ⌝ }
 {
     let mut number: u64 = 0;
     let mut at = scan::table(text, 0, kept);
@@ -25,7 +26,7 @@ fn show_tables(text: &[u8], kept: &mut [u32])
 
 fn main() {
     let mut text = io::large_buffer();
-    let mut kept = [0u32; 4096];
+    let mut kept = [0u32; lent_tables::TABLE_WORDS];
     lengths::show();
     let n = io::read_full(libc::STDIN_FILENO, &mut text);
     show_tables(&text[..n], &mut kept);

@@ -2,12 +2,15 @@
 ghost use Prim.Native.Nat.{_<_};
 ghost use mathlib.Core.Path.{_≡_};
 ghost use lib.ListN.{length};
+ghost use Rattle.layout.specs.Addresses.{tableWords};
 use crate::memory;
 use crate::out;
+use lent_tables::SCRATCH_WORDS;
+use lent_tables::TABLE_WORDS;
 
 // What came of the changes of one kind. Wrong are words that the check changed, words that it left in the scratch, and
 // answers that it does not give.
-pub struct Counts {
+pub struct Tally {
     same: u32,
     sound: u32,
     unsound: u32,
@@ -32,8 +35,8 @@ fn more(n: u32) -> u32 {
     std::num::wrapping_add_u32(n, 1)
 }
 
-fn same(c: Counts) -> Counts {
-    Counts {
+fn same(c: Tally) -> Tally {
+    Tally {
         same: more(c.same),
         sound: c.sound,
         unsound: c.unsound,
@@ -41,7 +44,7 @@ fn same(c: Counts) -> Counts {
     }
 }
 
-fn answered(c: Counts, answer: u32, wrong: u32) -> Counts {
+fn answered(c: Tally, answer: u32, wrong: u32) -> Tally {
     let mut d = c;
     d.wrong = std::num::wrapping_add_u32(c.wrong, wrong);
     match answer {
@@ -54,13 +57,13 @@ fn answered(c: Counts, answer: u32, wrong: u32) -> Counts {
 
 // The check of one changed memory, whose word is put back.
 fn turn(
-    c: Counts,
+    c: Tally,
     tables: &mut [u32],
     kept: &[u32],
     scratch: &mut [u32],
     at: usize,
     word: u32,
-) -> Counts
+) -> Tally
     requires { ⌜ (length (now tables) ≡ length (now kept)) × (at < length (now kept)) ⌝ }
 {
     memory::fill(scratch);
@@ -76,13 +79,13 @@ fn turn(
 
 // One word, where the change makes another of it.
 fn step(
-    c: Counts,
+    c: Tally,
     change: Change,
     tables: &mut [u32],
     kept: &[u32],
     scratch: &mut [u32],
     at: usize,
-) -> Counts
+) -> Tally
     requires { ⌜ (length (now tables) ≡ length (now kept)) × (at < length (now kept)) ⌝ }
 {
     let word = changed(change, kept[at]);
@@ -92,10 +95,10 @@ fn step(
     turn(c, tables, kept, scratch, at, word)
 }
 
-fn sweep(change: Change, tables: &mut [u32], kept: &[u32], scratch: &mut [u32]) -> Counts
+fn sweep(change: Change, tables: &mut [u32], kept: &[u32], scratch: &mut [u32]) -> Tally
     requires { ⌜ length (now tables) ≡ length (now kept) ⌝ }
 {
-    let mut c = Counts {
+    let mut c = Tally {
         same: 0,
         sound: 0,
         unsound: 0,
@@ -117,7 +120,7 @@ fn show_name(change: Change) {
     }
 }
 
-fn show(change: Change, c: Counts) {
+fn show(change: Change, c: Tally) {
     show_name(change);
     out::next(b"same", c.same as u64);
     out::next(b"sound", c.sound as u64);
@@ -144,10 +147,10 @@ fn show_whole(number: u64, tables: &[u32], scratch: &mut [u32]) {
 
 // A table's lines: the whole, and each kind of change.
 pub fn table(number: u64, kept: &[u32])
-    requires { ⌜ length (now kept) ≡ 4096 ⌝ }
+    requires { ⌜ length (now kept) ≡ tableWords ⌝ }
 {
-    let mut tables = [0u32; 4096];
-    let mut scratch = [0u32; 256];
+    let mut tables = [0u32; TABLE_WORDS];
+    let mut scratch = [0u32; SCRATCH_WORDS];
     memory::copy(&mut tables, kept);
     show_whole(number, &tables, &mut scratch);
     show_sweep(Change::Zero, &mut tables, kept, &mut scratch);

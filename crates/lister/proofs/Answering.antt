@@ -17,16 +17,16 @@ use Rattle.machine.specs.Results.{plain, threadOf}
 use Rattle.journal.specs.Words.{readAt}
 use Rattle.listing.specs.Line.{lineOf}
 use Rattle.listing.specs.Buffer.{Wrote}
-use Rattle.kernel.specs.Entry.{runningLink}
+use Rattle.lent_tables.specs.Entries.{Lent, runnerIn}
 use Rattle.input.specs.Words.{wordsIn}
 use Rattle.rows.specs.declared.Turn.{Turn}
 use Rattle.rows.specs.declared.Turn.the-variants.{Took, Stopped, Over}
-use Rattle.rows.specs.Turns.{runnerOf, Turned, turned}
+use Rattle.rows.specs.Taking.{Turned, turned}
 use Rattle.rows.proofs.Turn.{the-type}
 use Rattle.lister.specs.declared.Lister.{Lister}
 use Rattle.lister.specs.declared.Fed.{Fed}
-use Rattle.lister.specs.Feeding.{Standing, Told, toldOf, toldBy, endingWith, ending}
-use Rattle.lister.specs.Buffers.{standingOf, emptied, taking, stopping, Tells}
+use Rattle.lister.specs.Feeding.{Progress, Told, toldOf, toldBy, endingWith, ending}
+use Rattle.lister.specs.Buffers.{progressOf, emptied, takesCall, stopping, Feeds}
 use Rattle.lister.proofs.Writing.{wrote-nothing}
 
 -- The lister and the bytes used that are given back.
@@ -45,38 +45,38 @@ module _ (l : Lister) (out : List ℕ) (used : ℕ) where
   -- A turn that did not stop.
   pub over-told :
       (turn : Turn) → OneOf (0 ∷ 2 ∷ []) (tagOf the-type turn) → (e : Lister) → e ≡ emptied l (l .index) (l .going)
-      → (m x : List ℕ) → Tells (stopping turn (standingOf l m x)) out used (fedTo e used) m x out
-  over-told (Took c a who next) t e is m x =
-      record { after = ap (λ (k : Lister). standingOf k m x) is; text = wrote-nothing out used }
-  over-told (Stopped code who) t e is m x = absurd (not-stopped t)
-  over-told Over t e is m x =
-      record { after = ap (λ (k : Lister). standingOf k m x) is; text = wrote-nothing out used }
+      → (m : Lent) → Feeds (stopping turn (progressOf l m)) out used (fedTo e used) m out
+  over-told (Took c a who next) t e is m =
+      record { after = ap (λ (k : Lister). progressOf k m) is; text = wrote-nothing out used }
+  over-told (Stopped code who) t e is m = absurd (not-stopped t)
+  over-told Over t e is m =
+      record { after = ap (λ (k : Lister). progressOf k m) is; text = wrote-nothing out used }
 
   -- A turn that stopped: the last line.
   pub stop-told :
       (turn : Turn) (code : ℕ) (who : Runner) → turn ≡ Stopped code who
       → (e : Lister) → e ≡ emptied l (l .index) false → (a : Answer) → a ≡ plain code
       → (n : ℕ) (out′ : List ℕ) → Wrote out used (lineOf (l .index) 0 a (threadOf who)) n out′
-      → (m x : List ℕ) → Tells (stopping turn (standingOf l m x)) out used (fedTo e n) m x out′
-  stop-told turn code who found e is a plainly n out′ w m x =
-      subst (λ (t : Turn). Tells (stopping t (standingOf l m x)) out used (fedTo e n) m x out′) (sym found)
+      → (m : Lent) → Feeds (stopping turn (progressOf l m)) out used (fedTo e n) m out′
+  stop-told turn code who found e is a plainly n out′ w m =
+      subst (λ (t : Turn). Feeds (stopping t (progressOf l m)) out used (fedTo e n) m out′) (sym found)
       (record {
-        after = ap (λ (k : Lister). standingOf k m x) is;
+        after = ap (λ (k : Lister). progressOf k m) is;
         text = subst (λ (b : Answer). Wrote out used (lineOf (l .index) 0 b (threadOf who)) n out′) plainly w;
       })
 
-  module _ (m x m′ x′ out′ : List ℕ) where
+  module _ (m m′ : Lent) (out′ : List ℕ) where
     -- What the bytes held come to is what the turn of their words does.
     turn-told :
         (turn : Turn) (words : List ℕ) → words ≡ wordsIn (take (l .held) (l .bytes))
-        → _≡_ {A = Turned} (record { turn = turn; tables = m′; scratch = x′ }) (turned (readAt words 0) m x)
-        → toldOf turn m′ x′ (standingOf l m x) ≡ taking (standingOf l m x)
+        → _≡_ {A = Turned} (record { turn = turn; left = m′ }) (turned (readAt words 0) m)
+        → toldOf turn m′ (progressOf l m) ≡ takesCall (progressOf l m)
     turn-told turn words f e =
-        ap (λ (t : Turned). toldBy t (standingOf l m x)) (e ∙ ap (λ (w : List ℕ). turned (readAt w 0) m x) f)
+        ap (λ (t : Turned). toldBy t (progressOf l m)) (e ∙ ap (λ (w : List ℕ). turned (readAt w 0) m) f)
 
     left-told :
         (turn : Turn) → OneOf (1 ∷ 2 ∷ []) (tagOf the-type turn)
-        → stopping turn (standingOf l m′ x′) ≡ toldOf turn m′ x′ (standingOf l m x)
+        → stopping turn (progressOf l m′) ≡ toldOf turn m′ (progressOf l m)
     left-told (Took c a who next) t = absurd (not-took t)
     left-told (Stopped code who) t = refl
     left-told Over t = refl
@@ -84,67 +84,67 @@ module _ (l : Lister) (out : List ℕ) (used : ℕ) where
     -- No call was taken.
     pub left-answered :
         (turn : Turn) (words : List ℕ) → words ≡ wordsIn (take (l .held) (l .bytes))
-        → _≡_ {A = Turned} (record { turn = turn; tables = m′; scratch = x′ }) (turned (readAt words 0) m x)
+        → _≡_ {A = Turned} (record { turn = turn; left = m′ }) (turned (readAt words 0) m)
         → OneOf (1 ∷ 2 ∷ []) (tagOf the-type turn)
-        → (r : Fed) → ((n y : List ℕ) → Tells (stopping turn (standingOf l n y)) out used r n y out′)
-        → Tells (taking (standingOf l m x)) out used r m′ x′ out′
+        → (r : Fed) → ((n : Lent) → Feeds (stopping turn (progressOf l n)) out used r n out′)
+        → Feeds (takesCall (progressOf l m)) out used r m′ out′
     left-answered turn words f e t r all =
-        subst (λ (o : Told). Tells o out used r m′ x′ out′) (left-told turn t ∙ turn-told turn words f e) (all m′ x′)
+        subst (λ (o : Told). Feeds o out used r m′ out′) (left-told turn t ∙ turn-told turn words f e) (all m′)
 
     -- A call was taken.
     pub call-answered :
         (turn : Turn) (words : List ℕ) → words ≡ wordsIn (take (l .held) (l .bytes))
-        → _≡_ {A = Turned} (record { turn = turn; tables = m′; scratch = x′ }) (turned (readAt words 0) m x)
+        → _≡_ {A = Turned} (record { turn = turn; left = m′ }) (turned (readAt words 0) m)
         → (c : Call) (a : Answer) (who : Runner) (next : ℕ) → turn ≡ Took c a who next
         → (number : ℕ) → number ≡ numberOf c → (index : ℕ) → index ≡ (l .index + 1) % 2 ^ 64
         → (k : Lister) → k ≡ emptied l index (l .going)
         → (n : ℕ) → Wrote out used (lineOf (l .index) number a (threadOf who)) n out′
-        → Tells (taking (standingOf l m x)) out used (fedTo k n) m′ x′ out′
+        → Feeds (takesCall (progressOf l m)) out used (fedTo k n) m′ out′
     call-answered turn words f e c a who next found number called index one k is n w =
-        subst (λ (o : Told). Tells o out used (fedTo k n) m′ x′ out′)
-        (ap (λ (t : Turn). toldOf t m′ x′ (standingOf l m x)) (sym found) ∙ turn-told turn words f e)
+        subst (λ (o : Told). Feeds o out used (fedTo k n) m′ out′)
+        (ap (λ (t : Turn). toldOf t m′ (progressOf l m)) (sym found) ∙ turn-told turn words f e)
         (record {
           after =
-              ap (λ (j : Lister). standingOf j m′ x′) (is ∙ ap (λ (i : ℕ). emptied l i (l .going)) one);
+              ap (λ (j : Lister). progressOf j m′) (is ∙ ap (λ (i : ℕ). emptied l i (l .going)) one);
           text = subst (λ (j : ℕ). Wrote out used (lineOf (l .index) j a (threadOf who)) n out′) called w;
         })
 
 -- The end.
 
-ended : (s : Standing) (g : Bool) → s .going ≡ g → ending s ≡ pick g (endingWith (s .held) s) []
+ended : (s : Progress) (g : Bool) → s .going ≡ g → ending s ≡ pick g (endingWith (s .held) s) []
 unfolding ending
 ended s g e = ap (λ (b : Bool). pick b (endingWith (s .held) s) []) e
 
-last-line : (s : Standing) (n : ℕ) (bytes : List ℕ)
+last-line : (s : Progress) (n : ℕ) (bytes : List ℕ)
     → length bytes ≡ 12 → endingWith (take (suc n) bytes) s
-    ≡ lineOf (s .index) 0 (plain 18) (threadOf (runnerOf (runningLink (s .tables))))
+    ≡ lineOf (s .index) 0 (plain 18) (threadOf (runnerIn (s .lent .tables)))
 last-line s n [] h = absurd (omega (arith, h))
 last-line s n (b ∷ bytes) h = refl
 
-some-held : (s : Standing) (n : ℕ) (bytes : List ℕ) → length bytes ≡ 12 → (n ≡ 0 → ⊥)
-    → endingWith (take n bytes) s ≡ lineOf (s .index) 0 (plain 18) (threadOf (runnerOf (runningLink (s .tables))))
+some-held : (s : Progress) (n : ℕ) (bytes : List ℕ) → length bytes ≡ 12 → (n ≡ 0 → ⊥)
+    → endingWith (take n bytes) s ≡ lineOf (s .index) 0 (plain 18) (threadOf (runnerIn (s .lent .tables)))
 some-held s zero bytes h f = absurd (f refl)
 some-held s (suc n) bytes h f = last-line s n bytes h
 
-module _ (l : Lister) (m out : List ℕ) where
-  pub stopped-ends : l .going ≡ false → Wrote out 0 (ending (standingOf l m [])) 0 out
+module _ (l : Lister) (m : Lent) (out : List ℕ) where
+  pub stopped-ends : l .going ≡ false → Wrote out 0 (ending (progressOf l m)) 0 out
   stopped-ends g =
-      subst (λ (t : List ℕ). Wrote out 0 t 0 out) (sym (ended (standingOf l m []) false g)) (wrote-nothing out 0)
+      subst (λ (t : List ℕ). Wrote out 0 t 0 out) (sym (ended (progressOf l m) false g)) (wrote-nothing out 0)
 
-  pub nothing-ends : l .going ≡ true → l .held ≡ 0 → Wrote out 0 (ending (standingOf l m [])) 0 out
+  pub nothing-ends : l .going ≡ true → l .held ≡ 0 → Wrote out 0 (ending (progressOf l m)) 0 out
   nothing-ends g z =
       subst (λ (t : List ℕ). Wrote out 0 t 0 out)
-      (sym (ended (standingOf l m []) true g ∙ ap (λ (n : ℕ). endingWith (take n (l .bytes)) (standingOf l m [])) z))
+      (sym (ended (progressOf l m) true g ∙ ap (λ (n : ℕ). endingWith (take n (l .bytes)) (progressOf l m)) z))
       (wrote-nothing out 0)
 
   pub held-ends :
       l .going ≡ true → (l .held ≡ 0 → ⊥) → length (l .bytes) ≡ 12
-      → (a : Answer) → a ≡ plain 18 → (who : Runner) → who ≡ runnerOf (runningLink m)
+      → (a : Answer) → a ≡ plain 18 → (who : Runner) → who ≡ runnerIn (m .tables)
       → (r : ℕ) (out′ : List ℕ) → Wrote out 0 (lineOf (l .index) 0 a (threadOf who)) r out′
-      → Wrote out 0 (ending (standingOf l m [])) r out′
+      → Wrote out 0 (ending (progressOf l m)) r out′
   held-ends g some long a plainly who runs r out′ w =
       subst (λ (t : List ℕ). Wrote out 0 t r out′)
       (ap (λ (b : Answer). lineOf (l .index) 0 b (threadOf who)) plainly
       ∙ ap (λ (o : Runner). lineOf (l .index) 0 (plain 18) (threadOf o)) runs
-      ∙ sym (ended (standingOf l m []) true g ∙ some-held (standingOf l m []) (l .held) (l .bytes) long some))
+      ∙ sym (ended (progressOf l m) true g ∙ some-held (progressOf l m) (l .held) (l .bytes) long some))
       w

@@ -4,78 +4,72 @@ use mathlib.Core.Path.{_≡_, refl, sym, ap, subst, _∙_}
 use mathlib.Core.Option.{none}
 use mathlib.Core.List.{List, [], _++_, append-assoc}
 use native.Mathlib.Omega.{arith}
-use borrow.Author.Tests.{eq-eqb}
 use lib.ListN.{length}
 use Rattle.machine.specs.State.{freshState}
 use Rattle.machine.proofs.Preserved.Steps.{fresh-sound}
 use Rattle.journal.specs.Rows.{rowsOf}
-use Rattle.layout.specs.Words.{image}
-use Rattle.lent_tables.specs.Entries.{freshened}
+use Rattle.lent_tables.specs.Entries.{Lent, lent, Sized}
+use Rattle.lent_tables.proofs.Verdict.{fresh-tables}
 use Rattle.listing.specs.Line.{header}
 use Rattle.input.specs.Words.{wordsIn}
-use Rattle.lister.specs.Listing.{linesOf, oddRows, rowsIn, listingOf, callRows, Begins}
-use Rattle.lister.specs.Feeding.{Told, fed, ending, fedParts, joined, starting}
+use Rattle.lister.specs.Listing.{linesOf, oddRows, rowsIn, listingOf, callRows, Prefix}
+use Rattle.lister.specs.Feeding.{Told, fed, ending, fedParts, joined, starting, startingFresh}
 use Rattle.lister.proofs.Feeding.{following, fed-append, parts-joined}
 use Rattle.lister.proofs.Streams.{Streams, streams}
 
--- Tables made fresh are those of the fresh state.
-made-fresh : (m : List ℕ) → length m ≡ 4096 → freshened m .tables ≡ image freshState
-unfolding freshened
-made-fresh m h = rw (eq-eqb (length m) 4096 h)
-
 -- All bytes in one part.
 in-one :
-    (bytes m x : List ℕ) → length m ≡ 4096 → length x ≡ 256 → length bytes < 2 ^ 64
-    → Streams (fed bytes (starting (freshened m .tables) x)) (rowsOf (wordsIn bytes))
+    (bytes : List ℕ) (m : Lent) → Sized m → length bytes < 2 ^ 64
+    → Streams (fed bytes (startingFresh m)) (rowsOf (wordsIn bytes))
     (oddRows (length bytes % 4) 0 none (rowsOf (wordsIn bytes)))
 unfolding rowsOf
-in-one bytes m x hm hx few =
+in-one bytes m z few =
     let rows = rowsOf (wordsIn bytes) in
-    subst (λ (l : List ℕ). Streams (fed bytes (starting l x)) rows (oddRows (length bytes % 4) 0 none rows))
-    (sym (made-fresh m hm))
-    (streams bytes [] (suc (length (wordsIn bytes))) 0 freshState x fresh-sound hx refl (omega arith)
+    let odd = oddRows (length bytes % 4) 0 none rows in
+    subst (λ (l : List ℕ). Streams (fed bytes (starting (lent l (m .scratch)))) rows odd)
+    (sym (fresh-tables (m .tables) (z .0)))
+    (streams bytes [] (suc (length (wordsIn bytes))) 0 freshState (m .scratch) fresh-sound (z .1) refl (omega arith)
     (omega (arith, few)))
 
 listed-in-one :
-    (bytes m x : List ℕ) → length m ≡ 4096 → length x ≡ 256 → length bytes < 2 ^ 64
+    (bytes : List ℕ) (m : Lent) → Sized m → length bytes < 2 ^ 64
     → header
-    ++ (fed bytes (starting (freshened m .tables) x) .text
-    ++ ending (fed bytes (starting (freshened m .tables) x) .after))
+    ++ (fed bytes (startingFresh m) .text
+    ++ ending (fed bytes (startingFresh m) .after))
     ≡ listingOf bytes
 unfolding listingOf rowsIn
-listed-in-one bytes m x hm hx few = ap (λ (l : List ℕ). header ++ l) (in-one bytes m x hm hx few .whole)
+listed-in-one bytes m z few = ap (λ (l : List ℕ). header ++ l) (in-one bytes m z few .whole)
 
 -- For every division of the bytes into parts, from whatever the lent tables held before they were made fresh, the
 -- header and the bytes written, with those at the end, are the listing of the whole. The bound is there because a
 -- line's index has 64 bits.
 pub every-division :
-    (parts : List (List ℕ)) (m x : List ℕ) → length m ≡ 4096 → length x ≡ 256 → length (joined parts) < 2 ^ 64
+    (parts : List (List ℕ)) (m : Lent) → Sized m → length (joined parts) < 2 ^ 64
     → header
-    ++ (fedParts parts (starting (freshened m .tables) x) .text
-    ++ ending (fedParts parts (starting (freshened m .tables) x) .after))
+    ++ (fedParts parts (startingFresh m) .text
+    ++ ending (fedParts parts (startingFresh m) .after))
     ≡ listingOf (joined parts)
-every-division parts m x hm hx few =
+every-division parts m z few =
     ap (λ (t : Told). header ++ (t .text ++ ending (t .after)))
-    (parts-joined parts (starting (freshened m .tables) x))
-    ∙ listed-in-one (joined parts) m x hm hx few
+    (parts-joined parts (startingFresh m))
+    ∙ listed-in-one (joined parts) m z few
 
 -- After each part every call whose words are all there is listed at once: the text so far begins with their lines.
 pub at-once :
-    (parts : List (List ℕ)) (m x : List ℕ) → length m ≡ 4096 → length x ≡ 256 → length (joined parts) < 2 ^ 64
-    → Begins (linesOf (callRows (rowsOf (wordsIn (joined parts)))))
-    (fedParts parts (starting (freshened m .tables) x) .text)
-at-once parts m x hm hx few =
-    subst (λ (t : Told). Begins (linesOf (callRows (rowsOf (wordsIn (joined parts))))) (t .text))
-    (sym (parts-joined parts (starting (freshened m .tables) x)))
-    (in-one (joined parts) m x hm hx few .begun)
+    (parts : List (List ℕ)) (m : Lent) → Sized m → length (joined parts) < 2 ^ 64
+    → Prefix (linesOf (callRows (rowsOf (wordsIn (joined parts)))))
+    (fedParts parts (startingFresh m) .text)
+at-once parts m z few =
+    subst (λ (t : Told). Prefix (linesOf (callRows (rowsOf (wordsIn (joined parts))))) (t .text))
+    (sym (parts-joined parts (startingFresh m)))
+    (in-one (joined parts) m z few .begun)
 
 -- After each part nothing is written that the whole listing would not have, whatever bytes come behind.
 pub no-more :
-    (parts : List (List ℕ)) (behind m x : List ℕ) → length m ≡ 4096 → length x ≡ 256
-    → length (joined parts ++ behind) < 2 ^ 64
-    → Begins (header ++ fedParts parts (starting (freshened m .tables) x) .text) (listingOf (joined parts ++ behind))
-no-more parts behind m x hm hx few =
-    let s = starting (freshened m .tables) x in
+    (parts : List (List ℕ)) (behind : List ℕ) (m : Lent) → Sized m → length (joined parts ++ behind) < 2 ^ 64
+    → Prefix (header ++ fedParts parts (startingFresh m) .text) (listingOf (joined parts ++ behind))
+no-more parts behind m z few =
+    let s = startingFresh m in
     let t = fedParts parts s in
     let u = fed behind (t .after) in
     let end = ending (u .after) in
@@ -85,7 +79,7 @@ no-more parts behind m x hm hx few =
     record {
       more = u .text ++ end;
       whole =
-          sym (listed-in-one (joined parts ++ behind) m x hm hx few)
+          sym (listed-in-one (joined parts ++ behind) m z few)
           ∙ ap (λ (k : Told). header ++ (k .text ++ ending (k .after))) first
           ∙ ap (λ (l : List ℕ). header ++ l) (append-assoc (t .text) (u .text) end)
           ∙ sym (append-assoc header (t .text) (u .text ++ end));

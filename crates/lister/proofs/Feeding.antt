@@ -3,7 +3,7 @@
 use Prim.Native.Nat.{ℕ, suc, _+_, _%_, _^_, _<_}
 use mathlib.Core.Path.{_≡_, refl, sym, ap, _∙_}
 use mathlib.Core.Bool.{Bool, true, false}
-use mathlib.Core.Option.{Option, none, some}
+use mathlib.Core.Option.{Option}
 use mathlib.Core.List.{List, [], _∷_, _++_, append-assoc}
 use native.Mathlib.Omega.{arith}
 use lib.ListN.{length}
@@ -17,17 +17,17 @@ use Rattle.machine.specs.Sound.{Sound}
 use Rattle.journal.specs.declared.types.Read.{Read}
 use Rattle.journal.specs.declared.types.Read.the-variants.{Found, Refused}
 use Rattle.journal.specs.Words.{readAt}
-use Rattle.layout.specs.Words.{image, linkOf}
-use Rattle.lent_tables.specs.Entries.{zeros}
+use Rattle.layout.specs.Addresses.{scratchWords}
+use Rattle.layout.specs.Words.{image}
+use Rattle.lent_tables.specs.Entries.{lent, zeros, Called, runnerIn}
 use Rattle.listing.specs.Line.{lineOf}
-use Rattle.kernel.specs.Entry.{Called, runningLink}
 use Rattle.machine.proofs.Preserved.Steps.{step-sound}
 use Rattle.kernel.proofs.Runner.{running-image}
 use Rattle.kernel.proofs.Turns.{called-image}
 use Rattle.input.specs.Words.{wordsIn}
-use Rattle.rows.specs.Turns.{runnerOf, turned}
+use Rattle.rows.specs.Taking.{turned}
 use Rattle.lister.specs.Listing.{lineFor, lastRow}
-use Rattle.lister.specs.Feeding.{Standing, Told, ready, holding, toldBy, offered, byteTo, fed, ending, endingWith}
+use Rattle.lister.specs.Feeding.{Progress, Told, ready, holding, toldBy, offered, byteTo, fed, ending, endingWith}
 use Rattle.lister.specs.Feeding.{fedParts, joined}
 use Rattle.lister.proofs.Behind.{rowFor}
 
@@ -36,7 +36,7 @@ abbrev pub following : Told → Told → Told
 following t u = record { after = u .after; text = t .text ++ u .text }
 
 -- A part fed behind another is fed in one with it,
-pub fed-append : (a b : List ℕ) (s : Standing) → fed (a ++ b) s ≡ following (fed a s) (fed b (fed a s .after))
+pub fed-append : (a b : List ℕ) (s : Progress) → fed (a ++ b) s ≡ following (fed a s) (fed b (fed a s .after))
 unfolding fed
 fed-append [] b s = refl
 fed-append (x ∷ a) b s =
@@ -47,7 +47,7 @@ fed-append (x ∷ a) b s =
     ∙ ap (λ (l : List ℕ). record { after = r .after; text = l }) (sym (append-assoc (t .text) (u .text) (r .text)))
 
 -- and so are any parts.
-pub parts-joined : (parts : List (List ℕ)) (s : Standing) → fedParts parts s ≡ fed (joined parts) s
+pub parts-joined : (parts : List (List ℕ)) (s : Progress) → fedParts parts s ≡ fed (joined parts) s
 unfolding fedParts joined fed
 parts-joined [] s = refl
 parts-joined (part ∷ parts) s =
@@ -55,13 +55,13 @@ parts-joined (part ∷ parts) s =
 
 -- The first byte tells what it tells, and the others from there.
 pub fed-first :
-    (b : ℕ) (part : List ℕ) (s : Standing) (t : Told) → byteTo b s ≡ t
+    (b : ℕ) (part : List ℕ) (s : Progress) (t : Told) → byteTo b s ≡ t
     → fed (b ∷ part) s ≡ following t (fed part (t .after))
 unfolding fed
 fed-first b part s t e = ap (λ (u : Told). following u (fed part (u .after))) e
 
 -- Once the listing has stopped nothing is written.
-pub fed-stopped : (part : List ℕ) (s : Standing) → s .going ≡ false → fed part s ≡ holding (s .held) s
+pub fed-stopped : (part : List ℕ) (s : Progress) → s .going ≡ false → fed part s ≡ holding (s .held) s
 unfolding fed byteTo
 fed-stopped [] s e = refl
 fed-stopped (b ∷ part) s e =
@@ -69,13 +69,13 @@ fed-stopped (b ∷ part) s e =
     fed-first b part s t (ap (λ (g : Bool). pick g (offered (s .held ++ (b ∷ [])) s) t) e)
     ∙ ap (following t) (fed-stopped part s e)
 
-pub ending-stopped : (s : Standing) → s .going ≡ false → ending s ≡ []
+pub ending-stopped : (s : Progress) → s .going ≡ false → ending s ≡ []
 unfolding ending
 ending-stopped s e = ap (λ (g : Bool). pick g (endingWith (s .held) s) []) e
 
 -- Where the lister stands that goes on, with the tables of a state.
-abbrev pub on : List ℕ → ℕ → State → List ℕ → Standing
-on held i s x = record { held = held; index = i; going = true; tables = image s; scratch = x }
+abbrev pub on : List ℕ → ℕ → State → List ℕ → Progress
+on held i s x = record { held = held; index = i; going = true; lent = lent (image s) x }
 
 module _ (b : ℕ) (held : List ℕ) (i : ℕ) (s : State) (x : List ℕ) where
   -- Bytes that are not ready are held,
@@ -85,35 +85,28 @@ module _ (b : ℕ) (held : List ℕ) (i : ℕ) (s : State) (x : List ℕ) where
   byte-held e =
       ap
       (λ (t : Bool).
-      pick t (toldBy (turned (readAt (wordsIn (held ++ (b ∷ []))) 0) (image s) x) (on held i s x))
+      pick t (toldBy (turned (readAt (wordsIn (held ++ (b ∷ []))) 0) (lent (image s) x)) (on held i s x))
       (holding (held ++ (b ∷ [])) (on held i s x)))
       e
 
   -- and those that are ready tell what their reading comes to.
   pub byte-taken :
       ready (held ++ (b ∷ [])) ≡ true → (r : Read) → readAt (wordsIn (held ++ (b ∷ []))) 0 ≡ r
-      → byteTo b (on held i s x) ≡ toldBy (turned r (image s) x) (on held i s x)
+      → byteTo b (on held i s x) ≡ toldBy (turned r (lent (image s) x)) (on held i s x)
   unfolding byteTo
   byte-taken e r f =
       ap
       (λ (t : Bool).
-      pick t (toldBy (turned (readAt (wordsIn (held ++ (b ∷ []))) 0) (image s) x) (on held i s x))
+      pick t (toldBy (turned (readAt (wordsIn (held ++ (b ∷ []))) 0) (lent (image s) x)) (on held i s x))
       (holding (held ++ (b ∷ [])) (on held i s x)))
       e
-      ∙ ap (λ (k : Read). toldBy (turned k (image s) x) (on held i s x)) f
-
-linked : (o : Option ℕ) → threadOf (runnerOf (linkOf o)) ≡ o
-linked none = refl
-linked (some t) = refl
-
-runs-image : (s : State) → Sound s → threadOf (runnerOf (runningLink (image s))) ≡ s .runs
-runs-image s S = ap (λ (link : ℕ). threadOf (runnerOf link)) (running-image s S) ∙ linked (s .runs)
+      ∙ ap (λ (k : Read). toldBy (turned k (lent (image s) x)) (on held i s x)) f
 
 -- What a call tells that was answered so.
 abbrev callTold : ℕ → Call → Called → ℕ → Option ℕ → Told
 callTold i c k next running =
     record {
-      after = record { held = []; index = next; going = true; tables = k .tables; scratch = k .scratch };
+      after = record { held = []; index = next; going = true; lent = k .left };
       text = lineOf i (numberOf c) (k .answer) running;
     }
 
@@ -122,35 +115,35 @@ abbrev pub lineTold : ℕ → Call → State → Told
 lineTold i c s = record { after = on [] (suc i) (step s c .state) zeros; text = lineFor (rowFor i c s) }
 
 pub call-told :
-    (c : Call) (next : ℕ) (held : List ℕ) (i : ℕ) (s : State) (x : List ℕ) → Sound s → length x ≡ 256
-    → i + 1 < 2 ^ 64 → toldBy (turned (Found c next) (image s) x) (on held i s x) ≡ lineTold i c s
+    (c : Call) (next : ℕ) (held : List ℕ) (i : ℕ) (s : State) (x : List ℕ) → Sound s → length x ≡ scratchWords
+    → i + 1 < 2 ^ 64 → toldBy (turned (Found c next) (lent (image s) x)) (on held i s x) ≡ lineTold i c s
 call-told c next held i s x S n h =
     let s′ = step s c .state in
-    let k : Called = record { answer = step s c .answer; tables = image s′; scratch = zeros } in
+    let k : Called = record { answer = step s c .answer; left = lent (image s′) zeros } in
     let index : (i + 1) % 2 ^ 64 ≡ suc i = omega (arith, h) in
-    ap (λ (k : Called). callTold i c k ((i + 1) % 2 ^ 64) (threadOf (runnerOf (runningLink (k .tables)))))
+    ap (λ (k : Called). callTold i c k ((i + 1) % 2 ^ 64) (threadOf (runnerIn (k .left .tables))))
     (called-image s x c S n)
-    ∙ ap (λ (j : ℕ). callTold i c k j (threadOf (runnerOf (runningLink (image s′))))) index
-    ∙ ap (λ (running : Option ℕ). callTold i c k (suc i) running) (runs-image s′ (step-sound s c S))
+    ∙ ap (λ (j : ℕ). callTold i c k j (threadOf (runnerIn (image s′)))) index
+    ∙ ap (λ (running : Option ℕ). callTold i c k (suc i) running) (running-image s′ (step-sound s c S))
 
 -- A refusal tells the last row's line, and the listing stops.
-abbrev pub stopped : ℕ → State → List ℕ → Standing
-stopped i s x = record { held = []; index = i; going = false; tables = image s; scratch = x }
+abbrev pub stopped : ℕ → State → List ℕ → Progress
+stopped i s x = record { held = []; index = i; going = false; lent = lent (image s) x }
 
 abbrev pub lastTold : ℕ → ℕ → State → List ℕ → Told
 lastTold i code s x = record { after = stopped i s x; text = lineFor (lastRow i code (s .runs)) }
 
 pub last-told :
     (code at : ℕ) (held : List ℕ) (i : ℕ) (s : State) (x : List ℕ) → Sound s
-    → toldBy (turned (Refused code at) (image s) x) (on held i s x) ≡ lastTold i code s x
+    → toldBy (turned (Refused code at) (lent (image s) x)) (on held i s x) ≡ lastTold i code s x
 last-told code at held i s x S =
     ap
     (λ (running : Option ℕ). record { after = stopped i s x; text = lineOf i 0 (plain code) running })
-    (runs-image s S)
+    (running-image s S)
 
 -- Bytes held at the end tell the last row's line.
 pub ending-held :
     (b : ℕ) (held : List ℕ) (i : ℕ) (s : State) (x : List ℕ) → Sound s
     → ending (on (b ∷ held) i s x) ≡ lineFor (lastRow i 18 (s .runs))
 unfolding ending
-ending-held b held i s x S = ap (λ (running : Option ℕ). lineOf i 0 (plain 18) running) (runs-image s S)
+ending-held b held i s x S = ap (λ (running : Option ℕ). lineOf i 0 (plain 18) running) (running-image s S)

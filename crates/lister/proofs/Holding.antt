@@ -11,15 +11,16 @@ use lib.Seq.{length-take-le, take-all, take-suc, take-suc-set}
 use Rattle.machine.specs.Lists.{pick}
 use Rattle.journal.specs.Words.{topByte, wordsTaken, readAt}
 use Rattle.journal.proofs.Numbers.{taken-most}
+use Rattle.lent_tables.specs.Entries.{Lent}
 use Rattle.listing.proofs.Texts.{wrote-then}
 use Rattle.input.specs.Words.{littleEndian, wordsIn}
 use Rattle.rows.specs.declared.Turn.{Turn}
 use Rattle.rows.specs.declared.Turn.the-variants.{Took, Stopped, Over}
-use Rattle.rows.specs.Turns.{Turned, turned}
+use Rattle.rows.specs.Taking.{Turned, turned}
 use Rattle.lister.specs.declared.Lister.{Lister}
 use Rattle.lister.specs.declared.Fed.{Fed}
-use Rattle.lister.specs.Feeding.{Standing, Told, ready, holding, toldOf, toldBy, offered, byteTo, fed}
-use Rattle.lister.specs.Buffers.{standingOf, withByte, taking, Tells}
+use Rattle.lister.specs.Feeding.{Progress, Told, ready, holding, toldOf, toldBy, offered, byteTo, fed}
+use Rattle.lister.specs.Buffers.{progressOf, withByte, takesCall, Feeds}
 use Rattle.lister.proofs.Writing.{wrote-nothing}
 use Rattle.lister.proofs.Answering.{fedTo}
 
@@ -78,28 +79,28 @@ few bytes e = go (leb 12 (length bytes)) refl
 
 -- A turn's text and what follows it do not depend on the bytes held before.
 
-abbrev stand : List ℕ → Lister → List ℕ → List ℕ → Standing
-stand bytes l m x = record { held = bytes; index = l .index; going = l .going; tables = m; scratch = x }
+abbrev stand : List ℕ → Lister → Lent → Progress
+stand bytes l m = record { held = bytes; index = l .index; going = l .going; lent = m }
 
 any-held :
-    (t : Turn) (n y bytes bytes′ : List ℕ) (l : Lister) (m x : List ℕ)
-    → toldOf t n y (stand bytes l m x) ≡ toldOf t n y (stand bytes′ l m x)
-any-held (Took c a who next) n y bytes bytes′ l m x = refl
-any-held (Stopped code who) n y bytes bytes′ l m x = refl
-any-held Over n y bytes bytes′ l m x = refl
+    (t : Turn) (n : Lent) (bytes bytes′ : List ℕ) (l : Lister) (m : Lent)
+    → toldOf t n (stand bytes l m) ≡ toldOf t n (stand bytes′ l m)
+any-held (Took c a who next) n bytes bytes′ l m = refl
+any-held (Stopped code who) n bytes bytes′ l m = refl
+any-held Over n bytes bytes′ l m = refl
 
 -- One byte.
 
 -- The listing has stopped.
 pub stays :
-    (l : Lister) (b : ℕ) (m x out : List ℕ) (used : ℕ) → l .going ≡ false
-    → Tells (byteTo b (standingOf l m x)) out used (fedTo l used) m x out
+    (l : Lister) (b : ℕ) (m : Lent) (out : List ℕ) (used : ℕ) → l .going ≡ false
+    → Feeds (byteTo b (progressOf l m)) out used (fedTo l used) m out
 unfolding byteTo
-stays l b m x out used g =
-    subst (λ (o : Told). Tells o out used (fedTo l used) m x out)
+stays l b m out used g =
+    subst (λ (o : Told). Feeds o out used (fedTo l used) m out)
     (sym
-    (ap (λ (k : Bool). pick k (offered (take (l .held) (l .bytes) ++ (b ∷ [])) (standingOf l m x))
-    (holding (take (l .held) (l .bytes)) (standingOf l m x))) g))
+    (ap (λ (k : Bool). pick k (offered (take (l .held) (l .bytes) ++ (b ∷ [])) (progressOf l m))
+    (holding (take (l .held) (l .bytes)) (progressOf l m))) g))
     (record { after = refl; text = wrote-nothing out used })
 
 module _ (l : Lister) (b : ℕ) (h : l .held < 12) (long : length (l .bytes) ≡ 12) (k : Lister) (is : k ≡ withByte l b)
@@ -126,47 +127,47 @@ module _ (l : Lister) (b : ℕ) (h : l .held < 12) (long : length (l .bytes) ≡
     pub enough : ready (take (k .held) (k .bytes)) ≡ true → 4 ≤ k .held
     enough e = omega (arith, ready-four (take (k .held) (k .bytes)) e, many)
 
-    module _ (m x out : List ℕ) (used : ℕ) where
+    module _ (m : Lent) (out : List ℕ) (used : ℕ) where
       bytes-offered :
           (r : Bool) → l .going ≡ true → ready (take (k .held) (k .bytes)) ≡ r
-          → byteTo b (standingOf l m x)
+          → byteTo b (progressOf l m)
           ≡ pick r
-          (toldBy (turned (readAt (wordsIn (take (k .held) (k .bytes))) 0) m x) (standingOf l m x))
-          (holding (take (k .held) (k .bytes)) (standingOf l m x))
+          (toldBy (turned (readAt (wordsIn (take (k .held) (k .bytes))) 0) m) (progressOf l m))
+          (holding (take (k .held) (k .bytes)) (progressOf l m))
       unfolding byteTo
       bytes-offered r g e =
-          ap (λ (h : Bool). pick h (offered (take (l .held) (l .bytes) ++ (b ∷ [])) (standingOf l m x))
-          (holding (take (l .held) (l .bytes)) (standingOf l m x))) g
-          ∙ ap (λ (bytes : List ℕ). offered bytes (standingOf l m x)) (sym bytes-held)
+          ap (λ (h : Bool). pick h (offered (take (l .held) (l .bytes) ++ (b ∷ [])) (progressOf l m))
+          (holding (take (l .held) (l .bytes)) (progressOf l m))) g
+          ∙ ap (λ (bytes : List ℕ). offered bytes (progressOf l m)) (sym bytes-held)
           ∙ ap (λ (h : Bool). pick h
-          (toldBy (turned (readAt (wordsIn (take (k .held) (k .bytes))) 0) m x) (standingOf l m x))
-          (holding (take (k .held) (k .bytes)) (standingOf l m x))) e
+          (toldBy (turned (readAt (wordsIn (take (k .held) (k .bytes))) 0) m) (progressOf l m))
+          (holding (take (k .held) (k .bytes)) (progressOf l m))) e
 
       -- The byte is held.
       pub not-yet :
           l .going ≡ true → ready (take (k .held) (k .bytes)) ≡ false
-          → Tells (byteTo b (standingOf l m x)) out used (fedTo k used) m x out
+          → Feeds (byteTo b (progressOf l m)) out used (fedTo k used) m out
       not-yet g e =
-          subst (λ (o : Told). Tells o out used (fedTo k used) m x out) (sym (bytes-offered false g e))
+          subst (λ (o : Told). Feeds o out used (fedTo k used) m out) (sym (bytes-offered false g e))
           (record {
-            after = ap (λ (j : Lister). stand (take (k .held) (k .bytes)) j m x) is;
+            after = ap (λ (j : Lister). stand (take (k .held) (k .bytes)) j m) is;
             text = wrote-nothing out used;
           })
 
       -- The byte was a call's last.
       pub now-taken :
           l .going ≡ true → ready (take (k .held) (k .bytes)) ≡ true
-          → (r : Fed) (m′ x′ out′ : List ℕ) → Tells (taking (standingOf k m x)) out used r m′ x′ out′
-          → Tells (byteTo b (standingOf l m x)) out used r m′ x′ out′
-      now-taken g e r m′ x′ out′ t =
-          subst (λ (o : Told). Tells o out used r m′ x′ out′)
-          (ap (λ (j : Lister). toldBy did (stand (take (k .held) (k .bytes)) j m x)) is
-          ∙ any-held (did .turn) (did .tables) (did .scratch) _ (take (l .held) (l .bytes)) l m x
+          → (r : Fed) (m′ : Lent) (out′ : List ℕ) → Feeds (takesCall (progressOf k m)) out used r m′ out′
+          → Feeds (byteTo b (progressOf l m)) out used r m′ out′
+      now-taken g e r m′ out′ t =
+          subst (λ (o : Told). Feeds o out used r m′ out′)
+          (ap (λ (j : Lister). toldBy did (stand (take (k .held) (k .bytes)) j m)) is
+          ∙ any-held (did .turn) (did .left) _ (take (l .held) (l .bytes)) l m
           ∙ sym (bytes-offered true g e))
           t
         where
           did : Turned
-          did = turned (readAt (wordsIn (take (k .held) (k .bytes))) 0) m x
+          did = turned (readAt (wordsIn (take (k .held) (k .bytes))) 0) m
 
 -- A part.
 
@@ -174,12 +175,12 @@ then : Told → Told → Told
 then a b = record { after = b .after; text = a .text ++ b .text }
 
 one-byte-more :
-    (bytes : List ℕ) (b : ℕ) (s : Standing)
+    (bytes : List ℕ) (b : ℕ) (s : Progress)
     → fed (bytes ++ (b ∷ [])) s ≡ then (fed bytes s) (byteTo b (fed bytes s .after))
 unfolding fed then
 one-byte-more [] b s = ap (λ (t : List ℕ). told (byteTo b s .after) t) (append-nil (byteTo b s .text))
   where
-    told : Standing → List ℕ → Told
+    told : Progress → List ℕ → Told
     told a t = record { after = a; text = t }
 one-byte-more (a ∷ bytes) b s =
     let s′ = byteTo a s .after in
@@ -187,28 +188,28 @@ one-byte-more (a ∷ bytes) b s =
     ∙ ap (λ (t : List ℕ). told (byteTo b (fed bytes s′ .after) .after) t)
     (sym (append-assoc (byteTo a s .text) (fed bytes s′ .text) (byteTo b (fed bytes s′ .after) .text)))
   where
-    told : Standing → List ℕ → Told
+    told : Progress → List ℕ → Told
     told a t = record { after = a; text = t }
 
-module _ (l : Lister) (m x out : List ℕ) where
-  pub none-fed : Tells (fed [] (standingOf l m x)) out 0 (fedTo l 0) m x out
+module _ (l : Lister) (m : Lent) (out : List ℕ) where
+  pub none-fed : Feeds (fed [] (progressOf l m)) out 0 (fedTo l 0) m out
   unfolding fed
   none-fed = record { after = refl; text = wrote-nothing out 0 }
 
   -- One byte more of the part.
   pub one-fed :
       (part : List ℕ) (i : ℕ) → i < length part
-      → (a : Fed) (m₁ x₁ out₁ : List ℕ) → Tells (fed (take i part) (standingOf l m x)) out 0 a m₁ x₁ out₁
+      → (a : Fed) (m₁ : Lent) (out₁ : List ℕ) → Feeds (fed (take i part) (progressOf l m)) out 0 a m₁ out₁
       → a .used ≤ length out
-      → (r : Fed) (m₂ x₂ out₂ : List ℕ)
-      → Tells (byteTo (getD part i 0) (standingOf (a .lister) m₁ x₁)) out₁ (a .used) r m₂ x₂ out₂
-      → Tells (fed (take (i + 1) part) (standingOf l m x)) out 0 r m₂ x₂ out₂
+      → (r : Fed) (m₂ : Lent) (out₂ : List ℕ)
+      → Feeds (byteTo (getD part i 0) (progressOf (a .lister) m₁)) out₁ (a .used) r m₂ out₂
+      → Feeds (fed (take (i + 1) part) (progressOf l m)) out 0 r m₂ out₂
   unfolding then
-  one-fed part i h a m₁ x₁ out₁ so-far room r m₂ x₂ out₂ new =
-      subst (λ (o : Told). Tells o out 0 r m₂ x₂ out₂)
+  one-fed part i h a m₁ out₁ so-far room r m₂ out₂ new =
+      subst (λ (o : Told). Feeds o out 0 r m₂ out₂)
       (sym
-      (ap (λ (bytes : List ℕ). fed bytes (standingOf l m x)) one
-      ∙ one-byte-more (take i part) (getD part i 0) (standingOf l m x)))
+      (ap (λ (bytes : List ℕ). fed bytes (progressOf l m)) one
+      ∙ one-byte-more (take i part) (getD part i 0) (progressOf l m)))
       (record {
         after = new′ .after;
         text = wrote-then (omega (arith, so-far .text .next, room)) (so-far .text) (new′ .text);
@@ -218,14 +219,14 @@ module _ (l : Lister) (m x out : List ℕ) where
       one = let e : i + 1 ≡ suc i = omega arith in ap (λ (n : ℕ). take n part) e ∙ take-suc part i 0 h
 
       new′ :
-          Tells (byteTo (getD part i 0) (fed (take i part) (standingOf l m x) .after)) out₁ (a .used) r m₂ x₂ out₂
+          Feeds (byteTo (getD part i 0) (fed (take i part) (progressOf l m) .after)) out₁ (a .used) r m₂ out₂
       new′ =
-          subst (λ (s : Standing). Tells (byteTo (getD part i 0) s) out₁ (a .used) r m₂ x₂ out₂) (so-far .after) new
+          subst (λ (s : Progress). Feeds (byteTo (getD part i 0) s) out₁ (a .used) r m₂ out₂) (so-far .after) new
 
   -- All of it.
   pub all-fed :
       (part : List ℕ) (i : ℕ) → length part ≤ i
-      → (a : Fed) (m₁ x₁ out₁ : List ℕ) → Tells (fed (take i part) (standingOf l m x)) out 0 a m₁ x₁ out₁
-      → Tells (fed part (standingOf l m x)) out 0 a m₁ x₁ out₁
-  all-fed part i h a m₁ x₁ out₁ =
-      subst (λ (bytes : List ℕ). Tells (fed bytes (standingOf l m x)) out 0 a m₁ x₁ out₁) (take-all i part h)
+      → (a : Fed) (m₁ : Lent) (out₁ : List ℕ) → Feeds (fed (take i part) (progressOf l m)) out 0 a m₁ out₁
+      → Feeds (fed part (progressOf l m)) out 0 a m₁ out₁
+  all-fed part i h a m₁ out₁ =
+      subst (λ (bytes : List ℕ). Feeds (fed bytes (progressOf l m)) out 0 a m₁ out₁) (take-all i part h)

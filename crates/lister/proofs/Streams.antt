@@ -4,7 +4,7 @@ use mathlib.Core.Path.{_≡_, refl, sym, ap, subst, _∙_}
 use mathlib.Core.Bool.{Bool, true, false}
 use mathlib.Core.List.{List, [], _∷_, _++_, append-assoc, append-nil}
 use native.Mathlib.Omega.{arith}
-use lib.ListN.{length, length-append, length-replicate}
+use lib.ListN.{length, length-append}
 use lib.Seq.{append-snoc}
 use Rattle.machine.specs.declared.Call.{Call}
 use Rattle.machine.specs.State.{State}
@@ -15,9 +15,11 @@ use Rattle.journal.specs.declared.types.Read.{Read}
 use Rattle.journal.specs.declared.types.Read.the-variants.{Found, Refused, Ended}
 use Rattle.journal.specs.Words.{readAt, readFrom}
 use Rattle.journal.specs.Rows.{Row, rowsFrom}
+use Rattle.layout.specs.Addresses.{scratchWords}
 use Rattle.lent_tables.specs.Entries.{zeros}
+use Rattle.lent_tables.proofs.Verdict.{zeros-length}
 use Rattle.input.specs.Words.{wordsIn}
-use Rattle.lister.specs.Listing.{lineFor, linesOf, lastRow, callRows, Begins}
+use Rattle.lister.specs.Listing.{lineFor, linesOf, lastRow, callRows, Prefix}
 use Rattle.lister.specs.Feeding.{Told, ready, holding, fed, ending}
 use Rattle.lister.proofs.Enough.{Whole, whole-now, how-many, whole-words, not-over}
 use Rattle.lister.proofs.Behind.{rowFor, rowsOn, oddOn, rows-taken, rows-refused, odd-taken, odd-refused}
@@ -28,7 +30,7 @@ use Rattle.lister.proofs.Feeding.{lineTold, call-told, stopped, lastTol
 -- With what is written at the end, the text is the lines of all rows; it begins with the lines of the calls.
 pub record Streams (t : Told) (rows odd : List Row) : Type 0 where
   pub whole : t .text ++ ending (t .after) ≡ linesOf (rows ++ odd)
-  pub begun : Begins (linesOf (callRows rows)) (t .text)
+  pub begun : Prefix (linesOf (callRows rows)) (t .text)
 
 -- The same told of the same rows.
 alike :
@@ -93,88 +95,89 @@ one-refused i code s x bytes =
     })
 
 -- One byte more: it is held with the others or, as the last byte of a call, gives its line.
-module _ (b : ℕ) (bytes held : List ℕ) (n i : ℕ) (s : State) (x : List ℕ) (S : Sound s) (k : length x ≡ 256) where
-  -- the bytes held and this one
-  abbrev longer : List ℕ
-  longer = held ++ (b ∷ [])
+module _ (b : ℕ) (bytes held : List ℕ) (n i : ℕ) (s : State) (x : List ℕ) (S : Sound s) (k : length x ≡ scratchWords)
+  where
+    -- the bytes held and this one
+    abbrev longer : List ℕ
+    longer = held ++ (b ∷ [])
 
-  -- what is to show
-  abbrev Goal : Type 0
-  Goal = Streams (fed (b ∷ bytes) (on held i s x)) (rowsOn (suc n) i (longer ++ bytes) s)
-      (oddOn (suc n) i (longer ++ bytes) s)
+    -- what is to show
+    abbrev Goal : Type 0
+    Goal = Streams (fed (b ∷ bytes) (on held i s x)) (rowsOn (suc n) i (longer ++ bytes) s)
+        (oddOn (suc n) i (longer ++ bytes) s)
 
-  still-held :
-      ready longer ≡ false
-      → Streams (fed bytes (on longer i s x)) (rowsOn (suc n) i (longer ++ bytes) s)
-      (oddOn (suc n) i (longer ++ bytes) s)
-      → Goal
-  still-held e v =
-      alike (fed-first b bytes (on held i s x) (holding longer (on held i s x)) (byte-held b held i s x e)) refl refl v
+    still-held :
+        ready longer ≡ false
+        → Streams (fed bytes (on longer i s x)) (rowsOn (suc n) i (longer ++ bytes) s)
+        (oddOn (suc n) i (longer ++ bytes) s)
+        → Goal
+    still-held e v =
+        alike (fed-first b bytes (on held i s x) (holding longer (on held i s x)) (byte-held b held i s x e)) refl refl v
 
-  call-read :
-      ready longer ≡ true → Whole longer → i + 1 < 2 ^ 64 → (c : Call) (next : ℕ)
-      → readAt (wordsIn longer) 0 ≡ Found c next
-      → Streams (fed bytes (on [] (suc i) (step s c .state) zeros)) (rowsOn n (suc i) bytes (step s c .state))
-      (oddOn n (suc i) bytes (step s c .state))
-      → Goal
-  call-read e v h c next f w =
-      let s′ = step s c .state in
-      alike
-      (fed-first b bytes (on held i s x) (lineTold i c s)
-      (byte-taken b held i s x e (Found c next) f ∙ call-told c next held i s x S k h))
-      (rows-taken longer bytes v n i s c next f)
-      (odd-taken longer bytes v n i s c next f)
-      (one-taken i c s (fed bytes (on [] (suc i) s′ zeros)) (rowsOn n (suc i) bytes s′) (oddOn n (suc i) bytes s′) w)
+    call-read :
+        ready longer ≡ true → Whole longer → i + 1 < 2 ^ 64 → (c : Call) (next : ℕ)
+        → readAt (wordsIn longer) 0 ≡ Found c next
+        → Streams (fed bytes (on [] (suc i) (step s c .state) zeros)) (rowsOn n (suc i) bytes (step s c .state))
+        (oddOn n (suc i) bytes (step s c .state))
+        → Goal
+    call-read e v h c next f w =
+        let s′ = step s c .state in
+        alike
+        (fed-first b bytes (on held i s x) (lineTold i c s)
+        (byte-taken b held i s x e (Found c next) f ∙ call-told c next held i s x S k h))
+        (rows-taken longer bytes v n i s c next f)
+        (odd-taken longer bytes v n i s c next f)
+        (one-taken i c s (fed bytes (on [] (suc i) s′ zeros)) (rowsOn n (suc i) bytes s′) (oddOn n (suc i) bytes s′) w)
 
-  none-read :
-      ready longer ≡ true → Whole longer → (code at : ℕ) → readAt (wordsIn longer) 0 ≡ Refused code at → Goal
-  none-read e v code at f =
-      alike
-      (fed-first b bytes (on held i s x) (lastTold i code s x)
-      (byte-taken b held i s x e (Refused code at) f ∙ last-told code at held i s x S))
-      (rows-refused longer bytes v n i s code at f)
-      (odd-refused longer bytes v n i s code at f)
-      (one-refused i code s x bytes)
+    none-read :
+        ready longer ≡ true → Whole longer → (code at : ℕ) → readAt (wordsIn longer) 0 ≡ Refused code at → Goal
+    none-read e v code at f =
+        alike
+        (fed-first b bytes (on held i s x) (lastTold i code s x)
+        (byte-taken b held i s x e (Refused code at) f ∙ last-told code at held i s x S))
+        (rows-refused longer bytes v n i s code at f)
+        (odd-refused longer bytes v n i s code at f)
+        (one-refused i code s x bytes)
 
-  -- given that the bytes to come are listed so with these bytes held, and behind a call with none held
-  one-byte :
-      ready held ≡ false → length (wordsIn (longer ++ bytes)) < suc n → i + length (longer ++ bytes) < 2 ^ 64
-      → (ready longer ≡ false
-      → Streams (fed bytes (on longer i s x)) (rowsOn (suc n) i (longer ++ bytes) s)
-      (oddOn (suc n) i (longer ++ bytes) s))
-      → ((c : Call) → length (wordsIn bytes) < n → suc i + length bytes < 2 ^ 64
-      → Streams (fed bytes (on [] (suc i) (step s c .state) zeros)) (rowsOn n (suc i) bytes (step s c .state))
-      (oddOn n (suc i) bytes (step s c .state)))
-      → Goal
-  one-byte before words few keeps goes = at (ready longer) refl
-    where
-      fewer : Whole longer → length (wordsIn bytes) < n
-      fewer v =
-          omega (
-            arith,
-            words,
-            ap length (whole-words longer v bytes),
-            length-append (wordsIn longer) (wordsIn bytes),
-            how-many longer v,
-            v .one,
-          )
+    -- given that the bytes to come are listed so with these bytes held, and behind a call with none held
+    one-byte :
+        ready held ≡ false → length (wordsIn (longer ++ bytes)) < suc n → i + length (longer ++ bytes) < 2 ^ 64
+        → (ready longer ≡ false
+        → Streams (fed bytes (on longer i s x)) (rowsOn (suc n) i (longer ++ bytes) s)
+        (oddOn (suc n) i (longer ++ bytes) s))
+        → ((c : Call) → length (wordsIn bytes) < n → suc i + length bytes < 2 ^ 64
+        → Streams (fed bytes (on [] (suc i) (step s c .state) zeros)) (rowsOn n (suc i) bytes (step s c .state))
+        (oddOn n (suc i) bytes (step s c .state)))
+        → Goal
+    one-byte before words few keeps goes = at (ready longer) refl
+      where
+        fewer : Whole longer → length (wordsIn bytes) < n
+        fewer v =
+            omega (
+              arith,
+              words,
+              ap length (whole-words longer v bytes),
+              length-append (wordsIn longer) (wordsIn bytes),
+              how-many longer v,
+              v .one,
+            )
 
-      within : Whole longer → suc i + length bytes < 2 ^ 64
-      within v = omega (arith, few, length-append longer bytes, v .fills, v .one)
+        within : Whole longer → suc i + length bytes < 2 ^ 64
+        within v = omega (arith, few, length-append longer bytes, v .fills, v .one)
 
-      by : ready longer ≡ true → Whole longer → (r : Read) → readAt (wordsIn longer) 0 ≡ r → Goal
-      by e v (Found c next) f =
-          call-read e v (omega (arith, within v)) c next f (goes c (fewer v) (within v))
-      by e v (Refused code place) f = none-read e v code place f
-      by e v Ended f = not-over longer v f
+        by : ready longer ≡ true → Whole longer → (r : Read) → readAt (wordsIn longer) 0 ≡ r → Goal
+        by e v (Found c next) f =
+            call-read e v (omega (arith, within v)) c next f (goes c (fewer v) (within v))
+        by e v (Refused code place) f = none-read e v code place f
+        by e v Ended f = not-over longer v f
 
-      at : (t : Bool) → ready longer ≡ t → Goal
-      at true e = by e (whole-now held b before e) (readAt (wordsIn longer) 0) refl
-      at false e = still-held e (keeps e)
+        at : (t : Bool) → ready longer ≡ t → Goal
+        at true e = by e (whole-now held b before e) (readAt (wordsIn longer) 0) refl
+        at false e = still-held e (keeps e)
 
 -- For any bytes held that are not ready, any index, any sound state and as many turns as there are words.
 pub streams :
-    (bytes held : List ℕ) (n i : ℕ) (s : State) (x : List ℕ) → Sound s → length x ≡ 256 → ready held ≡ false
+    (bytes held : List ℕ) (n i : ℕ) (s : State) (x : List ℕ) → Sound s → length x ≡ scratchWords → ready held ≡ false
     → length (wordsIn (held ++ bytes)) < n → i + length (held ++ bytes) < 2 ^ 64
     → Streams (fed bytes (on held i s x)) (rowsOn n i (held ++ bytes) s) (oddOn n i (held ++ bytes) s)
 streams bytes held zero i s x S k e words few = absurd (omega (arith, words))
@@ -191,4 +194,4 @@ streams (b ∷ bytes) held (suc n) i s x S k e words few =
     (one-byte b bytes held n i s x S k e words′ few′
     (λ h. streams bytes longer (suc n) i s x S k h words′ few′)
     (λ c w f.
-    streams bytes [] n (suc i) (step s c .state) zeros (step-sound s c S) (length-replicate {A = ℕ} 256 0) refl w f))
+    streams bytes [] n (suc i) (step s c .state) zeros (step-sound s c S) zeros-length refl w f))

@@ -6,24 +6,18 @@ use mathlib.Core.List.{List}
 use lib.ListN.{take, set}
 use Rattle.listing.specs.Buffer.{Wrote}
 use Rattle.journal.specs.Words.{readAt}
+use Rattle.lent_tables.specs.Entries.{Lent}
 use Rattle.input.specs.Words.{wordsIn}
 use Rattle.rows.specs.declared.Turn.{Turn}
 use Rattle.rows.specs.declared.Turn.the-variants.{Took, Stopped, Over}
-use Rattle.rows.specs.Turns.{turned}
+use Rattle.rows.specs.Taking.{turned}
 use Rattle.lister.specs.declared.Lister.{Lister}
 use Rattle.lister.specs.declared.Fed.{Fed}
-use Rattle.lister.specs.Feeding.{Standing, Told, toldOf, toldBy}
+use Rattle.lister.specs.Feeding.{Progress, Told, toldOf, toldBy}
 
 -- The bytes held are the first of the struct's twelve.
-abbrev pub standingOf : Lister → List ℕ → List ℕ → Standing
-standingOf l m x =
-    record {
-      held = take (l .held) (l .bytes);
-      index = l .index;
-      going = l .going;
-      tables = m;
-      scratch = x;
-    }
+abbrev pub progressOf : Lister → Lent → Progress
+progressOf l m = record { held = take (l .held) (l .bytes); index = l .index; going = l .going; lent = m }
 
 -- One byte more is held, behind the others.
 abbrev pub withByte : Lister → ℕ → Lister
@@ -40,17 +34,17 @@ abbrev pub emptied : Lister → ℕ → Bool → Lister
 emptied l index going = record { bytes = l .bytes; held = 0; index = index; going = going }
 
 -- The bytes held are taken for a call.
-abbrev pub taking : Standing → Told
-taking s = toldBy (turned (readAt (wordsIn (s .held)) 0) (s .tables) (s .scratch)) s
+abbrev pub takesCall : Progress → Told
+takesCall s = toldBy (turned (readAt (wordsIn (s .held)) 0) (s .lent)) s
 
 -- What a turn that took no call comes to: one that did is not met.
-abbrev pub stopping : Turn → Standing → Told
-stopping (Took c a who next) s = toldOf Over (s .tables) (s .scratch) s
-stopping (Stopped code who) s = toldOf (Stopped code who) (s .tables) (s .scratch) s
-stopping Over s = toldOf Over (s .tables) (s .scratch) s
+abbrev pub stopping : Turn → Progress → Told
+stopping (Took c a who next) s = toldOf Over (s .lent) s
+stopping (Stopped code who) s = toldOf (Stopped code who) (s .lent) s
+stopping Over s = toldOf Over (s .lent) s
 
 -- The lister afterwards stands where it is told, and the text stands in the buffer behind the bytes used, whose other
 -- bytes are as they were.
-pub record Tells (t : Told) (out : List ℕ) (used : ℕ) (r : Fed) (m x out′ : List ℕ) : Type 0 where
-  pub after : standingOf (r .lister) m x ≡ t .after
+pub record Feeds (t : Told) (out : List ℕ) (used : ℕ) (r : Fed) (m : Lent) (out′ : List ℕ) : Type 0 where
+  pub after : progressOf (r .lister) m ≡ t .after
   pub text : Wrote out used (t .text) (r .used) out′

@@ -10,24 +10,23 @@ use Rattle.machine.specs.Lists.{pick}
 use Rattle.machine.specs.Results.{plain, threadOf}
 use Rattle.journal.specs.Words.{topByte, wordsTaken, readAt}
 use Rattle.listing.specs.Line.{lineOf}
-use Rattle.kernel.specs.Entry.{runningLink}
+use Rattle.lent_tables.specs.Entries.{Lent, lent, freshened, runnerIn}
 use Rattle.input.specs.Words.{littleEndian, wordsIn}
 use Rattle.rows.specs.declared.Turn.{Turn}
 use Rattle.rows.specs.declared.Turn.the-variants.{Took, Stopped, Over}
-use Rattle.rows.specs.Turns.{runnerOf, Turned, turned}
+use Rattle.rows.specs.Taking.{Turned, turned}
 
 -- Between two bytes: those of a call that is not yet whole, the next line's index, whether the listing goes on, and
--- the lent tables and scratch.
-pub record Standing : Type 0 where
+-- the lent memory.
+pub record Progress : Type 0 where
   pub held : List ℕ
   pub index : ℕ
   pub going : Bool
-  pub tables : List ℕ
-  pub scratch : List ℕ
+  pub lent : Lent
 
 -- Where it stands afterwards, and the bytes of the listing that are written.
 pub record Told : Type 0 where
-  pub after : Standing
+  pub after : Progress
   pub text : List ℕ
 
 -- The bytes have all the words that their first word asks for.
@@ -35,51 +34,44 @@ abbrev pub ready : List ℕ → Bool
 ready bytes = leb 4 (length bytes) && leb (wordsTaken (topByte (littleEndian bytes 0)) * 4) (length bytes)
 
 -- Nothing is written; these bytes are held.
-abbrev pub holding : List ℕ → Standing → Told
+abbrev pub holding : List ℕ → Progress → Told
 holding bytes s =
     record {
-      after =
-          record {
-            held = bytes;
-            index = s .index;
-            going = s .going;
-            tables = s .tables;
-            scratch = s .scratch;
-          };
+      after = record { held = bytes; index = s .index; going = s .going; lent = s .lent };
       text = [];
     }
 
 -- The line of a call taken, or the last line, which stops the listing. Bytes that are ready are never over.
-abbrev pub toldOf : Turn → List ℕ → List ℕ → Standing → Told
-toldOf (Took c a who next) m x s =
+abbrev pub toldOf : Turn → Lent → Progress → Told
+toldOf (Took c a who next) m s =
     record {
-      after = record { held = []; index = (s .index + 1) % 2 ^ 64; going = s .going; tables = m; scratch = x };
+      after = record { held = []; index = (s .index + 1) % 2 ^ 64; going = s .going; lent = m };
       text = lineOf (s .index) (numberOf c) a (threadOf who);
     }
-toldOf (Stopped code who) m x s =
+toldOf (Stopped code who) m s =
     record {
-      after = record { held = []; index = s .index; going = false; tables = m; scratch = x };
+      after = record { held = []; index = s .index; going = false; lent = m };
       text = lineOf (s .index) 0 (plain code) (threadOf who);
     }
-toldOf Over m x s = record {
-  after = record { held = []; index = s .index; going = s .going; tables = m; scratch = x };
+toldOf Over m s = record {
+  after = record { held = []; index = s .index; going = s .going; lent = m };
   text = [];
 }
 
-abbrev pub toldBy : Turned → Standing → Told
-toldBy r s = toldOf (r .turn) (r .tables) (r .scratch) s
+abbrev pub toldBy : Turned → Progress → Told
+toldBy r s = toldOf (r .turn) (r .left) s
 
 -- The bytes of a call are taken with its last one.
-abbrev pub offered : List ℕ → Standing → Told
+abbrev pub offered : List ℕ → Progress → Told
 offered bytes s =
-    pick (ready bytes) (toldBy (turned (readAt (wordsIn bytes) 0) (s .tables) (s .scratch)) s) (holding bytes s)
+    pick (ready bytes) (toldBy (turned (readAt (wordsIn bytes) 0) (s .lent)) s) (holding bytes s)
 
 -- One byte more; none is taken once the listing has stopped.
-unfoldable pub byteTo : ℕ → Standing → Told
+unfoldable pub byteTo : ℕ → Progress → Told
 byteTo b s = pick (s .going) (offered (s .held ++ (b ∷ [])) s) (holding (s .held) s)
 
 -- A part of the bytes.
-unfoldable pub fed : List ℕ → Standing → Told
+unfoldable pub fed : List ℕ → Progress → Told
 fed [] s = holding (s .held) s
 fed (b ∷ part) s = record {
   after = fed part (byteTo b s .after) .after;
@@ -87,15 +79,15 @@ fed (b ∷ part) s = record {
 }
 
 -- The bytes have ended: those still held are odd bytes, or a call that lacks words, which both are 18.
-abbrev pub endingWith : List ℕ → Standing → List ℕ
+abbrev pub endingWith : List ℕ → Progress → List ℕ
 endingWith [] s = []
-endingWith (b ∷ held) s = lineOf (s .index) 0 (plain 18) (threadOf (runnerOf (runningLink (s .tables))))
+endingWith (b ∷ held) s = lineOf (s .index) 0 (plain 18) (threadOf (runnerIn (s .lent .tables)))
 
-unfoldable pub ending : Standing → List ℕ
+unfoldable pub ending : Progress → List ℕ
 ending s = pick (s .going) (endingWith (s .held) s) []
 
 -- Parts in turn.
-unfoldable pub fedParts : List (List ℕ) → Standing → Told
+unfoldable pub fedParts : List (List ℕ) → Progress → Told
 fedParts [] s = holding (s .held) s
 fedParts (part ∷ parts) s = record {
   after = fedParts parts (fed part s .after) .after;
@@ -108,5 +100,9 @@ joined [] = []
 joined (part ∷ parts) = part ++ joined parts
 
 -- At the beginning nothing is held, and the first index is 0.
-abbrev pub starting : List ℕ → List ℕ → Standing
-starting m x = record { held = []; index = 0; going = true; tables = m; scratch = x }
+abbrev pub starting : Lent → Progress
+starting m = record { held = []; index = 0; going = true; lent = m }
+
+-- The tables lent are made fresh before.
+abbrev pub startingFresh : Lent → Progress
+startingFresh m = starting (lent (freshened (m .tables) .tables) (m .scratch))

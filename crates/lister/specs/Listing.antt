@@ -47,6 +47,6 @@ callRows [] = []
 callRows (r ∷ rows) = pick (eqb (r .call) 0) [] (r ∷ callRows rows)
 
 -- The bytes b begin with the bytes a.
-pub record Begins (a b : List ℕ) : Type 0 where
+pub record Prefix (a b : List ℕ) : Type 0 where
   pub more : List ℕ
   pub whole : b ≡ a ++ more

@@ -1,14 +1,15 @@
 // Lists a journal whose bytes come in parts, however they are divided: each call is listed with its last byte.
-ghost use Prim.Native.Nat.{ℕ, _+_, _*_, _≤_, _<_};
+ghost use Prim.Native.Nat.{_+_, _*_, _≤_, _<_};
 ghost use mathlib.Core.Path.{_≡_};
 ghost use mathlib.Core.Bool.{true};
-ghost use mathlib.Core.List.{List, []};
+ghost use mathlib.Core.List.{[]};
 ghost use lib.ListN.{length, replicate};
 ghost use Rattle.machine.specs.Results.{threadOf};
+ghost use Rattle.lent_tables.specs.Entries.{Lent, lent};
 ghost use Rattle.listing.specs.Line.{lineOf};
 ghost use Rattle.listing.specs.Buffer.{Counts, Wrote};
 ghost use Rattle.lister.specs.Feeding.{ready, byteTo, fed, ending};
-ghost use Rattle.lister.specs.Buffers.{standingOf, withByte, emptied, stopping, taking, Tells};
+ghost use Rattle.lister.specs.Buffers.{progressOf, withByte, emptied, stopping, takesCall, Feeds};
 use journal::taken::words_taken;
 use machine::Answer;
 use machine::Runner;
@@ -97,8 +98,8 @@ fn empty(l: Lister, index: u64, going: bool) -> Lister
 fn stop(l: Lister, turn: Turn, out: &mut [u8], used: usize) -> Fed
     requires { ⌜ used + 96 ≤ length (now out) ⌝ }
     ensures { λ r. ⌜ (r .lister .held ≡ 0) × (r .lister .bytes ≡ l .bytes) × (r .used ≤ used + 96) ⌝ }
-    ensures { λ r. ⌜ ((m x : List ℕ) →
-        Tells (stopping turn (standingOf l m x)) (now (out .entry)) used r m x (now (out .exit))) ⌝ }
+    ensures { λ r. ⌜ ((m : Lent) →
+        Feeds (stopping turn (progressOf l m)) (now (out .entry)) used r m (now (out .exit))) ⌝ }
 {
     let Turn::Stopped { code, who } = turn else {
         return Fed {
@@ -116,8 +117,8 @@ fn stop(l: Lister, turn: Turn, out: &mut [u8], used: usize) -> Fed
 fn answer(l: Lister, tables: &mut [u32], scratch: &mut [u32], out: &mut [u8], used: usize) -> Fed
     requires { ⌜ (l .held ≤ 12) × (length (l .bytes) ≡ 12) × (used + 96 ≤ length (now out)) ⌝ }
     ensures { λ r. ⌜ (r .lister .held ≡ 0) × (r .lister .bytes ≡ l .bytes) × (r .used ≤ used + 96) ⌝ }
-    ensures { λ r. ⌜ Tells (taking (standingOf l (now (tables .entry)) (now (scratch .entry))))
-        (now (out .entry)) used r (now (tables .exit)) (now (scratch .exit)) (now (out .exit)) ⌝ }
+    ensures { λ r. ⌜ Feeds (takesCall (progressOf l (lent (now (tables .entry)) (now (scratch .entry)))))
+        (now (out .entry)) used r (lent (now (tables .exit)) (now (scratch .exit))) (now (out .exit)) ⌝ }
 {
     let bytes = l.bytes;
     let held = l.held;
@@ -154,8 +155,8 @@ fn byte(
     requires { ⌜ (from .held < 12) × (length (from .bytes) ≡ 12) × (used + (from .held + 1) * 24 ≤ length (now out)) ⌝ }
     ensures { λ r. ⌜ (r .lister .held < 12) × (length (r .lister .bytes) ≡ 12) ⌝ }
     ensures { λ r. ⌜ r .used + r .lister .held * 24 ≤ used + (from .held + 1) * 24 ⌝ }
-    ensures { λ r. ⌜ Tells (byteTo byte (standingOf from (now (tables .entry)) (now (scratch .entry))))
-        (now (out .entry)) used r (now (tables .exit)) (now (scratch .exit)) (now (out .exit)) ⌝ }
+    ensures { λ r. ⌜ Feeds (byteTo byte (progressOf from (lent (now (tables .entry)) (now (scratch .entry)))))
+        (now (out .entry)) used r (lent (now (tables .exit)) (now (scratch .exit))) (now (out .exit)) ⌝ }
 {
     if !from.going {
         return Fed { lister: from, used };
@@ -175,8 +176,8 @@ pub fn feed(l: Lister, part: &[u8], tables: &mut [u32], scratch: &mut [u32], out
         × ((l .held + length (now part)) * 24 ≤ length (now out)) ⌝ }
     ensures { λ r. ⌜ (r .lister .held < 12) × (length (r .lister .bytes) ≡ 12) ⌝ }
     ensures { λ r. ⌜ Counts (r .used) (now (out .exit)) ⌝ }
-    ensures { λ r. ⌜ Tells (fed (now (part .entry)) (standingOf l (now (tables .entry)) (now (scratch .entry))))
-        (now (out .entry)) 0 r (now (tables .exit)) (now (scratch .exit)) (now (out .exit)) ⌝ }
+    ensures { λ r. ⌜ Feeds (fed (now (part .entry)) (progressOf l (lent (now (tables .entry)) (now (scratch .entry)))))
+        (now (out .entry)) 0 r (lent (now (tables .exit)) (now (scratch .exit))) (now (out .exit)) ⌝ }
 {
     let mut at = Fed { lister: l, used: 0 };
     let mut i = 0;
@@ -191,7 +192,8 @@ pub fn feed(l: Lister, part: &[u8], tables: &mut [u32], scratch: &mut [u32], out
 pub fn finish(l: Lister, tables: &[u32], out: &mut [u8]) -> usize
     requires { ⌜ (l .held < 12) × (length (l .bytes) ≡ 12) × (96 ≤ length (now out)) ⌝ }
     ensures { λ r. ⌜ Counts r (now (out .exit)) ⌝ }
-    ensures { λ r. ⌜ Wrote (now (out .entry)) 0 (ending (standingOf l (now (tables .entry)) [])) r (now (out .exit)) ⌝ }
+    ensures { λ r. ⌜ Wrote (now (out .entry)) 0 (ending (progressOf l (lent (now (tables .entry)) []))) r
+        (now (out .exit)) ⌝ }
 {
     if !l.going {
         return 0;
@@ -205,6 +207,6 @@ pub fn finish(l: Lister, tables: &[u32], out: &mut [u8]) -> usize
         l.index,
         0,
         machine::plain(18),
-        rows::running(tables),
+        kernel::running(tables),
     )
 }

@@ -1,8 +1,8 @@
 // The rows of a journal's listing: the next call of a journal is read and taken on the lent memory.
 ghost use mathlib.Core.Path.{_≡_};
 ghost use Rattle.journal.specs.Words.{readAt};
-ghost use Rattle.kernel.specs.Entry.{runningLink};
-ghost use Rattle.rows.specs.Turns.{runnerOf, untaken, Turned, turned};
+ghost use Rattle.lent_tables.specs.Entries.{lent};
+ghost use Rattle.rows.specs.Taking.{untaken, Turned, turned};
 use journal::types::Read;
 use machine::Answer;
 use machine::Call;
@@ -24,18 +24,6 @@ pub enum Turn {
     Over,
 }
 
-// Who runs, read from the tables.
-pub fn running(tables: &[u32]) -> Runner
-    ensures { λ r. ⌜ r ≡ runnerOf (runningLink (now (tables .entry))) ⌝ }
-{
-    let link = kernel::running(tables);
-    if link == 0 {
-        Runner::Nobody
-    } else {
-        Runner::Thread(link - 1)
-    }
-}
-
 // The turn where no call was read.
 fn stop(reading: Read, who: Runner) -> Turn
     ensures { λ r. ⌜ r ≡ untaken reading who ⌝ }
@@ -50,18 +38,18 @@ fn stop(reading: Read, who: Runner) -> Turn
 // Reads the call at a word of the journal and takes it on the lent memory.
 pub fn next(words: &[u32], at: usize, tables: &mut [u32], scratch: &mut [u32]) -> Turn
     ensures { λ r. ⌜ _≡_ {A = Turned}
-        (record { turn = r; tables = now (tables .exit); scratch = now (scratch .exit) })
-        (turned (readAt (now (words .entry)) at) (now (tables .entry)) (now (scratch .entry))) ⌝ }
+        (record { turn = r; left = lent (now (tables .exit)) (now (scratch .exit)) })
+        (turned (readAt (now (words .entry)) at) (lent (now (tables .entry)) (now (scratch .entry)))) ⌝ }
 {
     let reading = reader::read(words, at);
     let Read::Found { call, next } = reading else {
-        return stop(reading, running(tables));
+        return stop(reading, kernel::running(tables));
     };
     let answer = kernel::call(tables, scratch, call);
     Turn::Took {
         call,
         answer,
-        who: running(tables),
+        who: kernel::running(tables),
         next,
     }
 }

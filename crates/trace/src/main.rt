@@ -9,7 +9,7 @@ mod output;
 use lister::Lister;
 
 // After a part: the lister, whether another part is to be read, whether the bytes have ended.
-struct Progress {
+struct Stage {
     lister: Lister,
     going: bool,
     ended: bool,
@@ -17,7 +17,7 @@ struct Progress {
 
 // Lists a part and writes its lines. There is room for them: 24 bytes for each byte of the part, and for each of the
 // eleven that may be held.
-fn list(l: Lister, part: &[u8], tables: &mut [u32], scratch: &mut [u32]) -> Progress
+fn list(l: Lister, part: &[u8], tables: &mut [u32], scratch: &mut [u32]) -> Stage
     requires { ⌜ (l .held < 12) × (length (l .bytes) ≡ 12) × (length (now part) < 513) ⌝ }
     ensures { λ r. ⌜ (r .lister .held < 12) × (length (r .lister .bytes) ≡ 12) ⌝ }
 {
@@ -26,7 +26,7 @@ fn list(l: Lister, part: &[u8], tables: &mut [u32], scratch: &mut [u32]) -> Prog
     let used = fed.used;
     let shown = output::show(&out[..used]);
     let after = fed.lister;
-    Progress {
+    Stage {
         lister: after,
         going: after.going & shown,
         ended: false,
@@ -34,7 +34,7 @@ fn list(l: Lister, part: &[u8], tables: &mut [u32], scratch: &mut [u32]) -> Prog
 }
 
 // Reads once, what is there, and lists it.
-fn turn(l: Lister, tables: &mut [u32], scratch: &mut [u32]) -> Progress
+fn turn(l: Lister, tables: &mut [u32], scratch: &mut [u32]) -> Stage
     requires { ⌜ (l .held < 12) × (length (l .bytes) ≡ 12) ⌝ }
     ensures { λ r. ⌜ (r .lister .held < 12) × (length (r .lister .bytes) ≡ 12) ⌝ }
 {
@@ -42,14 +42,14 @@ fn turn(l: Lister, tables: &mut [u32], scratch: &mut [u32]) -> Progress
     let got = libc::read(libc::STDIN_FILENO, &mut part);
     if got < 0 {
         output::complain(b"trace: standard input could not be read\n");
-        return Progress {
+        return Stage {
             lister: l,
             going: false,
             ended: false,
         };
     }
     if got == 0 {
-        return Progress {
+        return Stage {
             lister: l,
             going: false,
             ended: true,
@@ -71,7 +71,7 @@ fn finish(l: Lister, tables: &[u32])
 // A proved loop has to end, and nothing says that a journal does. So the turns are counted down, from a number that
 // no run uses up.
 fn run(tables: &mut [u32], scratch: &mut [u32]) {
-    let mut p = Progress {
+    let mut p = Stage {
         lister: lister::start(),
         going: output::header(),
         ended: false,
@@ -87,8 +87,8 @@ fn run(tables: &mut [u32], scratch: &mut [u32]) {
 }
 
 fn main() {
-    let mut tables = [0u32; 4096];
-    let mut scratch = [0u32; 256];
+    let mut tables = [0u32; lent_tables::TABLE_WORDS];
+    let mut scratch = [0u32; lent_tables::SCRATCH_WORDS];
     lent_tables::fresh(&mut tables);
     run(&mut tables, &mut scratch);
 }

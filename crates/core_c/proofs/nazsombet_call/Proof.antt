@@ -19,7 +19,7 @@ same-length-2 c = search needs
 returns : tie.Need-returns
 returns c =
     let taken = c .before .before .before .before .before in
-    answered-is _ _ _ _ (taken .take .result) _ _ (taken .before .before .before .call-in .ensures)
+    answered-is _ _ _ (taken .take .result) _ (taken .before .before .before .call-in .ensures)
     (taken .take .ensures)
 
 pub nazsombet-call-spec : {M : Type 1} → statement M

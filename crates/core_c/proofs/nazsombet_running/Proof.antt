@@ -1,5 +1,5 @@
--- The link, and the thread it leads to.
-use Rattle.core_c.proofs.Runner.{nobody, somebody}
+-- By who runs.
+use Rattle.core_c.proofs.Runner.{numbered}
 use borrow.Author.Needs.{needs}
 use Rattle.core_c.proofs.nazsombet_running.Statement.{statement}
 use Rattle.core_c.proofs.nazsombet_running.Tie as tie
@@ -7,14 +7,18 @@ use Rattle.core_c.proofs.nazsombet_running.Tie as tie
 running-requires : tie.Need-running-requires
 running-requires c κs = search needs
 
-returns : tie.Need-returns
-returns c = nobody _ _ (c .before .running .ensures) (c .if1 .taken)
+enum-told : tie.Need-enum-told
+enum-told c = search needs
 
-sub-result : tie.Need-sub-result
-sub-result c = search needs
+enum-known-thread : tie.Need-enum-known-thread
+enum-known-thread c = search needs
+
+returns : tie.Need-returns
+returns c = numbered _ _ _ (c .before .before .running .ensures) (c .enum-told .given .1)
 
 returns-2 : tie.Need-returns-2
-returns-2 c = somebody _ _ (c .before .running .ensures) (c .if1 .left)
+returns-2 c = numbered _ _ _ (c .before .before .before .running .ensures) (c .before .thread .given .1)
 
 pub nazsombet-running-spec : {M : Type 1} → statement M
-nazsombet-running-spec = tie.close (tie.spec running-requires returns sub-result returns-2)
+nazsombet-running-spec =
+    tie.close (tie.spec running-requires enum-told enum-known-thread returns returns-2)

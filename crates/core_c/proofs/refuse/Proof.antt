@@ -15,7 +15,7 @@ same-length c = search needs
 
 returns : tie.Need-returns
 returns c =
-    check-refused _ _ (c .before .before .before .before .check .ensures) (c .before .if1 .taken) (c .plain .ensures)
+    check-refused _ (c .before .before .before .before .check .ensures) (c .before .if1 .taken) (c .plain .ensures)
 
 plain-requires-2 : tie.Need-plain-requires-2
 plain-requires-2 c κs = search needs
@@ -25,7 +25,7 @@ same-length-2 c = search needs
 
 returns-2 : tie.Need-returns-2
 returns-2 c =
-    none-refused _ _ (c .before .before .before .before .check .ensures) (c .before .if1 .left) (c .plain2 .ensures)
+    none-refused _ (c .before .before .before .before .check .ensures) (c .before .if1 .left) (c .plain2 .ensures)
 
 pub refuse-spec : {M : Type 1} → statement M
 refuse-spec =

@@ -23,7 +23,7 @@ same-length-2 c = search needs
 returns : tie.Need-returns
 returns c =
     let refused = c .before .before in
-    called-for _ _ _ none _ (refused .before .before .before .enum-told .given .1) (refused .refuse .ensures)
+    called-for _ _ none _ (refused .before .before .before .enum-told .given .1) (refused .refuse .ensures)
 
 call-requires : tie.Need-call-requires
 call-requires c κs = search needs
@@ -37,7 +37,7 @@ same-length-4 c = search needs
 returns-2 : tie.Need-returns-2
 returns-2 c =
     let called = c .before .before .before .before in
-    called-for _ _ _ (some _) _ (called .before .before .before .before .named .given .1) (called .call .ensures)
+    called-for _ _ (some _) _ (called .before .before .before .before .named .given .1) (called .call .ensures)
 
 pub take-spec : {M : Type 1} → statement M
 take-spec =

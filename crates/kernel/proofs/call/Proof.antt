@@ -18,12 +18,12 @@ same-length-2 c = search needs
 
 returns : tie.Need-returns
 returns c =
-    check-refuses _ _ (c .before .before .before .before .check .ensures) _ (c .before .if1 .taken)
+    check-refuses _ (c .before .before .before .before .check .ensures) _ (c .before .if1 .taken)
     (c .plain .ensures)
 
 step-requires : tie.Need-step-requires
 step-requires c κs =
-    check-shown _ _ (c .before .before .before .before .check .ensures) (c .before .if1 .left)
+    check-shown _ (c .before .before .before .before .check .ensures) (c .before .if1 .left)
 
 same-length-3 : tie.Need-same-length-3
 same-length-3 c = search needs
@@ -34,7 +34,7 @@ same-length-4 c = search needs
 returns-2 : tie.Need-returns-2
 returns-2 c =
     let checked = c .before .before .before .before .before .before .before in
-    step-taken _ _ (checked .check .ensures) (checked .before .before .before .before .before .args .c)
+    step-taken _ (checked .check .ensures) (checked .before .before .before .before .before .args .c)
     (c .before .before .before .before .if1 .left) (c .before .before .step .ensures)
 
 pub call-spec : {M : Type 1} → statement M

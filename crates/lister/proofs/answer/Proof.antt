@@ -5,6 +5,7 @@ use mathlib.Core.Path.{_≡_, sym, ap}
 use lib.ListN.{length, take}
 use lib.Seq.{length-take-le}
 use borrow.Author.Needs.{needs}
+use Rattle.lent_tables.specs.Entries.{lent}
 use Rattle.lister.specs.declared.Lister.{Lister}
 use Rattle.lister.proofs.Answering.{left-answered, call-answered}
 use Rattle.lister.proofs.answer.Statement.{statement}
@@ -61,8 +62,8 @@ returns c =
     let filled = turned .before .before .before .before .before in
     let a = filled .before .before .before .before .before .before .before .args in (
       stopped .ensures .0,
-      left-answered (a .l) (a .out .now) (a .used) (a .tables .now) (a .scratch .now) _ _ _ (turned .next .result) _
-          (filled .words2 .ensures .1 .1) (turned .next .ensures) (tested .match .keys2) _ (stopped .ensures .1),
+      left-answered (a .l) (a .out .now) (a .used) (lent (a .tables .now) (a .scratch .now)) _ _ (turned .next .result)
+          _ (filled .words2 .ensures .1 .1) (turned .next .ensures) (tested .match .keys2) _ (stopped .ensures .1),
     )
 
 number-requires : tie.Need-number-requires
@@ -102,8 +103,8 @@ returns-2 c =
     let a = filled .before .before .before .before .before .before .before .args in
     let e = emptied .empty .ensures in (
       (ap (λ (k : Lister). k .held) e, ap (λ (k : Lister). k .bytes) e, added .add .ensures .0),
-      call-answered (a .l) (a .out .now) (a .used) (a .tables .now) (a .scratch .now) _ _ _ (turned .next .result) _
-          (filled .words2 .ensures .1 .1) (turned .next .ensures) _ _ _ _ (took .turn .given .1) _
+      call-answered (a .l) (a .out .now) (a .used) (lent (a .tables .now) (a .scratch .now)) _ _ (turned .next .result)
+          _ (filled .words2 .ensures .1 .1) (turned .next .ensures) _ _ _ _ (took .turn .given .1) _
           (named .number .ensures) _ (counted .wrapping-add-u64 .ensures) _ e _ (added .add .ensures .1),
     )
 

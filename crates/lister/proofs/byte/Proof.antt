@@ -5,6 +5,7 @@ use mathlib.Core.Path.{_≡_, _∙_, sym, ap}
 use mathlib.Core.Bool.{true}
 use lib.ListN.{length, take}
 use borrow.Author.Needs.{needs}
+use Rattle.lent_tables.specs.Entries.{lent}
 use Rattle.lister.specs.Feeding.{ready}
 use Rattle.lister.proofs.Holding.{not-so, so, stays, one-held, as-long, many, still-few, enough}
 use Rattle.lister.proofs.Holding.{not-yet, now-taken}
@@ -44,7 +45,7 @@ returns c =
       (start .pre .0, start .pre .1),
       (
         omega arith,
-        stays (a .from) (a .byte) (a .tables .now) (a .scratch .now) (a .out .now) (a .used)
+        stays (a .from) (a .byte) (lent (a .tables .now) (a .scratch .now)) (a .out .now) (a .used)
             (not-so (a .from .going) (c .if1 .taken)),
       ),
     )
@@ -74,8 +75,8 @@ returns-2 c =
       (still-few (a .from) (a .byte) (start .pre .0) (start .pre .1) _ (held .hold .ensures) no, long held),
       (
         omega (arith, one held),
-        not-yet (a .from) (a .byte) (start .pre .0) (start .pre .1) _ (held .hold .ensures) (a .tables .now)
-            (a .scratch .now) (a .out .now) (a .used) going no,
+        not-yet (a .from) (a .byte) (start .pre .0) (start .pre .1) _ (held .hold .ensures)
+            (lent (a .tables .now) (a .scratch .now)) (a .out .now) (a .used) going no,
       ),
     )
 
@@ -107,8 +108,8 @@ returns-3 c =
       (omega (arith, told .0 .0), ap length (told .0 .1) ∙ long held),
       (
         omega (arith, told .0 .0, told .0 .2, one held, four tested),
-        now-taken (a .from) (a .byte) (start .pre .0) (start .pre .1) _ (held .hold .ensures) (a .tables .now)
-            (a .scratch .now) (a .out .now) (a .used) going (yes tested) _ _ _ _ (told .1),
+        now-taken (a .from) (a .byte) (start .pre .0) (start .pre .1) _ (held .hold .ensures)
+            (lent (a .tables .now) (a .scratch .now)) (a .out .now) (a .used) going (yes tested) _ _ _ (told .1),
       ),
     )
 

@@ -5,8 +5,9 @@ use mathlib.Core.Path.{_≡_}
 use lib.ListN.{length, take}
 use borrow.Author.Needs.{needs}
 use Rattle.listing.proofs.Parts.{counts}
+use Rattle.lent_tables.specs.Entries.{lent}
 use Rattle.lister.specs.Feeding.{fed}
-use Rattle.lister.specs.Buffers.{standingOf, Tells}
+use Rattle.lister.specs.Buffers.{progressOf, Feeds}
 use Rattle.lister.proofs.Holding.{none-fed, one-fed, all-fed}
 use Rattle.lister.proofs.feed.Statement.{statement}
 use Rattle.lister.proofs.feed.Tie as tie
@@ -17,7 +18,7 @@ Inv-loop part tables₀ scratch₀ out₀ at₀ i₀ tables scratch out at i =
     × (at .lister .held < 12) × (length (at .lister .bytes) ≡ 12)
     × (at .used + at .lister .held * 24 ≤ (at₀ .lister .held + i) * 24)
     × (i ≤ length part)
-    × Tells (fed (take i part) (standingOf (at₀ .lister) tables₀ scratch₀)) out₀ 0 at tables scratch out
+    × Feeds (fed (take i part) (progressOf (at₀ .lister) (lent tables₀ scratch₀))) out₀ 0 at (lent tables scratch) out
 
 abbrev μ-loop : tie.MeasureT-loop
 μ-loop part tables₀ scratch₀ out₀ at₀ i₀ tables scratch out at i = length part - i
@@ -33,7 +34,7 @@ loop-holds c =
       start .pre .1,
       search needs,
       search needs,
-      none-fed (a .l) (a .tables .now) (a .scratch .now) (a .out .now),
+      none-fed (a .l) (lent (a .tables .now) (a .scratch .now)) (a .out .now),
     )
 
 shared-slice-read-byte : tie.Need-shared-slice-read-byte Inv-loop μ-loop
@@ -63,8 +64,8 @@ loop-again c =
       b .byte .ensures .0 .1,
       search needs,
       search needs,
-      one-fed (a .l) (a .tables .now) (a .scratch .now) (a .out .now) (a .part .now) (at .i) more (at .at) _ _ _
-          (at .inv .7) (omega (arith, start .pre .2, at .inv .5, more)) _ _ _ _ (b .byte .ensures .1 .1),
+      one-fed (a .l) (lent (a .tables .now) (a .scratch .now)) (a .out .now) (a .part .now) (at .i) more (at .at) _ _
+          (at .inv .7) (omega (arith, start .pre .2, at .inv .5, more)) _ _ _ (b .byte .ensures .1 .1),
     )
 
 same-length : tie.Need-same-length Inv-loop μ-loop
@@ -85,8 +86,8 @@ returns c =
       (at .inv .3, at .inv .4),
       (
         counts fits,
-        all-fed (a .l) (a .tables .now) (a .scratch .now) (a .out .now) (a .part .now) (at .i) (c .loop-test .left)
-            (at .at) _ _ _ (at .inv .7),
+        all-fed (a .l) (lent (a .tables .now) (a .scratch .now)) (a .out .now) (a .part .now) (at .i)
+            (c .loop-test .left) (at .at) _ _ (at .inv .7),
       ),
     )
 

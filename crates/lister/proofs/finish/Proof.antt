@@ -1,5 +1,7 @@
 -- Stopped, nothing held, or the line of 18.
+use mathlib.Core.List.{[]}
 use borrow.Author.Needs.{needs}
+use Rattle.lent_tables.specs.Entries.{lent}
 use Rattle.listing.proofs.Parts.{counts}
 use Rattle.lister.proofs.Holding.{not-so, so}
 use Rattle.lister.proofs.Answering.{stopped-ends, nothing-ends, held-ends}
@@ -10,7 +12,7 @@ returns : tie.Need-returns
 returns c =
     let a = c .before .before .before .before .args in (
       counts (search needs),
-      stopped-ends (a .l) (a .tables .now) (a .out .now) (not-so (a .l .going) (c .if1 .taken)),
+      stopped-ends (a .l) (lent (a .tables .now) []) (a .out .now) (not-so (a .l .going) (c .if1 .taken)),
     )
 
 returns-2 : tie.Need-returns-2
@@ -18,7 +20,7 @@ returns-2 c =
     let on = c .before .before in
     let a = on .before .before .before .before .args in (
       counts (search needs),
-      nothing-ends (a .l) (a .tables .now) (a .out .now) (so (a .l .going) (on .if1 .left)) (c .if2 .taken),
+      nothing-ends (a .l) (lent (a .tables .now) []) (a .out .now) (so (a .l .going) (on .if1 .left)) (c .if2 .taken),
     )
 
 plain-requires : tie.Need-plain-requires
@@ -43,7 +45,7 @@ returns-3 c =
     let start = on .before .before .before .before in
     let a = start .args in (
       counts (search needs),
-      held-ends (a .l) (a .tables .now) (a .out .now) (so (a .l .going) (on .if1 .left)) (some .if2 .left)
+      held-ends (a .l) (lent (a .tables .now) []) (a .out .now) (so (a .l .going) (on .if1 .left)) (some .if2 .left)
           (start .pre .1) _ (said .plain .ensures) _ (who .running .ensures) _ _ (added .ensures .1),
     )
 

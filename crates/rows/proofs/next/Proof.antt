@@ -24,7 +24,7 @@ returns : tie.Need-returns
 returns c =
     let who = c .before in
     let arm = who .before .before in
-    left _ _ _ _ _ _ (arm .before .read .ensures) (arm .match .keys2) (c .stop .ensures) (who .running .ensures)
+    left _ _ _ _ _ (arm .before .read .ensures) (arm .match .keys2) (c .stop .ensures) (who .running .ensures)
 
 call-requires : tie.Need-call-requires
 call-requires c κs = search needs
@@ -42,7 +42,7 @@ returns-2 : tie.Need-returns-2
 returns-2 c =
     let made = c .before .before .before .before .before .before in
     let found = made .before .before .before .before in
-    took _ _ _ _ _ _ _ _ _ (sym (found .before .before .read .ensures) ∙ found .reading .given .1)
+    took _ _ _ _ _ _ _ (sym (found .before .before .read .ensures) ∙ found .reading .given .1)
     (made .call .ensures) (c .running2 .ensures)
 
 pub next-spec : {M : Type 1} → statement M

@@ -2,7 +2,7 @@
 use mathlib.Core.Path.{ap, sym}
 use borrow.Author.Needs.{needs}
 use Rattle.journal.specs.declared.types.Read.{Read}
-use Rattle.rows.specs.Turns.{untaken}
+use Rattle.rows.specs.Taking.{untaken}
 use Rattle.rows.proofs.stop.Statement.{statement}
 use Rattle.rows.proofs.stop.Tie as tie
 
