@@ -8,7 +8,7 @@ use native.Mathlib.Omega.{arith}
 use lib.ListN.{length}
 use Rattle.machine.specs.State.{State}
 use Rattle.machine.specs.Endpoints.{underAbort, wakeFrom}
-use Rattle.machine.specs.Aborts.{Looked, hits, lookAt, look, after, pendingAt, lookUpTo}
+use Rattle.machine.specs.Aborts.{Looked, hits, lookAt, look, afterLook, pendingAt, lookUpTo}
 use Rattle.machine.proofs.Preserved.AbortSteps.{mid-look}
 use Rattle.layout.specs.declared.Field.{Field}
 use Rattle.layout.specs.declared.Part.{Part}
@@ -17,11 +17,11 @@ use Rattle.layout.specs.Shows.{Shows}
 use Rattle.store.specs.Steps.{Shown, Does, Tells}
 use Rattle.store.specs.Store.{IsThread, IsEndpoint}
 use Rattle.store.specs.Readings.{endpointIn, threadIn}
-use Rattle.queues.specs.Queues.{Waits, passingAt}
+use Rattle.queues.specs.Queues.{InEndpoint, passingAt}
 use Rattle.debts.specs.Debts.{Says, underIn}
 use Rattle.endings.proofs.Ends.{shown-for}
 use Rattle.endings.proofs.Conditions.{pending-queued, pending-endpoint, queued-waits}
-use Rattle.aborts.specs.Aborts.{Cursor, Within, looked, Looks}
+use Rattle.aborts.specs.Aborts.{Cursor, InMid, looked, LooksOn}
 
 -- One look.
 
@@ -29,7 +29,7 @@ module _ {e w : ℕ} {s : State} (C : Cursor e w s) where
   cursor-endpoint : e ≤ 63
   cursor-endpoint = pending-endpoint (C .mid) (C .first)
 
-  cursor-waits : Waits w e s
+  cursor-waits : InEndpoint w e s
   cursor-waits = queued-waits (C .mid) (inl (pending-queued (C .mid) (C .first))) cursor-endpoint
 
 module _ {m : List ℕ} {e w : ℕ} where
@@ -39,7 +39,7 @@ module _ {m : List ℕ} {e w : ℕ} where
   pub endpoint-asked : Shown m (Cursor e w) → Shown m (IsEndpoint e)
   endpoint-asked S = shown-for S (λ s C. cursor-endpoint C)
 
-  pub waits-asked : Shown m (Cursor e w) → Shown m (Waits w e)
+  pub waits-asked : Shown m (Cursor e w) → Shown m (InEndpoint w e)
   waits-asked S = shown-for S (λ s C. cursor-waits C)
 
   module _ {b : ℕ} {u : Bool} (B : Tells m (IsThread w) b (threadIn Field.Badge w))
@@ -50,7 +50,7 @@ module _ {m : List ℕ} {e w : ℕ} where
         ∙ ap (λ (x : ℕ). underAbort x (s .endpoints e .abort)) (B .tells s M (cursor-waits C .thread))
 
     pub look-removed :
-        {n : List ℕ} → u ≡ true → Does m n (Waits w e) (wakeFrom e w 3 0 0) → Does m n (Cursor e w) (look e w)
+        {n : List ℕ} → u ≡ true → Does m n (InEndpoint w e) (wakeFrom e w 3 0 0) → Does m n (Cursor e w) (look e w)
     unfolding look lookAt hits
     look-removed {n} h D =
         record {
@@ -59,7 +59,7 @@ module _ {m : List ℕ} {e w : ℕ} where
         }
 
     pub look-kept :
-        {n : List ℕ} → u ≡ false → Does m n (Waits w e) (passingAt w e) → Does m n (Cursor e w) (look e w)
+        {n : List ℕ} → u ≡ false → Does m n (InEndpoint w e) (passingAt w e) → Does m n (Cursor e w) (look e w)
     unfolding look lookAt hits
     look-kept {n} h D =
         record {
@@ -74,11 +74,11 @@ nothing-left [] k z = refl
 nothing-left (w ∷ l) k z = absurd (omega arith)
 
 -- What is pending has a first, of link r.
-pub record Begun (r : ℕ) (l : List ℕ) : Type 0 where
+pub record HasFirst (r : ℕ) (l : List ℕ) : Type 0 where
   pub rest : List ℕ
   pub whole : l ≡ (r - 1) ∷ rest
 
-pub some-left : (l : List ℕ) {r : ℕ} → r ≡ firstOf l → (r ≡ 0 → ⊥) → Begun r l
+pub some-left : (l : List ℕ) {r : ℕ} → r ≡ firstOf l → (r ≡ 0 → ⊥) → HasFirst r l
 some-left [] k n = absurd (n k)
 some-left (w ∷ l) {r} k n =
     let j : w ≡ r - 1 = omega arith in
@@ -97,16 +97,16 @@ looks-none (suc n) e s k = ap (λ (l : List ℕ). lookUpTo (suc n) l e s) k
 
 looks-more :
     (n e w : ℕ) (l : List ℕ) (s : State) → 0 < n → pendingAt e s ≡ w ∷ l
-    → looked e n s ≡ after (record { waiter = w; removed = hits e w s }) (looked e (n - 1) (look e w s))
+    → looked e n s ≡ afterLook (record { waiter = w; removed = hits e w s }) (looked e (n - 1) (look e w s))
 unfolding lookUpTo
 looks-more zero e w l s h k = absurd (omega arith)
 looks-more (suc n) e w l s h k =
     let j : n ≡ suc n - 1 = omega arith in
     ap (λ (x : List ℕ). lookUpTo (suc n) x e s) k
-    ∙ ap (λ (x : ℕ). after (record { waiter = w; removed = hits e w s }) (looked e x (look e w s))) j
+    ∙ ap (λ (x : ℕ). afterLook (record { waiter = w; removed = hits e w s }) (looked e x (look e w s))) j
 
 pub looks-few : (n : ℕ) (l : List ℕ) (e : ℕ) (s : State) → length (lookUpTo n l e s .looks) ≤ n
-unfolding lookUpTo after
+unfolding lookUpTo afterLook
 looks-few zero l e s = omega arith
 looks-few (suc n) [] e s = omega arith
 looks-few (suc n) (w ∷ l) e s =
@@ -116,17 +116,17 @@ looks-few (suc n) (w ∷ l) e s =
 pub record Rest (m : List ℕ) (e allowance left : ℕ) (s₀ : State) : Type 0 where
   pub state : State
   pub shows : Shows m state
-  pub within : Within e state
+  pub within : InMid e state
   pub same : looked e allowance s₀ .state ≡ looked e left state .state
   pub counts : length (looked e allowance s₀ .looks) ≡ (allowance - left) + length (looked e left state .looks)
 
 -- The loop of looks, begun at m₀ and now at m, has so many left.
-pub record Left (m₀ m : List ℕ) (e allowance left : ℕ) : Type 0 where
+pub record LooksLeft (m₀ m : List ℕ) (e allowance left : ℕ) : Type 0 where
   pub bound : left ≤ allowance
-  pub here : Shown m (Within e)
-  pub rest : (s : State) → Shows m₀ s → Within e s → Rest m e allowance left s
+  pub here : Shown m (InMid e)
+  pub rest : (s : State) → Shows m₀ s → InMid e s → Rest m e allowance left s
 
-pub left-start : {m : List ℕ} {e a : ℕ} → Shown m (Within e) → Left m m e a a
+pub left-start : {m : List ℕ} {e a : ℕ} → Shown m (InMid e) → LooksLeft m m e a a
 left-start {m} {e} {a} S =
     record {
       bound = omega arith;
@@ -136,10 +136,10 @@ left-start {m} {e} {a} S =
     }
 
 -- The looks are over.
-module _ {m₀ m : List ℕ} {e a n : ℕ} (L : Left m₀ m e a n) where
+module _ {m₀ m : List ℕ} {e a n : ℕ} (L : LooksLeft m₀ m e a n) where
   looks-end :
-      {r : ℕ} → r ≡ a - n → ((s : State) → Shows m s → Within e s → looked e n s ≡ record { state = s; looks = [] })
-      → Looks m₀ e a r m
+      {r : ℕ} → r ≡ a - n → ((s : State) → Shows m s → InMid e s → looked e n s ≡ record { state = s; looks = [] })
+      → LooksOn m₀ e a r m
   looks-end {r} k over =
       record {
         shows = λ s M h.
@@ -153,20 +153,20 @@ module _ {m₀ m : List ℕ} {e a n : ℕ} (L : Left m₀ m e a n) where
             omega (arith, R .counts);
       }
 
-  pub looks-done : n ≤ 0 → Looks m₀ e a a m
+  pub looks-done : n ≤ 0 → LooksOn m₀ e a a m
   looks-done h =
       let z : n ≡ 0 = omega arith in
       looks-end (omega arith)
       (λ s M h. subst (λ (k : ℕ). looked e k s ≡ record { state = s; looks = [] }) (sym z) (looks-zero e s))
 
   module _ {r : ℕ} (T : Tells m (IsEndpoint e) r (endpointIn Part.Cursor e)) where
-    pub looks-out : r ≡ 0 → Looks m₀ e a (a - n) m
+    pub looks-out : r ≡ 0 → LooksOn m₀ e a (a - n) m
     looks-out z =
         looks-end refl
         (λ s M h. looks-none n e s (nothing-left (pendingAt e s) (T .tells s M (h .endpoint)) z))
 
     module _ (z : r ≡ 0 → ⊥) where
-      at-cursor : (s : State) → Shows m s → Within e s → Cursor e (r - 1) s
+      at-cursor : (s : State) → Shows m s → InMid e s → Cursor e (r - 1) s
       at-cursor s M h =
           let B = some-left (pendingAt e s) (T .tells s M (h .endpoint)) z in
           record { mid = h .mid; rest = B .rest; first = B .whole }
@@ -176,13 +176,13 @@ module _ {m₀ m : List ℕ} {e a n : ℕ} (L : Left m₀ m e a n) where
           let S = L .here in
           record { state = S .state; shows = S .shows; holds = at-cursor (S .state) (S .shows) (S .holds) }
 
-      within-next : {s : State} → Within e s → Cursor e (r - 1) s → Within e (look e (r - 1) s)
+      within-next : {s : State} → InMid e s → Cursor e (r - 1) s → InMid e (look e (r - 1) s)
       within-next {s} h C =
           record { mid = mid-look e (r - 1) (C .rest) s (h .mid) (C .first); endpoint = h .endpoint }
 
       pub looks-again :
-          {o : List ℕ} → 0 < n → Does m o (Cursor e (r - 1)) (look e (r - 1)) → Left m₀ o e a (n - 1)
-      unfolding after
+          {o : List ℕ} → 0 < n → Does m o (Cursor e (r - 1)) (look e (r - 1)) → LooksLeft m₀ o e a (n - 1)
+      unfolding afterLook
       looks-again {o} h D =
           record {
             bound = omega (arith, L .bound);

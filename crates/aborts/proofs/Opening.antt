@@ -21,18 +21,18 @@ use Rattle.layout.specs.declared.Part.{Part}
 use Rattle.layout.specs.Words.{statusCode, abortCode}
 use Rattle.layout.specs.Shows.{Shows}
 use Rattle.store.specs.Steps.{Shown, Does, Tells}
-use Rattle.store.specs.Store.{IsThread, IsEndpoint, owing, Owes}
+use Rattle.store.specs.Store.{IsThread, IsEndpoint, owing, SetsDebt}
 use Rattle.store.specs.Readings.{endpointIn}
 use Rattle.queues.specs.Queues.{Chooses}
-use Rattle.debts.specs.Debts.{Says, Calls, Joins, underIn, notedIn}
+use Rattle.debts.specs.Debts.{Says, InCall, JoinsAbort, underIn, notedIn}
 use Rattle.endings.specs.Results.{Calling, Performs, Accepts}
 use Rattle.endings.proofs.Ends.{refused, performs-as, performs-for, performs-after, does-for, shown-for}
 use Rattle.endings.proofs.Conditions.{mid-chooses, running-thread, running-calls, running-joins}
-use Rattle.aborts.specs.Aborts.{Open, Clear, Bare, Owing, Joining, Continues, beginning, joining, unnoted}
+use Rattle.aborts.specs.Aborts.{Open, Clear, Bare, Owing, Joining, Continues, ownBegun, joinedOn, unnoted}
 
 -- Joining.
 
-joining-joins : {t e : ℕ} {s : State} → Joining t e s → Joins t e s
+joining-joins : {t e : ℕ} {s : State} → Joining t e s → JoinsAbort t e s
 joining-joins J = running-joins (J .opened .mid) (J .opened .runs) (J .stands)
 
 join-runs : (t e : ℕ) (s : State) → join t e s .runs ≡ s .runs
@@ -54,10 +54,10 @@ joined-open {t} {e} {s} J =
     }
 
 module _ {m : List ℕ} {t e : ℕ} where
-  pub joins-asked : Shown m (Joining t e) → Shown m (Joins t e)
+  pub joins-asked : Shown m (Joining t e) → Shown m (JoinsAbort t e)
   joins-asked S = shown-for S (λ s J. joining-joins J)
 
-  module _ {n : List ℕ} (D : Does m n (Joins t e) (join t e)) where
+  module _ {n : List ℕ} (D : Does m n (JoinsAbort t e) (join t e)) where
     pub joined-asked : Shown m (Joining t e) → Shown n (Open t e)
     joined-asked S =
         record {
@@ -68,7 +68,7 @@ module _ {m : List ℕ} {t e : ℕ} where
 
     pub own-joins :
         {o : List ℕ} {r : Answer} (a : ℕ) → Continues n 0 r (Open t e) (workOwn t e a) o
-        → Performs m o r (Joining t e) (joining t e a)
+        → Performs m o r (Joining t e) (joinedOn t e a)
     own-joins a C =
         performs-after (does-for D (λ s J. joining-joins J)) (λ s M J. joined-open J) (C .performs [] refl)
 
@@ -109,7 +109,7 @@ module _ {m : List ℕ} {t e b : ℕ} where
         record { state = S .state; shows = S .shows; holds = bare-at (S .state) (S .shows) (S .holds) }
 
     pub opens-none :
-        {n : List ℕ} {x : Answer} (a : ℕ) → Continues m 0 x (Bare t e) (beginning t e b a) n
+        {n : List ℕ} {x : Answer} (a : ℕ) → Continues m 0 x (Bare t e) (ownBegun t e b a) n
         → Performs m n x (Owing t e b) (abortOpen t e a b)
     unfolding abortOpen abortFrom
     opens-none a C =
@@ -131,18 +131,18 @@ module _ {m : List ℕ} {t e b : ℕ} where
           }
 
       pub opens-same :
-          {n : List ℕ} {x : Answer} (a : ℕ) → Performs m n x (Joining t e) (joining t e a)
+          {n : List ℕ} {x : Answer} (a : ℕ) → Performs m n x (Joining t e) (joinedOn t e a)
           → Performs m n x (Owing t e b) (abortOpen t e a b)
       unfolding abortOpen abortFrom underBadge
       opens-same a F =
           performs-as (performs-for F (λ s M W. owing-joins W (same-badge s M W)))
           (λ s M W. go s (same-badge s M W))
         where
-          go : (s : State) → underAbort b (s .endpoints e .abort) ≡ true → joining t e a s ≡ abortOpen t e a b s
+          go : (s : State) → underAbort b (s .endpoints e .abort) ≡ true → joinedOn t e a s ≡ abortOpen t e a b s
           go s h = case (s .endpoints e .abort) refl h
             where
               case : (k : Option Abort) → s .endpoints e .abort ≡ k → underAbort b k ≡ true
-                  → joining t e a s ≡ abortFrom k t e a b s
+                  → joinedOn t e a s ≡ abortFrom k t e a b s
               case none i h = absurd (clash h refl)
               case (some x) i h = ap (λ (q : Bool). underBadge q t e a b s) (sym h)
 
@@ -221,7 +221,7 @@ abbrev Numbers : ℕ → ℕ → ℕ → Type 0
 Numbers e a b = (e ≤ 63) × (a ≤ 65535) × (b < 2 ^ 28)
 
 module _ {m : List ℕ} {t e a b : ℕ} where
-  pub calls-asked : Shown m (Calling t (Numbers e a b)) → Shown m (Calls t e)
+  pub calls-asked : Shown m (Calling t (Numbers e a b)) → Shown m (InCall t e)
   calls-asked S = shown-for S (λ s C. running-calls (sound-mid (C .sound)) (C .runs) (C .numbers .0))
 
   pub note-asked : Shown m (Calling t (Numbers e a b)) → Shown m (IsThread t)
@@ -259,7 +259,7 @@ module _ {m : List ℕ} {t e a b : ℕ} where
             status = live-at s M C;
           }
 
-      module _ {o : List ℕ} (D : Does m o (Calls t e) (dropOther t e b)) where
+      module _ {o : List ℕ} (D : Does m o (InCall t e) (dropOther t e b)) where
         pub owing-asked : Shown m (Calling t (Numbers e a b)) → Shown o (Owing t e b)
         owing-asked S =
             let C = S .holds in
@@ -287,14 +287,14 @@ has-note e b nothing h = absurd (clash h refl)
 has-note e b (owns f) h = absurd (clash h refl)
 has-note e b (noted f c) h = (f, c, refl)
 
-forgets : {m n : List ℕ} {t : ℕ} → Owes m t 0 0 n → Does m n (IsThread t) (owing t nothing)
+forgets : {m n : List ℕ} {t : ℕ} → SetsDebt m t 0 0 n → Does m n (IsThread t) (owing t nothing)
 forgets O = O .does nothing refl refl
 
-module _ {m : List ℕ} {t e a b : ℕ} {u : Bool} (U : Says m (Calls t e) u (notedIn t e b)) where
+module _ {m : List ℕ} {t e a b : ℕ} {u : Bool} (U : Says m (InCall t e) u (notedIn t e b)) where
   says-note : (s : State) → Shows m s → Calling t (Numbers e a b) s → u ≡ notedIn t e b s
   says-note s M C = U .says s M (running-calls (sound-mid (C .sound)) (C .runs) (C .numbers .0))
 
-  module _ (z : u ≡ true) {n : List ℕ} (O : Owes m t 0 0 n) where
+  module _ (z : u ≡ true) {n : List ℕ} (O : SetsDebt m t 0 0 n) where
     forgotten : (s : State) → Shows m s → Calling t (Numbers e a b) s → Chooses (owing t nothing s)
     forgotten s M C =
         let h = has-note e b (s .threads t .debt) (sym (says-note s M C) ∙ z) in

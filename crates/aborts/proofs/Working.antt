@@ -21,12 +21,12 @@ use Rattle.store.specs.Steps.{Shown, Does, Tells}
 use Rattle.store.specs.Store.{IsEndpoint}
 use Rattle.store.specs.Readings.{endpointIn}
 use Rattle.queues.specs.Queues.{Chooses}
-use Rattle.debts.specs.Debts.{Debtor, Endable, Ends, Begins}
+use Rattle.debts.specs.Debts.{Debtor, Endable, EndsAbort, BeginsAbort}
 use Rattle.endings.specs.Results.{Performs, Accepts}
 use Rattle.endings.proofs.Ends.{performs-as, performs-for, performs-after, does-for, shown-for}
 use Rattle.endings.proofs.Conditions.{mid-chooses, running-debtor, mid-endable, running-begins}
-use Rattle.aborts.specs.Aborts.{Within, Open, Clear, Bare, looked, Looks, Continues, ending, beginning}
-use Rattle.aborts.proofs.Looks.{nothing-left, Begun, some-left, looks-few}
+use Rattle.aborts.specs.Aborts.{InMid, Open, Clear, Bare, looked, LooksOn, Continues, ownEnded, ownBegun}
+use Rattle.aborts.proofs.Looks.{nothing-left, HasFirst, some-left, looks-few}
 
 -- A call's result for one state: the answer is its, and the memory shows its state.
 
@@ -48,14 +48,14 @@ result-as {m} {a} k g = subst (λ (x : Result). Gives a m x) k g
 
 -- What the steps ask.
 
-open-within : {t e : ℕ} {s : State} → Open t e s → Within e s
+open-within : {t e : ℕ} {s : State} → Open t e s → InMid e s
 open-within O = record { mid = O .mid; endpoint = O .endpoint }
 
 open-chooses : {t e : ℕ} {s : State} → Open t e s → Chooses s
 open-chooses O = mid-chooses (O .mid)
 
 module _ {m : List ℕ} {t e : ℕ} where
-  pub within-asked : Shown m (Open t e) → Shown m (Within e)
+  pub within-asked : Shown m (Open t e) → Shown m (InMid e)
   within-asked S = shown-for S (λ s O. open-within O)
 
   pub chooses-asked : Shown m (Open t e) → Shown m Chooses
@@ -88,7 +88,7 @@ module _ {m n : List ℕ} {t e : ℕ} (D : Does m n (Debtor t) (dropDebt t)) whe
         holds = mid-endable (dropped-mid O) (O .endpoint);
       }
 
-  module _ {o : List ℕ} (E : Ends n e 1 o) where
+  module _ {o : List ℕ} (E : EndsAbort n e 1 o) where
     ends-own : Does m o (Open t e) (endedOwn t e)
     ends-own =
         record {
@@ -110,7 +110,7 @@ module _ {m n : List ℕ} {t e : ℕ} (D : Does m n (Debtor t) (dropDebt t)) whe
 module _ {m : List ℕ} {e r : ℕ} (T : Tells m (IsEndpoint e) r (endpointIn Part.Cursor e)) where
   pub own-broken :
       {n : List ℕ} {t k : ℕ} {a b : Answer} → (r ≡ 0 → ⊥) → a ≡ counted 2 k → Accepts m a b Chooses n
-      → Continues m k b (Open t e) (ending t e) n
+      → Continues m k b (Open t e) (ownEnded t e) n
   unfolding ended
   own-broken {n} {t} {k} {a} z i A =
       record {
@@ -119,15 +119,15 @@ module _ {m : List ℕ} {e r : ℕ} (T : Tells m (IsEndpoint e) r (endpointIn Pa
             (λ s M O. go looks j s (some-left (pendingAt e s) (T .tells s M (O .endpoint)) z));
       }
     where
-      go : (looks : List Look) → length looks ≡ k → (s : State) → Begun r (pendingAt e s)
-          → accept a looks s ≡ ending t e looks s
+      go : (looks : List Look) → length looks ≡ k → (s : State) → HasFirst r (pendingAt e s)
+          → accept a looks s ≡ ownEnded t e looks s
       go looks j s B =
           ap (λ (x : Answer). accept x looks s) (i ∙ ap (counted 2) (sym j))
           ∙ ap (λ (l : List ℕ). ended l t e looks s) (sym (B .whole))
 
   pub own-ended :
-      {n o q : List ℕ} {t k : ℕ} {a b : Answer} → r ≡ 0 → Does m n (Debtor t) (dropDebt t) → Ends n e 1 o
-      → a ≡ counted 0 k → Accepts o a b Chooses q → Continues m k b (Open t e) (ending t e) q
+      {n o q : List ℕ} {t k : ℕ} {a b : Answer} → r ≡ 0 → Does m n (Debtor t) (dropDebt t) → EndsAbort n e 1 o
+      → a ≡ counted 0 k → Accepts o a b Chooses q → Continues m k b (Open t e) (ownEnded t e) q
   unfolding ended
   own-ended {n} {o} {q} {t} {k} {a} z D E i A =
       record {
@@ -138,7 +138,7 @@ module _ {m : List ℕ} {e r : ℕ} (T : Tells m (IsEndpoint e) r (endpointIn Pa
       }
     where
       go : (looks : List Look) → length looks ≡ k → (s : State) → pendingAt e s ≡ []
-          → accept a looks (endedOwn t e s) ≡ ending t e looks s
+          → accept a looks (endedOwn t e s) ≡ ownEnded t e looks s
       go looks j s p =
           ap (λ (x : Answer). accept x looks (endedOwn t e s)) (i ∙ ap (counted 0) (sym j))
           ∙ ap (λ (l : List ℕ). ended l t e looks s) (sym p)
@@ -155,13 +155,13 @@ open-looked {t} {e} {s} a O =
       status = F .entry e .status ∙ O .status;
     }
 
-module _ {m n : List ℕ} {e a k : ℕ} (L : Looks m e a k n) where
-  pub looks-bound : Shown m (Within e) → k ≤ a
+module _ {m n : List ℕ} {e a k : ℕ} (L : LooksOn m e a k n) where
+  pub looks-bound : Shown m (InMid e) → k ≤ a
   looks-bound S =
       let s = S .state in
       omega (arith, L .counts s (S .shows) (S .holds), looks-few a (pendingAt e s) e s)
 
-  pub rest-small : Shown m (Within e) → a ≤ 65535 → k + (a - k) ≤ 65535
+  pub rest-small : Shown m (InMid e) → a ≤ 65535 → k + (a - k) ≤ 65535
   rest-small S h = omega (arith, looks-bound S)
 
   pub looked-asked : {t : ℕ} → Shown m (Open t e) → Shown n (Open t e)
@@ -173,7 +173,7 @@ module _ {m n : List ℕ} {e a k : ℕ} (L : Looks m e a k n) where
       }
 
   pub own-works :
-      {o : List ℕ} {t earlier : ℕ} {r : Answer} → Continues n (earlier + k) r (Open t e) (ending t e) o
+      {o : List ℕ} {t earlier : ℕ} {r : Answer} → Continues n (earlier + k) r (Open t e) (ownEnded t e) o
       → Continues m earlier r (Open t e) (workOwn t e a) o
   unfolding workOwn lookedOwn
   own-works {o} {t} {earlier} {r} C =
@@ -185,7 +185,7 @@ module _ {m n : List ℕ} {e a k : ℕ} (L : Looks m e a k n) where
       }
     where
       rest : (looks : List Look) → length looks ≡ earlier → (s : State) → Shows m s → Open t e s
-          → Performs n o r (Open t e) (ending t e (looks ++ looked e a s .looks))
+          → Performs n o r (Open t e) (ownEnded t e (looks ++ looked e a s .looks))
       rest looks j s M O =
           let i = L .counts s M (open-within O) in
           C .performs (looks ++ looked e a s .looks)
@@ -194,7 +194,7 @@ module _ {m n : List ℕ} {e a k : ℕ} (L : Looks m e a k n) where
 
 -- The call's own abort begins.
 
-bare-begins : {t e : ℕ} {s : State} → Bare t e s → Begins t e s
+bare-begins : {t e : ℕ} {s : State} → Bare t e s → BeginsAbort t e s
 bare-begins B = let O = B .clear .opened in running-begins (O .mid) (O .runs) (O .endpoint)
 
 begun-open : {t e b : ℕ} {s : State} → b < 2 ^ 28 → Bare t e s → Open t e (begin t e b s)
@@ -210,13 +210,13 @@ begun-open {t} {e} {b} {s} h B =
     }
 
 module _ {m : List ℕ} {t e : ℕ} where
-  pub begins-asked : Shown m (Bare t e) → Shown m (Begins t e)
+  pub begins-asked : Shown m (Bare t e) → Shown m (BeginsAbort t e)
   begins-asked S = shown-for S (λ s B. bare-begins B)
 
   pub bare-chooses : Shown m (Bare t e) → Shown m Chooses
   bare-chooses S = shown-for S (λ s B. open-chooses (B .clear .opened))
 
-  module _ {n : List ℕ} {b : ℕ} (D : Does m n (Begins t e) (begin t e b)) (h : b < 2 ^ 28) where
+  module _ {n : List ℕ} {b : ℕ} (D : Does m n (BeginsAbort t e) (begin t e b)) (h : b < 2 ^ 28) where
     pub begun-asked : Shown m (Bare t e) → Shown n (Open t e)
     begun-asked S =
         record {
@@ -227,7 +227,7 @@ module _ {m : List ℕ} {t e : ℕ} where
 
     pub own-begins :
         {o : List ℕ} {k : ℕ} {r : Answer} (a : ℕ) → Continues n k r (Open t e) (workOwn t e a) o
-        → Continues m k r (Bare t e) (beginning t e b a) o
+        → Continues m k r (Bare t e) (ownBegun t e b a) o
     own-begins a C =
         record {
           performs = λ looks j.
@@ -250,7 +250,7 @@ module _ {m n : List ℕ} {t e k : ℕ} (b : ℕ) where
       }
 
   pub after-begins :
-      {r : Answer} (left : ℕ) → (left ≡ 0 → ⊥) → Continues m k r (Bare t e) (beginning t e b left) n
+      {r : Answer} (left : ℕ) → (left ≡ 0 → ⊥) → Continues m k r (Bare t e) (ownBegun t e b left) n
       → Continues m k r (Bare t e) (beginAfter left t e b) n
   unfolding beginAfter
   after-begins zero z C = absurd (z refl)
@@ -288,7 +288,7 @@ ended-bare {t} {e} {s} C =
     }
 
 module _ {m : List ℕ} {t e : ℕ} where
-  pub clear-within : Shown m (Clear t e) → Shown m (Within e)
+  pub clear-within : Shown m (Clear t e) → Shown m (InMid e)
   clear-within S = shown-for S (λ s C. open-within (C .opened))
 
   pub clear-endpoint : Shown m (Clear t e) → Shown m (IsEndpoint e)
@@ -300,7 +300,7 @@ module _ {m : List ℕ} {t e : ℕ} where
   pub other-endable : Shown m (Clear t e) → Shown m (Endable e)
   other-endable S = shown-for S (λ s C. clear-endable C)
 
-  pub bare-asked : {n : List ℕ} → Ends m e 1 n → Shown m (Clear t e) → Shown n (Bare t e)
+  pub bare-asked : {n : List ℕ} → EndsAbort m e 1 n → Shown m (Clear t e) → Shown n (Bare t e)
   bare-asked E S =
       record {
         state = endAbort live e (S .state);
@@ -308,7 +308,7 @@ module _ {m : List ℕ} {t e : ℕ} where
         holds = ended-bare (S .holds);
       }
 
-module _ {m n : List ℕ} {t e a k : ℕ} (L : Looks m e a k n) where
+module _ {m n : List ℕ} {t e a k : ℕ} (L : LooksOn m e a k n) where
   pub looked-clear : Shown m (Clear t e) → Shown n (Clear t e)
   looked-clear S =
       record {
@@ -340,14 +340,14 @@ module _ {m n : List ℕ} {t e a k : ℕ} (L : Looks m e a k n) where
         (go w (some-left (pendingAt e (w .state)) (N .1) z) (N .2))
         (at-state (A .performs (w .looks)) (N .0) (open-chooses (open-looked a (C .opened)))))
       where
-        go : (w : Looked) → Begun r (pendingAt e (w .state)) → k ≡ length (w .looks)
+        go : (w : Looked) → HasFirst r (pendingAt e (w .state)) → k ≡ length (w .looks)
             → accept x (w .looks) (w .state) ≡ lookedOther t e a b w
         go w B j =
             ap (λ (v : Answer). accept v (w .looks) (w .state)) (i ∙ ap (counted 2) j)
             ∙ ap (λ (l : List ℕ). finished l t e a b w) (sym (B .whole))
 
     pub other-ended :
-        {o q : List ℕ} {x : Answer} (b : ℕ) → r ≡ 0 → Ends n e 1 o
+        {o q : List ℕ} {x : Answer} (b : ℕ) → r ≡ 0 → EndsAbort n e 1 o
         → Continues o k x (Bare t e) (beginAfter (a - k) t e b) q → Performs m q x (Clear t e) (workOther t e a b)
     unfolding workOther lookedOther finished
     other-ended {o} {q} {x} b z E C =

@@ -20,7 +20,7 @@ pub record Cursor (e w : ℕ) (s : State) : Type 0 where
   pub first : pendingAt e s ≡ w ∷ rest
 
 -- In the middle of a call, with an endpoint in range.
-pub record Within (e : ℕ) (s : State) : Type 0 where
+pub record InMid (e : ℕ) (s : State) : Type 0 where
   pub mid : Mid s
   pub endpoint : e ≤ 63
 
@@ -58,9 +58,9 @@ abbrev pub looked : ℕ → ℕ → State → Looked
 looked e a s = lookUpTo a (pendingAt e s) e s
 
 -- The memory shows the state after the looks, and r is how many they were.
-pub record Looks (m : List ℕ) (e a r : ℕ) (m′ : List ℕ) : Type 0 where
-  pub shows : (s : State) → Shows m s → Within e s → Shows m′ (looked e a s .state)
-  pub counts : (s : State) → Shows m s → Within e s → r ≡ length (looked e a s .looks)
+pub record LooksOn (m : List ℕ) (e a r : ℕ) (m′ : List ℕ) : Type 0 where
+  pub shows : (s : State) → Shows m s → InMid e s → Shows m′ (looked e a s .state)
+  pub counts : (s : State) → Shows m s → InMid e s → r ≡ length (looked e a s .looks)
 
 -- The rest of the call, f, after any looks that were as many as n.
 pub record Continues (m : List ℕ) (n : ℕ) (r : Answer) (P : State → Type 0) (f : List Look → State → Result)
@@ -68,16 +68,16 @@ pub record Continues (m : List ℕ) (n : ℕ) (r : Answer) (P : State → Type 0
   pub performs : (looks : List Look) → length looks ≡ n → Performs m m′ r P (f looks)
 
 -- The call's own abort ends where nothing is left, or is broken off.
-abbrev pub ending : ℕ → ℕ → List Look → State → Result
-ending t e looks s = ended (pendingAt e s) t e looks s
+abbrev pub ownEnded : ℕ → ℕ → List Look → State → Result
+ownEnded t e looks s = ended (pendingAt e s) t e looks s
 
 -- The call's own abort begins, and works with the allowance a.
-abbrev pub beginning : ℕ → ℕ → ℕ → ℕ → List Look → State → Result
-beginning t e b a looks s = workOwn t e a looks (begin t e b s)
+abbrev pub ownBegun : ℕ → ℕ → ℕ → ℕ → List Look → State → Result
+ownBegun t e b a looks s = workOwn t e a looks (begin t e b s)
 
 -- The abort that stands is joined, and works with the allowance a.
-abbrev pub joining : ℕ → ℕ → ℕ → State → Result
-joining t e a s = workOwn t e a [] (join t e s)
+abbrev pub joinedOn : ℕ → ℕ → ℕ → State → Result
+joinedOn t e a s = workOwn t e a [] (join t e s)
 
 -- The call of a thread with no note of this endpoint and badge.
 abbrev pub unnoted : ℕ → ℕ → ℕ → ℕ → State → Result

@@ -6,8 +6,8 @@ ghost use mathlib.Core.Path.{_≡_};
 ghost use Rattle.machine.specs.Aborts.{look, workOwn, beginAfter, workOther, abortOpen, abort};
 ghost use Rattle.store.specs.Steps.{Shown, Does};
 ghost use Rattle.endings.specs.Results.{Calling, Performs};
-ghost use Rattle.aborts.specs.Aborts.{Cursor, Within, Open, Clear, Bare, Owing, Joining, Looks};
-ghost use Rattle.aborts.specs.Aborts.{Continues, ending, beginning, joining, unnoted};
+ghost use Rattle.aborts.specs.Aborts.{Cursor, InMid, Open, Clear, Bare, Owing, Joining, LooksOn};
+ghost use Rattle.aborts.specs.Aborts.{Continues, ownEnded, ownBegun, joinedOn, unnoted};
 use layout::Field;
 use layout::Part;
 use machine::Answer;
@@ -31,8 +31,8 @@ fn look(tables: &mut [u32], e: usize, w: usize)
 
 // As many looks as the allowance lets, until nothing is left to look at; how many they were.
 fn look_up_to(tables: &mut [u32], e: usize, allowance: u32) -> u32
-    requires { ⌜ Shown (now tables) (Within e) ⌝ }
-    ensures { λ r. ⌜ Looks (now (tables .entry)) e allowance r (now (tables .exit)) ⌝ }
+    requires { ⌜ Shown (now tables) (InMid e) ⌝ }
+    ensures { λ r. ⌜ LooksOn (now (tables .entry)) e allowance r (now (tables .exit)) ⌝ }
 {
     let mut left = allowance;
     while 0 < left {
@@ -50,15 +50,15 @@ fn look_up_to(tables: &mut [u32], e: usize, allowance: u32) -> u32
 // is broken off.
 fn end_own(tables: &mut [u32], t: usize, e: usize, count: u32) -> Answer
     requires { ⌜ Shown (now tables) (Open t e) ⌝ }
-    ensures { λ r. ⌜ Continues (now (tables .entry)) count r (Open t e) (ending t e) (now (tables .exit)) ⌝ }
+    ensures { λ r. ⌜ Continues (now (tables .entry)) count r (Open t e) (ownEnded t e) (now (tables .exit)) ⌝ }
 {
     let cursor = store::endpoint(tables, Part::Cursor, e);
     if cursor != 0 {
-        return endings::accept(tables, endings::counted(2, count));
+        return endings::accept(tables, machine::counted(2, count));
     }
     debts::drop_debt(tables, t);
     debts::end_abort(tables, e, LIVE);
-    endings::accept(tables, endings::counted(0, count))
+    endings::accept(tables, machine::counted(0, count))
 }
 
 // The call's own abort works; the call's earlier looks are counted with its own.
@@ -82,7 +82,7 @@ fn begin_own(
 ) -> Answer
     requires { ⌜ Shown (now tables) (Bare t e) × (earlier + allowance ≤ 65535) × (badge < 2 ^ 28) ⌝ }
     ensures { λ r. ⌜ Continues (now (tables .entry)) earlier r (Bare t e)
-        (beginning t e badge allowance) (now (tables .exit)) ⌝ }
+        (ownBegun t e badge allowance) (now (tables .exit)) ⌝ }
 {
     debts::begin(tables, t, e, badge);
     work_own(tables, t, e, allowance, earlier)
@@ -102,7 +102,7 @@ fn begin_after(
         (beginAfter left t e badge) (now (tables .exit)) ⌝ }
 {
     if left == 0 {
-        return endings::accept(tables, endings::counted(2, earlier));
+        return endings::accept(tables, machine::counted(2, earlier));
     }
     begin_own(tables, t, e, left, badge, earlier)
 }
@@ -116,7 +116,7 @@ fn work_other(tables: &mut [u32], t: usize, e: usize, allowance: u32, badge: u32
     let n = look_up_to(tables, e, allowance);
     let pending = store::endpoint(tables, Part::Cursor, e);
     if pending != 0 {
-        return endings::accept(tables, endings::counted(2, n));
+        return endings::accept(tables, machine::counted(2, n));
     }
     debts::end_abort(tables, e, LIVE);
     let rest = allowance - n;
@@ -126,7 +126,7 @@ fn work_other(tables: &mut [u32], t: usize, e: usize, allowance: u32, badge: u32
 // The abort that stands at endpoint e is joined, and works.
 fn join_own(tables: &mut [u32], t: usize, e: usize, allowance: u32) -> Answer
     requires { ⌜ Shown (now tables) (Joining t e) × (allowance ≤ 65535) ⌝ }
-    ensures { λ r. ⌜ Performs (now (tables .entry)) (now (tables .exit)) r (Joining t e) (joining t e allowance) ⌝ }
+    ensures { λ r. ⌜ Performs (now (tables .entry)) (now (tables .exit)) r (Joining t e) (joinedOn t e allowance) ⌝ }
 {
     debts::join(tables, t, e);
     work_own(tables, t, e, allowance, 0)
@@ -157,10 +157,10 @@ fn abort_at(tables: &mut [u32], t: usize, e: usize, allowance: u32, badge: u32) 
 {
     let status = store::endpoint(tables, Part::Status, e);
     if status == 0 {
-        return endings::plain(23);
+        return machine::plain(23);
     }
     if status == 2 {
-        return endings::plain(25);
+        return machine::plain(25);
     }
     debts::drop_other(tables, t, e, badge);
     abort_open(tables, t, e, allowance, badge)
@@ -175,7 +175,7 @@ pub fn abort(tables: &mut [u32], t: usize, e: usize, allowance: u32, badge: u32)
     let noted = debts::has_note(tables, t, e, badge);
     if noted {
         store::set_owes(tables, t, 0, 0);
-        return endings::accept(tables, endings::plain(0));
+        return endings::accept(tables, machine::plain(0));
     }
     abort_at(tables, t, e, allowance, badge)
 }

@@ -6,11 +6,11 @@ use Rattle.machine.specs.State.{State, Thread, setThread, withTicks}
 use Rattle.layout.specs.declared.Field.{Field}
 use Rattle.layout.specs.Shows.{Shows}
 use Rattle.store.specs.Steps.{Shown, Does, Tells}
-use Rattle.store.specs.Store.{IsThread, placing, prioritising, ticking, Places, Owes}
+use Rattle.store.specs.Store.{IsThread, placing, prioritising, ticking, SetsPlace, SetsDebt}
 use Rattle.store.specs.Readings.{threadIn}
 use Rattle.store.proofs.Composed.{still, remade}
 use Rattle.blocks.specs.declared.Block.{Block}
-use Rattle.blocks.specs.Blocks.{refilled, tickedBlock, blockOf, Loads, IsBlock, Stores}
+use Rattle.blocks.specs.Blocks.{refilled, tickedBlock, blockOf, LoadsBlock, IsBlock, SetsBlock}
 use Rattle.blocks.proofs.Ticks.{with-ticks}
 
 pub loaded :
@@ -21,7 +21,7 @@ pub loaded :
     → Tells m (IsThread t) (b .badge) (threadIn Field.Badge t)
     → Tells m (IsThread t) (b .message) (threadIn Field.Message t)
     → Tells m (IsThread t) (b .owes) (threadIn Field.Owes t)
-    → Tells m (IsThread t) (b .note) (threadIn Field.Note t) → Loads m t b
+    → Tells m (IsThread t) (b .note) (threadIn Field.Note t) → LoadsBlock m t b
 loaded b P Q T O B X D N =
     record {
       loads = λ s M h i.
@@ -39,7 +39,7 @@ loaded b P Q T O B X D N =
 
 -- The place of a block is that of a thread, so the memory still shows a state.
 pub placed :
-    {t : ℕ} {m n : List ℕ} {b : Block} → IsBlock b → Places m t (b .place) (b .outcome) (b .badge) (b .message) n
+    {t : ℕ} {m n : List ℕ} {b : Block} → IsBlock b → SetsPlace m t (b .place) (b .outcome) (b .badge) (b .message) n
     → Shown m (IsThread t) → Shown n (IsThread t)
 placed {b = b} x P S =
     still (placing _ (x .thread .place) (b .outcome) (b .badge) (b .message))
@@ -48,15 +48,15 @@ placed {b = b} x P S =
 -- The four steps with the numbers of a block.
 abbrev Steps : ℕ → List ℕ → List ℕ → List ℕ → List ℕ → List ℕ → Block → Type 0
 Steps t m n₁ n₂ n₃ n₄ b =
-    Places m t (b .place) (b .outcome) (b .badge) (b .message) n₁
+    SetsPlace m t (b .place) (b .outcome) (b .badge) (b .message) n₁
     × Does n₁ n₂ (IsThread t) (prioritising t (b .priority)) × Does n₂ n₃ (IsThread t) (ticking t (b .ticks))
-    × Owes n₃ t (b .owes) (b .note) n₄
+    × SetsDebt n₃ t (b .owes) (b .note) n₄
 
 pub stored :
     {t : ℕ} {m n₁ n₂ n₃ n₄ : List ℕ} (b : Block)
-    → Places m t (b .place) (b .outcome) (b .badge) (b .message) n₁
+    → SetsPlace m t (b .place) (b .outcome) (b .badge) (b .message) n₁
     → Does n₁ n₂ (IsThread t) (prioritising t (b .priority)) → Does n₂ n₃ (IsThread t) (ticking t (b .ticks))
-    → Owes n₃ t (b .owes) (b .note) n₄ → Stores m t b n₄
+    → SetsDebt n₃ t (b .owes) (b .note) n₄ → SetsBlock m t b n₄
 stored {t} {m} {n₁} {n₂} {n₃} {n₄} b P Q T D =
     record { does = λ x e. go x (subst (Steps t m n₁ n₂ n₃ n₄) (sym e) (P, Q, T, D)) }
   where
@@ -66,7 +66,7 @@ stored {t} {m} {n₁} {n₂} {n₃} {n₄} b P Q T D =
         (g .0 .does (x .place) refl) (g .1) (g .2) (g .3 .does (x .debt) refl refl)
 
 -- The block of a thread, after a tick, is that of the thread with the ticks that are left.
-module _ {t : ℕ} {m : List ℕ} {b : Block} (L : Loads m t b) where
+module _ {t : ℕ} {m : List ℕ} {b : Block} (L : LoadsBlock m t b) where
   pub ticks-told : Tells m (IsThread t) (b .ticks) (threadIn Field.Ticks t)
   ticks-told = record { tells = λ s M h. ap (λ (y : Block). y .ticks) (L .loads s M h) }
 
@@ -86,7 +86,7 @@ module _ {t : ℕ} {m : List ℕ} {b : Block} (L : Loads m t b) where
   )
 
   pub ticked-thread :
-      {n : List ℕ} {r : Block} → r ≡ tickedBlock b → Stores m t r n → Does m n (IsThread t) (ticking t left)
+      {n : List ℕ} {r : Block} → r ≡ tickedBlock b → SetsBlock m t r n → Does m n (IsThread t) (ticking t left)
   ticked-thread e S =
       record {
         shows = λ s M h. S .does (withTicks left (s .threads t)) (is-ticked s M h ∙ sym e) .shows s M h;

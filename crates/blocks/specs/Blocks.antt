@@ -44,7 +44,7 @@ blockOf x =
     }
 
 -- b is the block of thread t, in whatever state the memory shows.
-pub record Loads (m : List ℕ) (t : ℕ) (b : Block) : Type 0 where
+pub record LoadsBlock (m : List ℕ) (t : ℕ) (b : Block) : Type 0 where
   pub loads : (s : State) → Shows m s → IsThread t s → b ≡ blockOf (s .threads t)
 
 -- Some thread has the block b.
@@ -53,5 +53,5 @@ pub record IsBlock (b : Block) : Type 0 where
   pub is : blockOf thread ≡ b
 
 -- Thread t becomes whatever thread has the block b.
-pub record Stores (m : List ℕ) (t : ℕ) (b : Block) (m′ : List ℕ) : Type 0 where
+pub record SetsBlock (m : List ℕ) (t : ℕ) (b : Block) (m′ : List ℕ) : Type 0 where
   pub does : (x : Thread) → blockOf x ≡ b → Does m m′ (IsThread t) (setThread t x)

@@ -3,7 +3,7 @@
 ghost use mathlib.Core.Path.{_≡_};
 ghost use Rattle.store.specs.Steps.{Shown};
 ghost use Rattle.store.specs.Store.{IsThread};
-ghost use Rattle.blocks.specs.Blocks.{tickedBlock, Loads, IsBlock, Stores};
+ghost use Rattle.blocks.specs.Blocks.{tickedBlock, LoadsBlock, IsBlock, SetsBlock};
 use layout::Field;
 
 pub struct Block {
@@ -53,7 +53,7 @@ pub fn lend_to_tick(block: Block) -> Block
 // The block of thread t.
 pub fn load(tables: &[u32], t: usize) -> Block
     requires { ⌜ Shown (now tables) (IsThread t) ⌝ }
-    ensures { λ r. ⌜ Loads (now (tables .entry)) t r ⌝ }
+    ensures { λ r. ⌜ LoadsBlock (now (tables .entry)) t r ⌝ }
 {
     let place = store::thread(tables, Field::Place, t);
     let priority = store::thread(tables, Field::Priority, t);
@@ -78,7 +78,7 @@ pub fn load(tables: &[u32], t: usize) -> Block
 // Thread t has this block.
 pub fn store(tables: &mut [u32], t: usize, b: Block)
     requires { ⌜ Shown (now tables) (IsThread t) × IsBlock b ⌝ }
-    ensures { λ _. ⌜ Stores (now (tables .entry)) t b (now (tables .exit)) ⌝ }
+    ensures { λ _. ⌜ SetsBlock (now (tables .entry)) t b (now (tables .exit)) ⌝ }
 {
     store::set_place(tables, t, b.place, b.outcome, b.badge, b.message);
     store::set_priority(tables, t, b.priority);

@@ -9,7 +9,7 @@ use Rattle.machine.specs.Results.{plain}
 use Rattle.lent_tables.specs.Entries.{Lent, lent, Checked, checked, Called}
 use Rattle.journal.specs.declared.types.Written.{Written}
 use Rattle.journal.specs.declared.types.Named.{Named}
-use Rattle.journal.specs.Steps.{named, nameOf}
+use Rattle.journal.specs.Steps.{asNamed, callNamed}
 use Rattle.journal.proofs.Answers.{name-named}
 use Rattle.core_c.specs.Numbers.{callIn}
 use Rattle.core_c.specs.Entries.{Answered, refusal, calledFor, four, asAnswered, answered, writtenFor}
@@ -40,20 +40,20 @@ module _ (l : Lent) {x : List ℕ} {code : ℕ} (e : checkedOf code x ≡ checke
 
 -- by whether a call is named
 pub called-for :
-    (l : Lent) (n : Named) (o : Option Call) (r : Called) → n ≡ named o → r ≡ calledFor o l →
-    r ≡ calledFor (nameOf n) l
-called-for l n o r e f = f ∙ ap (λ (p : Option Call). calledFor p l) (sym (ap nameOf e ∙ name-named o))
+    (l : Lent) (n : Named) (o : Option Call) (r : Called) → n ≡ asNamed o → r ≡ calledFor o l →
+    r ≡ calledFor (callNamed n) l
+called-for l n o r e f = f ∙ ap (λ (p : Option Call). calledFor p l) (sym (ap callNamed e ∙ name-named o))
 
 -- the four numbers of the answer are stored
 pub answered-is :
-    (l : Lent) (ns : List ℕ) (n : Named) (a : Answer) (l′ : Lent) → n ≡ named (callIn ns) →
-    calledOf a l′ ≡ calledFor (nameOf n) l →
+    (l : Lent) (ns : List ℕ) (n : Named) (a : Answer) (l′ : Lent) → n ≡ asNamed (callIn ns) →
+    calledOf a l′ ≡ calledFor (callNamed n) l →
     _≡_ {A = Answered} (record { code = a .code; answer = four a; left = l′ }) (answered l ns)
 unfolding answered
 answered-is l ns n a l′ e f =
-    ap asAnswered (f ∙ ap (λ (o : Option Call). calledFor o l) (ap nameOf e ∙ name-named (callIn ns)))
+    ap asAnswered (f ∙ ap (λ (o : Option Call). calledFor o l) (ap callNamed e ∙ name-named (callIn ns)))
 
 pub written-for :
-    (ns : List ℕ) (n : Named) (r : Written) → n ≡ named (callIn ns) → r ≡ writtenFor (nameOf n) →
+    (ns : List ℕ) (n : Named) (r : Written) → n ≡ asNamed (callIn ns) → r ≡ writtenFor (callNamed n) →
     r ≡ writtenFor (callIn ns)
-written-for ns n r e f = f ∙ ap writtenFor (ap nameOf e ∙ name-named (callIn ns))
+written-for ns n r e f = f ∙ ap writtenFor (ap callNamed e ∙ name-named (callIn ns))

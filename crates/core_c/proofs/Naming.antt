@@ -8,7 +8,7 @@ use borrow.Author.Tests.{eq-eqb, ne-eqb}
 use Rattle.machine.specs.declared.Call.the-variants.{Send, Abort}
 use Rattle.journal.specs.Words.{unused, callOf}
 use Rattle.journal.specs.declared.types.Named.{Named}
-use Rattle.journal.specs.Steps.{named, nameOf}
+use Rattle.journal.specs.Steps.{asNamed, callNamed}
 use Rattle.journal.proofs.Answers.{unused-above}
 use Rattle.core_c.specs.Numbers.{givenNumber, givenSubject, givenArgument, givenBadge, givenMessage}
 use Rattle.core_c.specs.Numbers.{short, callIn}
@@ -16,9 +16,10 @@ use Rattle.core_c.specs.Numbers.{short, callIn}
 -- a call with neither badge nor message, behind both tests
 pub short-is :
     (ns : List ℕ) (call inner r : Named) →
-    call ≡ named (callOf (givenNumber ns) (givenSubject ns) (givenArgument ns) []) →
-    inner ≡ named (unused (givenMessage ns) (nameOf call)) → r ≡ named (unused (givenBadge ns) (nameOf inner)) →
-    r ≡ named (short ns)
+    call ≡ asNamed (callOf (givenNumber ns) (givenSubject ns) (givenArgument ns) []) →
+    inner ≡ asNamed (unused (givenMessage ns) (callNamed call)) →
+    r ≡ asNamed (unused (givenBadge ns) (callNamed inner)) →
+    r ≡ asNamed (short ns)
 unfolding short
 short-is ns call inner r e f g =
     unused-above (givenBadge ns) _ inner r (unused-above (givenMessage ns) _ call inner e f) g

@@ -6,7 +6,7 @@ ghost use mathlib.Core.Path.{_≡_};
 ghost use mathlib.Core.Option.{none};
 ghost use Rattle.lent_tables.specs.Entries.{lent, Freshened, Checked, Called, freshened, checked, runnerIn};
 ghost use Rattle.journal.specs.declared.types.Written.{Written};
-ghost use Rattle.journal.specs.Steps.{nameOf};
+ghost use Rattle.journal.specs.Steps.{callNamed};
 ghost use Rattle.core_c.specs.Numbers.{callIn};
 ghost use Rattle.core_c.specs.declared.types.Reading.{Reading};
 ghost use Rattle.core_c.specs.Entries.{Answered, calledFor, answered, reading, writtenFor, runnerNumber};
@@ -53,16 +53,16 @@ fn refuse(tables: &[u32], scratch: &mut [u32]) -> Answer
 {
     let code = lent_tables::check(tables, scratch);
     if code != 0 {
-        return endings::plain(code);
+        return machine::plain(code);
     }
-    endings::plain(18)
+    machine::plain(18)
 }
 
 // Takes the call that the numbers name, if they name one.
 fn take(tables: &mut [u32], scratch: &mut [u32], named: Named) -> Answer
     ensures { λ r. ⌜ _≡_ {A = Called}
         (record { answer = r; left = lent (now (tables .exit)) (now (scratch .exit)) })
-        (calledFor (nameOf named) (lent (now (tables .entry)) (now (scratch .entry)))) ⌝ }
+        (calledFor (callNamed named) (lent (now (tables .entry)) (now (scratch .entry)))) ⌝ }
 {
     let Named::One(call) = named else {
         return refuse(tables, scratch);
@@ -127,7 +127,7 @@ pub extern "C" fn nazsombet_read(journal: &[u32], at: &mut usize, call: &mut [u3
 
 // The words of the call that the numbers name, if they name one.
 fn write(named: Named) -> Written
-    ensures { λ r. ⌜ r ≡ writtenFor (nameOf named) ⌝ }
+    ensures { λ r. ⌜ r ≡ writtenFor (callNamed named) ⌝ }
 {
     let Named::One(call) = named else {
         return Written {

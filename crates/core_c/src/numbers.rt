@@ -1,13 +1,13 @@
 // A call as five plain numbers: its number, subject, argument, badge and message. Those that it has not are 0.
 ghost use mathlib.Core.Path.{_≡_};
-ghost use Rattle.journal.specs.Steps.{named};
+ghost use Rattle.journal.specs.Steps.{asNamed};
 ghost use Rattle.core_c.specs.Numbers.{callIn, numbersOf};
 use journal::types::Named;
 use machine::Call;
 
 // The call that five numbers name.
 pub fn call_in(numbers: [u32; 5]) -> Named
-    ensures { λ r. ⌜ r ≡ named (callIn numbers) ⌝ }
+    ensures { λ r. ⌜ r ≡ asNamed (callIn numbers) ⌝ }
 {
     if numbers[0] == 7 {
         let call = Named::One(Call::Send {

@@ -16,8 +16,8 @@ use Rattle.layout.proofs.Standing.{queues-endpoint}
 use Rattle.links.specs.Links.{Last}
 use Rattle.layout.proofs.Chains.{first-zero}
 use Rattle.store.specs.Steps.{Shown, Does, Tells}
-use Rattle.store.specs.Store.{IsThread, Owes, Aborts}
-use Rattle.debts.specs.Debts.{AllAt, Alike, Begins, FirstAt, firstSender, lastSender}
+use Rattle.store.specs.Store.{IsThread, SetsDebt, SetsAbort}
+use Rattle.debts.specs.Debts.{AllAt, Alike, BeginsAbort, FirstAt, firstSender, lastSender}
 
 -- The senders among waiters that all send, and that all receive.
 module _ (threads : ℕ → Thread) (e : ℕ) (l : List ℕ) where
@@ -60,13 +60,13 @@ begun t e b s =
     record { badge = b; owner = some t; pending = senders (s .threads) (s .endpoints e .waiters) }
 
 module _ {m n : List ℕ} {t e b c d : ℕ} (C : FirstAt m e (2 + e) c)
-    (D : Tells m (Alike e) d (lastSender e)) (A : Aborts m e 1 b (t + 1) c d n) where
-  stands : (s : State) → Shows m s → Begins t e s → Shows n (setAbort e (some (begun t e b s)) s)
+    (D : Tells m (Alike e) d (lastSender e)) (A : SetsAbort m e 1 b (t + 1) c d n) where
+  stands : (s : State) → Shows m s → BeginsAbort t e s → Shows n (setAbort e (some (begun t e b s)) s)
   stands s M B =
       A .some (begun t e b s) refl refl (add-one t) (C .sends refl .tells s M (B .waiters)) (D .tells s M (B .waiters)) .shows s M
       (B .waiters .endpoint)
 
-  pub beginner-asked : Shown m (Begins t e) → Shown n (IsThread t)
+  pub beginner-asked : Shown m (BeginsAbort t e) → Shown n (IsThread t)
   beginner-asked S =
       record {
         state = setAbort e (some (begun t e b (S .state))) (S .state);
@@ -74,7 +74,7 @@ module _ {m n : List ℕ} {t e b c d : ℕ} (C : FirstAt m e (2 + e) c)
         holds = S .holds .thread;
       }
 
-  pub begins : {n′ : List ℕ} → Owes n t (1 + e) 0 n′ → Does m n′ (Begins t e) (begin t e b)
+  pub begins : {n′ : List ℕ} → SetsDebt n t (1 + e) 0 n′ → Does m n′ (BeginsAbort t e) (begin t e b)
   unfolding begin
   begins {n′} W =
       record {

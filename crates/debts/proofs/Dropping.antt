@@ -12,9 +12,9 @@ use Rattle.layout.specs.declared.Field.{Field}
 use Rattle.layout.specs.Words.{debtCode}
 use Rattle.layout.specs.Shows.{Shows}
 use Rattle.store.specs.Steps.{Shown, Does, Tells}
-use Rattle.store.specs.Store.{IsThread, HasAbort, owned, Owes, Owners}
+use Rattle.store.specs.Store.{IsThread, HasAbort, owned, SetsDebt, SetsOwner}
 use Rattle.store.specs.Readings.{threadIn}
-use Rattle.debts.specs.Debts.{Says, Debtor, Calls, ownsIn}
+use Rattle.debts.specs.Debts.{Says, Debtor, InCall, ownsIn}
 
 module _ {m : List ℕ} {t r : ℕ} (T : Tells m (IsThread t) r (threadIn Field.Owes t)) where
   pub drop-none : r ≡ 0 → Does m m (Debtor t) (dropDebt t)
@@ -41,7 +41,7 @@ module _ {m : List ℕ} {t r : ℕ} (T : Tells m (IsThread t) r (threadIn Field.
       record { state = S .state; shows = S .shows; holds = abort-of (S .state) (S .shows) (S .holds) z h }
 
   pub owes-asked :
-      {n : List ℕ} → (r ≡ 0 → ⊥) → r < 65 → Shown m (Debtor t) → Owners m (r - 1) 0 n → Shown n (IsThread t)
+      {n : List ℕ} → (r ≡ 0 → ⊥) → r < 65 → Shown m (Debtor t) → SetsOwner m (r - 1) 0 n → Shown n (IsThread t)
   owes-asked z h S O =
       record {
         state = owned (r - 1) none (S .state);
@@ -51,7 +51,7 @@ module _ {m : List ℕ} {t r : ℕ} (T : Tells m (IsThread t) r (threadIn Field.
       }
 
   pub drop-owned :
-      {n n′ : List ℕ} → (r ≡ 0 → ⊥) → r < 65 → Owners m (r - 1) 0 n → Owes n t 0 0 n′
+      {n n′ : List ℕ} → (r ≡ 0 → ⊥) → r < 65 → SetsOwner m (r - 1) 0 n → SetsDebt n t 0 0 n′
       → Does m n′ (Debtor t) (dropDebt t)
   unfolding dropDebt dropped
   drop-owned {n} {n′} z h O W =
@@ -61,11 +61,11 @@ module _ {m : List ℕ} {t r : ℕ} (T : Tells m (IsThread t) r (threadIn Field.
           → Shows n′ (dropped d t s)
       go s M D nothing q k = absurd (z k)
       go s M D (owns e) q k =
-          let P : Owners m e 0 n = subst (λ x. Owners m x 0 n) (let j : r - 1 ≡ e = omega arith in j) O in
+          let P : SetsOwner m e 0 n = subst (λ x. SetsOwner m x 0 n) (let j : r - 1 ≡ e = omega arith in j) O in
           W .does nothing refl refl .shows (owned e none s) (P .does none refl .shows s M (D .stands e q)) (D .thread)
       go s M D (noted e b) q k = absurd (omega arith)
 
-  pub drop-noted : {n : List ℕ} → 65 ≤ r → Owes m t 0 0 n → Does m n (Debtor t) (dropDebt t)
+  pub drop-noted : {n : List ℕ} → 65 ≤ r → SetsDebt m t 0 0 n → Does m n (Debtor t) (dropDebt t)
   unfolding dropDebt dropped
   drop-noted {n} h W =
       record { shows = λ s M D. go s M D (s .threads t .debt) refl (T .tells s M (D .thread)) }
@@ -77,14 +77,14 @@ module _ {m : List ℕ} {t r : ℕ} (T : Tells m (IsThread t) r (threadIn Field.
       go s M D (noted e b) q k = W .does nothing refl refl .shows s M (D .thread)
 
 -- Unless it is the ownership of one abort.
-module _ {m : List ℕ} {t : ℕ} {u : Bool} (e b : ℕ) (O : Says m (Calls t e) u (ownsIn t e b)) where
-  pub drop-not : u ≡ true → Does m m (Calls t e) (dropOther t e b)
+module _ {m : List ℕ} {t : ℕ} {u : Bool} (e b : ℕ) (O : Says m (InCall t e) u (ownsIn t e b)) where
+  pub drop-not : u ≡ true → Does m m (InCall t e) (dropOther t e b)
   unfolding dropOther dropUnless
   drop-not z =
       record { shows = λ s M C. subst (λ (x : Bool). Shows m (dropUnless x t s)) (sym z ∙ O .says s M C) M }
 
   pub drop-all :
-      {n : List ℕ} → u ≡ false → Does m n (Debtor t) (dropDebt t) → Does m n (Calls t e) (dropOther t e b)
+      {n : List ℕ} → u ≡ false → Does m n (Debtor t) (dropDebt t) → Does m n (InCall t e) (dropOther t e b)
   unfolding dropOther dropUnless
   drop-all {n} z D =
       record {

@@ -12,10 +12,10 @@ use Rattle.layout.specs.declared.Part.{Part}
 use Rattle.layout.specs.Words.{linkOf, badgeCode}
 use Rattle.layout.specs.Shows.{Shows}
 use Rattle.store.specs.Steps.{Shown, Does, Tells}
-use Rattle.store.specs.Store.{IsThread, IsEndpoint, standing, Owes, Stands, Aborts}
+use Rattle.store.specs.Store.{IsThread, IsEndpoint, standing, SetsDebt, SetsStatus, SetsAbort}
 use Rattle.store.specs.Readings.{endpointIn}
 use Rattle.store.proofs.Composed.{shown-after}
-use Rattle.debts.specs.Debts.{Endable, noting, Ends}
+use Rattle.debts.specs.Debts.{Endable, noting, EndsAbort}
 
 -- The note.
 module _ {m : List ℕ} {e r : ℕ} (T : Tells m (IsEndpoint e) r (endpointIn Part.Owner e)) where
@@ -47,7 +47,7 @@ module _ {m : List ℕ} {e r : ℕ} (T : Tells m (IsEndpoint e) r (endpointIn Pa
 
   pub note-somebody :
       {b : ℕ} {n : List ℕ} → (r ≡ 0 → ⊥) → Tells m (IsEndpoint e) b (endpointIn Part.Aborted e)
-      → Owes m (r - 1) (65 + e) b n
+      → SetsDebt m (r - 1) (65 + e) b n
       → Does m n (Endable e) (noting e)
   unfolding note noteTo
   note-somebody {b} {n} z B W =
@@ -60,8 +60,8 @@ module _ {m : List ℕ} {e r : ℕ} (T : Tells m (IsEndpoint e) r (endpointIn Pa
           → b ≡ c → Shows n (noteTo o e c s)
       to s M none c h k j = absurd (z k)
       to s M (some u) c h k j =
-          let U : Owes m u (65 + e) b n =
-          subst (λ x. Owes m x (65 + e) b n) (let i : r - 1 ≡ u = omega arith in i) W in
+          let U : SetsDebt m u (65 + e) b n =
+          subst (λ x. SetsDebt m x (65 + e) b n) (let i : r - 1 ≡ u = omega arith in i) W in
           U .does (noted e c) refl (sym j) .shows s M (h u refl)
 
       go : (s : State) → Shows m s → (x : Option Abort) → ((u : ℕ) → ownerOf x ≡ some u → u ≤ 255)
@@ -118,11 +118,11 @@ module _ {m n : List ℕ} {e : ℕ} (D : Does m n (Endable e) (noting e)) where
   pub abort-asked : Shown m (Endable e) → Shown n (IsEndpoint e)
   abort-asked S = shown-after {op = noting e} S D (λ s h. h .endpoint)
 
-  pub status-asked : {o : List ℕ} → Shown m (Endable e) → Aborts n e 0 0 0 0 0 o → Shown o (IsEndpoint e)
+  pub status-asked : {o : List ℕ} → Shown m (Endable e) → SetsAbort n e 0 0 0 0 0 o → Shown o (IsEndpoint e)
   status-asked S A = shown-after {op = setAbort e none} (abort-asked S) (A .none refl refl refl refl refl) (λ s h. h)
 
   pub ends :
-      {o p : List ℕ} {code : ℕ} → Aborts n e 0 0 0 0 0 o → Stands o e code p → Ends m e code p
+      {o p : List ℕ} {code : ℕ} → SetsAbort n e 0 0 0 0 0 o → SetsStatus o e code p → EndsAbort m e code p
   ends {o} {p} A S =
       record {
         does = λ x k.

@@ -12,15 +12,15 @@ use Rattle.layout.specs.declared.Part.{Part}
 use Rattle.layout.specs.Words.{linkOf}
 use Rattle.layout.specs.Shows.{Shows}
 use Rattle.store.specs.Steps.{Shown, Does, Tells}
-use Rattle.store.specs.Store.{IsThread, IsEndpoint, owned, Owes, Owners}
+use Rattle.store.specs.Store.{IsThread, IsEndpoint, owned, SetsDebt, SetsOwner}
 use Rattle.store.specs.Readings.{endpointIn}
-use Rattle.debts.specs.Debts.{Joins}
+use Rattle.debts.specs.Debts.{JoinsAbort}
 
-module _ {m n : List ℕ} {t e : ℕ} (O : Owners m e (t + 1) n) where
-  became-owner : (s : State) → Shows m s → Joins t e s → Shows n (owned e (some t) s)
+module _ {m n : List ℕ} {t e : ℕ} (O : SetsOwner m e (t + 1) n) where
+  became-owner : (s : State) → Shows m s → JoinsAbort t e s → Shows n (owned e (some t) s)
   became-owner s M J = O .does (some t) (sym (add-one t)) .shows s M (J .stands)
 
-  pub joiner-asked : Shown m (Joins t e) → Shown n (IsThread t)
+  pub joiner-asked : Shown m (JoinsAbort t e) → Shown n (IsThread t)
   joiner-asked S =
       record {
         state = owned e (some t) (S .state);
@@ -29,7 +29,7 @@ module _ {m n : List ℕ} {t e : ℕ} (O : Owners m e (t + 1) n) where
       }
 
 module _ {m : List ℕ} {e r : ℕ} (t : ℕ) (T : Tells m (IsEndpoint e) r (endpointIn Part.Owner e)) where
-  pub join-owned : (r ≡ 0 → ⊥) → Does m m (Joins t e) (join t e)
+  pub join-owned : (r ≡ 0 → ⊥) → Does m m (JoinsAbort t e) (join t e)
   unfolding join joinAs
   join-owned z =
       record { shows = λ s M J. go s M (ownerOf (s .endpoints e .abort)) (T .tells s M (J .stands .0)) }
@@ -39,12 +39,12 @@ module _ {m : List ℕ} {e r : ℕ} (t : ℕ) (T : Tells m (IsEndpoint e) r (end
       go s M (some u) k = M
 
   pub join-free :
-      {n n′ : List ℕ} → r ≡ 0 → Owners m e (t + 1) n → Owes n t (1 + e) 0 n′ → Does m n′ (Joins t e) (join t e)
+      {n n′ : List ℕ} → r ≡ 0 → SetsOwner m e (t + 1) n → SetsDebt n t (1 + e) 0 n′ → Does m n′ (JoinsAbort t e) (join t e)
   unfolding join joinAs
   join-free {n} {n′} z O W =
       record { shows = λ s M J. go s M J (ownerOf (s .endpoints e .abort)) (T .tells s M (J .stands .0)) }
     where
-      go : (s : State) → Shows m s → Joins t e s → (o : Option ℕ) → r ≡ linkOf o → Shows n′ (joinAs o t e s)
+      go : (s : State) → Shows m s → JoinsAbort t e s → (o : Option ℕ) → r ≡ linkOf o → Shows n′ (joinAs o t e s)
       go s M J none k =
           W .does (owns e) refl refl .shows (owned e (some t) s) (became-owner O s M J) (J .thread)
       go s M J (some u) k = absurd (omega arith)

@@ -16,7 +16,7 @@ use Rattle.layout.specs.Words.{debtCode, noteCode, abortCode, badgeCode}
 use Rattle.store.specs.Steps.{Tells}
 use Rattle.store.specs.Store.{IsThread, IsEndpoint}
 use Rattle.store.specs.Readings.{endpointIn, threadIn}
-use Rattle.debts.specs.Debts.{Says, Calls, underIn, notedIn, ownsIn}
+use Rattle.debts.specs.Debts.{Says, InCall, underIn, notedIn, ownsIn}
 
 -- The badge under abort.
 module _ {m : List ℕ} {e r : ℕ} (b : ℕ) (T : Tells m (IsEndpoint e) r (endpointIn Part.Aborting e)) where
@@ -38,7 +38,7 @@ module _ {m : List ℕ} {e r : ℕ} (b : ℕ) (T : Tells m (IsEndpoint e) r (end
 
 -- A note, and an ownership.
 module _ {m : List ℕ} {t r : ℕ} (e b : ℕ) (T : Tells m (IsThread t) r (threadIn Field.Owes t)) where
-  pub note-none : (r ≡ 65 + e → ⊥) → Says m (Calls t e) false (notedIn t e b)
+  pub note-none : (r ≡ 65 + e → ⊥) → Says m (InCall t e) false (notedIn t e b)
   note-none z = record { says = λ s M C. go (s .threads t .debt) (T .tells s M (C .debtor .thread)) }
     where
       go : (d : Debt) → r ≡ debtCode d → false ≡ hasNote e b d
@@ -48,7 +48,7 @@ module _ {m : List ℕ} {t r : ℕ} (e b : ℕ) (T : Tells m (IsThread t) r (thr
 
   pub note-some :
       {c : ℕ} → r ≡ 65 + e → Tells m (IsThread t) c (threadIn Field.Note t)
-      → Says m (Calls t e) (eqb c b) (notedIn t e b)
+      → Says m (InCall t e) (eqb c b) (notedIn t e b)
   note-some {c} z U =
       record {
         says = λ s M C.
@@ -61,7 +61,7 @@ module _ {m : List ℕ} {t r : ℕ} (e b : ℕ) (T : Tells m (IsThread t) r (thr
       go (owns f) h k j = absurd (omega (arith, h f refl))
       go (noted f x) h k j = rw (eq-eqb f e (let i : f ≡ e = omega arith in i)) (ap (λ y. eqb y b) j)
 
-  pub owns-none : (r ≡ 1 + e → ⊥) → Says m (Calls t e) false (ownsIn t e b)
+  pub owns-none : (r ≡ 1 + e → ⊥) → Says m (InCall t e) false (ownsIn t e b)
   owns-none z =
       record { says = λ s M C. go (s .endpoints e .abort) (s .threads t .debt) (T .tells s M (C .debtor .thread)) }
     where
@@ -70,7 +70,7 @@ module _ {m : List ℕ} {t r : ℕ} (e b : ℕ) (T : Tells m (IsThread t) r (thr
       go x (owns f) k = rw (ne-eqb f e (λ j. z (omega arith)))
       go x (noted f c) k = refl
 
-  pub owns-some : {u : Bool} → r ≡ 1 + e → Says m (IsEndpoint e) u (underIn e b) → Says m (Calls t e) u (ownsIn t e b)
+  pub owns-some : {u : Bool} → r ≡ 1 + e → Says m (IsEndpoint e) u (underIn e b) → Says m (InCall t e) u (ownsIn t e b)
   owns-some {u} z U =
       record {
         says = λ s M C.

@@ -24,7 +24,7 @@ pub record Debtor (t : ℕ) (s : State) : Type 0 where
   pub stands : (e : ℕ) → s .threads t .debt ≡ owns e → HasAbort e s
 
 -- A debtor t and an endpoint e in range.
-pub record Calls (t e : ℕ) (s : State) : Type 0 where
+pub record InCall (t e : ℕ) (s : State) : Type 0 where
   pub debtor : Debtor t s
   pub endpoint : e ≤ 63
 
@@ -39,7 +39,7 @@ abbrev pub ownsIn : ℕ → ℕ → ℕ → State → Bool
 ownsIn t e b s = ownsThis (s .endpoints e .abort) e b (s .threads t .debt)
 
 -- t joins the abort that stands at e.
-pub record Joins (t e : ℕ) (s : State) : Type 0 where
+pub record JoinsAbort (t e : ℕ) (s : State) : Type 0 where
   pub thread : t ≤ 255
   pub stands : HasAbort e s
 
@@ -53,7 +53,7 @@ abbrev pub noting : ℕ → State → State
 noting e s = note (s .endpoints e .abort) e s
 
 -- The abort at e ends, and the endpoint has whatever status has this number.
-pub record Ends (m : List ℕ) (e code : ℕ) (m′ : List ℕ) : Type 0 where
+pub record EndsAbort (m : List ℕ) (e code : ℕ) (m′ : List ℕ) : Type 0 where
   pub does : (x : Status) → statusCode x ≡ code → Does m m′ (Endable e) (endAbort x e)
 
 -- The waiters at e all have this place.
@@ -66,7 +66,7 @@ pub record Alike (e : ℕ) (s : State) : Type 0 where
   pub alike : AllAt (sending e) e s ⊎ AllAt (receiving e) e s
 
 -- t begins an abort at e.
-pub record Begins (t e : ℕ) (s : State) : Type 0 where
+pub record BeginsAbort (t e : ℕ) (s : State) : Type 0 where
   pub thread : t ≤ 255
   pub waiters : Alike e s
 

@@ -4,8 +4,8 @@ ghost use Rattle.machine.specs.Endpoints.{dropDebt};
 ghost use Rattle.machine.specs.Aborts.{dropOther, join, begin};
 ghost use Rattle.store.specs.Steps.{Shown, Does, Tells};
 ghost use Rattle.store.specs.Store.{IsEndpoint};
-ghost use Rattle.debts.specs.Debts.{Says, Debtor, Calls, underIn, notedIn, ownsIn, Joins, Endable, noting, Ends};
-ghost use Rattle.debts.specs.Debts.{Alike, Begins, FirstAt, lastSender};
+ghost use Rattle.debts.specs.Debts.{Says, Debtor, InCall, underIn, notedIn, ownsIn, JoinsAbort, Endable, noting, EndsAbort};
+ghost use Rattle.debts.specs.Debts.{Alike, BeginsAbort, FirstAt, lastSender};
 use layout::Field;
 use layout::Part;
 
@@ -41,8 +41,8 @@ pub fn under_abort(tables: &[u32], e: usize, badge: u32) -> bool
 
 // Whether thread t has the note that the abort of this endpoint and badge ended.
 pub fn has_note(tables: &[u32], t: usize, e: usize, badge: u32) -> bool
-    requires { ⌜ Shown (now tables) (Calls t e) ⌝ }
-    ensures { λ r. ⌜ Says (now (tables .entry)) (Calls t e) r (notedIn t e badge) ⌝ }
+    requires { ⌜ Shown (now tables) (InCall t e) ⌝ }
+    ensures { λ r. ⌜ Says (now (tables .entry)) (InCall t e) r (notedIn t e badge) ⌝ }
 {
     let owes = store::thread(tables, Field::Owes, t);
     let code = (65 + e) as u32;
@@ -55,8 +55,8 @@ pub fn has_note(tables: &[u32], t: usize, e: usize, badge: u32) -> bool
 
 // Whether thread t owns the abort of this endpoint and badge.
 pub fn owns_this(tables: &[u32], t: usize, e: usize, badge: u32) -> bool
-    requires { ⌜ Shown (now tables) (Calls t e) ⌝ }
-    ensures { λ r. ⌜ Says (now (tables .entry)) (Calls t e) r (ownsIn t e badge) ⌝ }
+    requires { ⌜ Shown (now tables) (InCall t e) ⌝ }
+    ensures { λ r. ⌜ Says (now (tables .entry)) (InCall t e) r (ownsIn t e badge) ⌝ }
 {
     let owes = store::thread(tables, Field::Owes, t);
     let code = (1 + e) as u32;
@@ -68,8 +68,8 @@ pub fn owns_this(tables: &[u32], t: usize, e: usize, badge: u32) -> bool
 
 // Thread t's ownership or note goes, unless it owns the abort of this endpoint and badge.
 pub fn drop_other(tables: &mut [u32], t: usize, e: usize, badge: u32)
-    requires { ⌜ Shown (now tables) (Calls t e) ⌝ }
-    ensures { λ _. ⌜ Does (now (tables .entry)) (now (tables .exit)) (Calls t e) (dropOther t e badge) ⌝ }
+    requires { ⌜ Shown (now tables) (InCall t e) ⌝ }
+    ensures { λ _. ⌜ Does (now (tables .entry)) (now (tables .exit)) (InCall t e) (dropOther t e badge) ⌝ }
 {
     let own = owns_this(tables, t, e, badge);
     if own {
@@ -80,8 +80,8 @@ pub fn drop_other(tables: &mut [u32], t: usize, e: usize, badge: u32)
 
 // Thread t joins the abort at endpoint e, and becomes its owner if it has none.
 pub fn join(tables: &mut [u32], t: usize, e: usize)
-    requires { ⌜ Shown (now tables) (Joins t e) ⌝ }
-    ensures { λ _. ⌜ Does (now (tables .entry)) (now (tables .exit)) (Joins t e) (join t e) ⌝ }
+    requires { ⌜ Shown (now tables) (JoinsAbort t e) ⌝ }
+    ensures { λ _. ⌜ Does (now (tables .entry)) (now (tables .exit)) (JoinsAbort t e) (join t e) ⌝ }
 {
     let owner = store::endpoint(tables, Part::Owner, e);
     if owner != 0 {
@@ -107,7 +107,7 @@ fn note_owner(tables: &mut [u32], e: usize)
 // The abort at endpoint e, if one stands, ends, and the endpoint has the status given.
 pub fn end_abort(tables: &mut [u32], e: usize, status: u32)
     requires { ⌜ Shown (now tables) (Endable e) ⌝ }
-    ensures { λ _. ⌜ Ends (now (tables .entry)) e status (now (tables .exit)) ⌝ }
+    ensures { λ _. ⌜ EndsAbort (now (tables .entry)) e status (now (tables .exit)) ⌝ }
 {
     note_owner(tables, e);
     store::set_abort(tables, e, 0, 0, 0, 0, 0);
@@ -145,8 +145,8 @@ fn last_sender(tables: &[u32], e: usize) -> u32
 
 // Thread t begins an abort of this badge at endpoint e, which has its senders to look at.
 pub fn begin(tables: &mut [u32], t: usize, e: usize, badge: u32)
-    requires { ⌜ Shown (now tables) (Begins t e) ⌝ }
-    ensures { λ _. ⌜ Does (now (tables .entry)) (now (tables .exit)) (Begins t e) (begin t e badge) ⌝ }
+    requires { ⌜ Shown (now tables) (BeginsAbort t e) ⌝ }
+    ensures { λ _. ⌜ Does (now (tables .entry)) (now (tables .exit)) (BeginsAbort t e) (begin t e badge) ⌝ }
 {
     let cursor = first_at(tables, e, (2 + e) as u32);
     let end = last_sender(tables, e);

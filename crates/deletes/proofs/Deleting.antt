@@ -15,10 +15,10 @@ use Rattle.layout.specs.Words.{statusCode}
 use Rattle.layout.specs.Shows.{Shows}
 use Rattle.links.specs.Links.{First}
 use Rattle.store.specs.Steps.{Shown, Does, Tells}
-use Rattle.store.specs.Store.{IsEndpoint, Stands}
+use Rattle.store.specs.Store.{IsEndpoint, SetsStatus}
 use Rattle.store.specs.Readings.{endpointIn}
 use Rattle.queues.specs.Queues.{Chooses}
-use Rattle.debts.specs.Debts.{Debtor, Endable, Ends}
+use Rattle.debts.specs.Debts.{Debtor, Endable, EndsAbort}
 use Rattle.endings.specs.Results.{Calling, Performs, Accepts}
 use Rattle.endings.proofs.Ends.{refused, performs-as, performs-after, shown-for}
 use Rattle.endings.proofs.Conditions.{mid-chooses, mid-endable, running-debtor}
@@ -69,7 +69,7 @@ module _ {m n : List ℕ} {e a c : ℕ} (R : Removes m e a c n) where
             ap (λ (l : List ℕ). deleted l e (removal a e s)) (somebody e F (removal a e s .state) (R .shows s M C) z .1)
 
     -- Nobody is left.
-    module _ (z : r ≡ 0) {o : List ℕ} (W : Stands n e 0 o) where
+    module _ (z : r ≡ 0) {o : List ℕ} (W : SetsStatus n e 0 o) where
       empty : (s : State) → Shows m s → Closes e s → removal a e s .state .endpoints e .waiters ≡ []
       empty s M C = nobody e F (removal a e s .state) (R .shows s M C) z
 
@@ -151,7 +151,7 @@ module _ {m : List ℕ} {t e i : ℕ} (T : Tells m (IsEndpoint e) i (endpointIn 
             holds = endable (S .state) (S .holds);
           }
 
-      module _ {o : List ℕ} (E : Ends n e 2 o) where
+      module _ {o : List ℕ} (E : EndsAbort n e 2 o) where
         ended : Does m o (Calling t (e ≤ 63)) (λ s. endAbort closing e (dropDebt t s))
         ended =
             record {

@@ -13,7 +13,7 @@ use Rattle.layout.specs.Shows.{Shows}
 use Rattle.links.specs.Links.{First}
 use Rattle.layout.proofs.Chains.{first-zero}
 use Rattle.store.specs.Steps.{Shown, Does}
-use Rattle.queues.specs.Queues.{Waits}
+use Rattle.queues.specs.Queues.{InEndpoint}
 use Rattle.debts.proofs.Firsts.{first-waiter}
 use Rattle.endings.proofs.Conditions.{first-waits}
 use Rattle.deletes.specs.Deletes.{Closes, removal, Removes}
@@ -116,16 +116,16 @@ module _ {m₀ m : List ℕ} {e a left : ℕ} (R : Removing m₀ m e a left) whe
         (λ s M. remove-empty left (s .endpoints e .waiters) e s (nobody e F s M z))
 
     module _ (z : r ≡ 0 → ⊥) where
-      head-waits : (s : State) → Shows m s → Closes e s → Waits (r - 1) e s
+      head-waits : (s : State) → Shows m s → Closes e s → InEndpoint (r - 1) e s
       head-waits s M C = first-waits (C .mid) (somebody e F s M z .1) (C .endpoint)
 
-      pub wake-asked : Shown m (Waits (r - 1) e)
+      pub wake-asked : Shown m (InEndpoint (r - 1) e)
       wake-asked =
           let S = R .there in
           record { state = S .state; shows = S .shows; holds = head-waits (S .state) (S .shows) (S .holds) }
 
       -- One more left.
-      module _ (h : 0 < left) {n : List ℕ} (D : Does m n (Waits (r - 1) e) (wakeFrom e (r - 1) 4 0 0)) where
+      module _ (h : 0 < left) {n : List ℕ} (D : Does m n (InEndpoint (r - 1) e) (wakeFrom e (r - 1) 4 0 0)) where
         woken : (s : State) → Shows m s → Closes e s → Shows n (wakeFrom e (r - 1) 4 0 0 s)
         woken s M C = D .shows s M (head-waits s M C)
 

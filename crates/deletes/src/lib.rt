@@ -35,10 +35,10 @@ fn delete_from(tables: &mut [u32], e: usize, allowance: u32) -> Answer
     let count = remove(tables, e, allowance);
     let first = links::first(tables, 256 + e);
     if first != 0 {
-        return endings::accept(tables, endings::counted(2, count));
+        return endings::accept(tables, machine::counted(2, count));
     }
     store::set_status(tables, e, 0);
-    endings::accept(tables, endings::counted(0, count))
+    endings::accept(tables, machine::counted(0, count))
 }
 
 // 11: thread t deletes endpoint e, removing at most as many waiters as the allowance lets.
@@ -49,7 +49,7 @@ pub fn delete(tables: &mut [u32], t: usize, e: usize, allowance: u32) -> Answer
 {
     let status = store::endpoint(tables, Part::Status, e);
     if status == 0 {
-        return endings::plain(23);
+        return machine::plain(23);
     }
     debts::drop_debt(tables, t);
     debts::end_abort(tables, e, 2);

@@ -20,8 +20,8 @@ use Rattle.layout.proofs.Addresses.{below?}
 use Rattle.layout.proofs.Standing.{queue?, Queue, level, endpoint, queues-level, queues-endpoint}
 use Rattle.links.specs.Links.{Free}
 use Rattle.store.specs.Store.{creating, prioritising}
-use Rattle.queues.specs.Queues.{Loose, Stands, Chooses, Comes, Waits}
-use Rattle.debts.specs.Debts.{Debtor, Calls, Joins, Endable, AllAt, Alike, Begins}
+use Rattle.queues.specs.Queues.{Loose, InLevel, Chooses, ToEndpoint, InEndpoint}
+use Rattle.debts.specs.Debts.{Debtor, InCall, JoinsAbort, Endable, AllAt, Alike, BeginsAbort}
 
 -- A thread is in no queue if it is in no level's and no endpoint's.
 pub free-of :
@@ -73,12 +73,12 @@ module _ {s : State} (M : Mid s) where
   pub mid-chooses : Chooses s
   mid-chooses = record { running = λ t r. running-loose r }
 
-  pub running-comes : {t e : ℕ} → s .runs ≡ some t → e ≤ 63 → Comes t e s
+  pub running-comes : {t e : ℕ} → s .runs ≡ some t → e ≤ 63 → ToEndpoint t e s
   running-comes r h = record { thread = running-thread r; endpoint = h; free = running-free r }
 
   -- A ready thread stands in its level's queue, a queued one at its endpoint.
 
-  pub ready-stands : {t : ℕ} → Ready s t → Stands t s
+  pub ready-stands : {t : ℕ} → Ready s t → InLevel t s
   ready-stands {t} a =
       let p : Present s t = λ k. differ (a .0) k refl in
       record {
@@ -91,7 +91,7 @@ module _ {s : State} (M : Mid s) where
   queued-present (inl h) k = differ h k refl
   queued-present (inr h) k = differ h k refl
 
-  pub queued-waits : {t e : ℕ} → Queued s t e → e ≤ 63 → Waits t e s
+  pub queued-waits : {t e : ℕ} → Queued s t e → e ≤ 63 → InEndpoint t e s
   queued-waits {t} {e} q h =
       record {
         thread = present-thread (queued-present q);
@@ -102,7 +102,7 @@ module _ {s : State} (M : Mid s) where
             λ a k. let p = M .marks .part e a k in (p .before, p .behind, p .within);
       }
 
-  pub first-waits : {t e : ℕ} {l : List ℕ} → s .endpoints e .waiters ≡ t ∷ l → e ≤ 63 → Waits t e s
+  pub first-waits : {t e : ℕ} {l : List ℕ} → s .endpoints e .waiters ≡ t ∷ l → e ≤ 63 → InEndpoint t e s
   first-waits {t} {e} {l} k h =
       queued-waits (M .queues .queued t e .0 (subst (λ (x : List ℕ). Mem t x) (sym k) (inl refl))) h
 
@@ -132,10 +132,10 @@ module _ {s : State} (M : Mid s) where
   pub running-debtor : {t : ℕ} → s .runs ≡ some t → Debtor t s
   running-debtor r = mid-debtor (running-thread r)
 
-  pub running-calls : {t e : ℕ} → s .runs ≡ some t → e ≤ 63 → Calls t e s
+  pub running-calls : {t e : ℕ} → s .runs ≡ some t → e ≤ 63 → InCall t e s
   running-calls r h = record { debtor = running-debtor r; endpoint = h }
 
-  pub running-joins : {t e : ℕ} {a : Abort} → s .runs ≡ some t → s .endpoints e .abort ≡ some a → Joins t e s
+  pub running-joins : {t e : ℕ} {a : Abort} → s .runs ≡ some t → s .endpoints e .abort ≡ some a → JoinsAbort t e s
   running-joins {a = a} r k = record { thread = running-thread r; stands = (stands-small k, (a, k)) }
 
   owes-present : {t e : ℕ} → s .threads t .debt ≡ owns e → Present s t
@@ -167,7 +167,7 @@ module _ {s : State} (M : Mid s) where
           all (w ∷ l) k w (inl refl)
           (M .queues .queued w e .0 (subst (λ (x : List ℕ). Mem w x) (sym k) (inl refl)))
 
-  pub running-begins : {t e : ℕ} → s .runs ≡ some t → e ≤ 63 → Begins t e s
+  pub running-begins : {t e : ℕ} → s .runs ≡ some t → e ≤ 63 → BeginsAbort t e s
   running-begins r h = record { thread = running-thread r; waiters = mid-alike h }
 
   pub pending-queued :

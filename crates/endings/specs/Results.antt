@@ -26,10 +26,6 @@ pub record Performs (m m′ : List ℕ) (a : Answer) (P : State → Type 0) (f :
   pub answers : (s : State) → Shows m s → P s → a ≡ f s .answer
   pub shows : (s : State) → Shows m s → P s → Shows m′ (f s .state)
 
-abbrev pub answerOf : ℕ → ℕ → ℕ → ℕ → Answer
-answerOf code count badge message =
-    record { code = code; count = count; badge = badge; message = message }
-
 -- An accepted call, whatever its looks.
 pub record Accepts (m : List ℕ) (a b : Answer) (P : State → Type 0) (m′ : List ℕ) : Type 0 where
   pub performs : (looks : List Look) → Performs m m′ b P (accept a looks)

@@ -17,32 +17,32 @@ use Rattle.machine.specs.Calls.{inRange}
 use Rattle.journal.specs.declared.types.Named.{Named}
 use Rattle.journal.specs.declared.types.Named.the-variants.{One, Nothing}
 use Rattle.journal.specs.declared.Number.the-variants.{Is, Wrong}
-use Rattle.journal.specs.Steps.{named, nameOf, number}
+use Rattle.journal.specs.Steps.{asNamed, callNamed, asNumber}
 use Rattle.journal.specs.Words.{topBits, topByte, callNumber, subject, argument, wordsTaken, unused, numberIn}
 use Rattle.journal.specs.Words.{sendOf, abortOf, callOf, callAt, judged, readFrom, readAt}
 use Rattle.journal.proofs.Numbers.{by-number, taken-low, taken-high}
 use Rattle.journal.proofs.Options.{unused-none}
-use Rattle.journal.proofs.Naming.{Fits, in-range-fits}
+use Rattle.journal.proofs.Naming.{NumbersFit, in-range-fits}
 
-pub named-name : (x : Named) → x ≡ named (nameOf x)
+pub named-name : (x : Named) → x ≡ asNamed (callNamed x)
 named-name (One c) = refl
 named-name Nothing = refl
 
-pub name-named : (o : Option Call) → nameOf (named o) ≡ o
+pub name-named : (o : Option Call) → callNamed (asNamed o) ≡ o
 name-named none = refl
 name-named (some c) = refl
 
 -- a part that should be unused, above a call that was found
 pub unused-above :
-    (part : ℕ) (o : Option Call) (call r : Named) → call ≡ named o → r ≡ named (unused part (nameOf call)) →
-    r ≡ named (unused part o)
+    (part : ℕ) (o : Option Call) (call r : Named) → call ≡ asNamed o → r ≡ asNamed (unused part (callNamed call)) →
+    r ≡ asNamed (unused part o)
 unused-above part o call r e f = f ∙ rw (e, name-named o)
 
-pub number-is : (o : Option ℕ) (n : ℕ) → Is n ≡ number o → o ≡ some n
+pub number-is : (o : Option ℕ) (n : ℕ) → Is n ≡ asNumber o → o ≡ some n
 number-is none n e = cc
 number-is (some k) n e = cc
 
-pub number-wrong : (o : Option ℕ) → Wrong ≡ number o → o ≡ none
+pub number-wrong : (o : Option ℕ) → Wrong ≡ asNumber o → o ≡ none
 number-wrong none e = refl
 number-wrong (some k) e = cc
 
@@ -113,33 +113,33 @@ call-begun w rest h = rw (eq-eqb (topBits w) 1 (top-one w h))
 -- reading at a word, with the rest of the journal as a part of it
 pub read-word-at :
     (j : List ℕ) (at n : ℕ) (words : Named) → at < length j →
-    words ≡ named (callAt (getD j at 0) (take (length j - (at + 1)) (drop (at + 1) j))) →
-    n ≡ wordsTaken (topByte (getD j at 0)) → judged at (at + n) (nameOf words) ≡ readAt j at
+    words ≡ asNamed (callAt (getD j at 0) (take (length j - (at + 1)) (drop (at + 1) j))) →
+    n ≡ wordsTaken (topByte (getD j at 0)) → judged at (at + n) (callNamed words) ≡ readAt j at
 unfolding readAt readFrom
 read-word-at j at n words h e t =
     rw (e, part-is j (at + 1), name-named (callAt (getD j at 0) (drop (at + 1) j)), drop-cons j at 0 h, t, add-one at)
 
 -- what `abort` and `send` find in the words after a call word
-pub abort-nothing : (e a : ℕ) (rest : List ℕ) → numberIn 2 rest ≡ none → Nothing ≡ named (abortOf e a rest)
+pub abort-nothing : (e a : ℕ) (rest : List ℕ) → numberIn 2 rest ≡ none → Nothing ≡ asNamed (abortOf e a rest)
 abort-nothing e a rest b = rw b
 
 pub abort-one :
-    (e a : ℕ) (rest : List ℕ) (b : ℕ) → numberIn 2 rest ≡ some b → One (Abort e a b) ≡ named (abortOf e a rest)
+    (e a : ℕ) (rest : List ℕ) (b : ℕ) → numberIn 2 rest ≡ some b → One (Abort e a b) ≡ asNamed (abortOf e a rest)
 abort-one e a rest b h = rw h
 
-pub send-nothing : (e : ℕ) (rest : List ℕ) → numberIn 2 rest ≡ none → Nothing ≡ named (sendOf e rest)
+pub send-nothing : (e : ℕ) (rest : List ℕ) → numberIn 2 rest ≡ none → Nothing ≡ asNamed (sendOf e rest)
 send-nothing e rest b = rw b
 
 pub send-no-message :
     (e : ℕ) (rest : List ℕ) (b : ℕ) → numberIn 2 rest ≡ some b →
-    numberIn 3 (take (length rest - 1) (drop 1 rest)) ≡ none → Nothing ≡ named (sendOf e rest)
+    numberIn 3 (take (length rest - 1) (drop 1 rest)) ≡ none → Nothing ≡ asNamed (sendOf e rest)
 send-no-message e rest b h m = rw (h, rw (part-is rest 1) at m)
 
 pub send-one :
     (e : ℕ) (rest : List ℕ) (b m : ℕ) → numberIn 2 rest ≡ some b →
-    numberIn 3 (take (length rest - 1) (drop 1 rest)) ≡ some m → One (Send e b m) ≡ named (sendOf e rest)
+    numberIn 3 (take (length rest - 1) (drop 1 rest)) ≡ some m → One (Send e b m) ≡ asNamed (sendOf e rest)
 send-one e rest b m h k = rw (h, rw (part-is rest 1) at k)
 
 -- the numbers of a call in range fit their parts, once its kind is known
-pub fits-of : (c k : Call) → inRange c ≡ true → c ≡ k → Fits k
+pub fits-of : (c k : Call) → inRange c ≡ true → c ≡ k → NumbersFit k
 fits-of c k h e = in-range-fits k (sym (ap inRange e) ∙ h)

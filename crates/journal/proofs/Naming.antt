@@ -22,19 +22,19 @@ use Rattle.journal.proofs.Numbers.{by-number}
 use Rattle.journal.proofs.Options.{unused-some, given-some, number-read, number-some}
 
 -- each number of a call fits its part of a word
-abbrev pub Fits : Call → Type 0
-Fits (CreateThread t p) = (t < 2 ^ 8) × (p < 2 ^ 16)
-Fits (DestroyThread t) = t < 2 ^ 8
-Fits (SetPriority t p) = (t < 2 ^ 8) × (p < 2 ^ 16)
-Fits (CreateEndpoint e) = e < 2 ^ 8
-Fits (Interrupt l) = l < 2 ^ 8
-Fits Tick = Unit {0}
-Fits (Send e b m) = (e < 2 ^ 8) × (b < 2 ^ 28) × (m < 2 ^ 28)
-Fits (Receive e) = e < 2 ^ 8
-Fits Yield = Unit {0}
-Fits (Wait l) = l < 2 ^ 8
-Fits (Delete e a) = (e < 2 ^ 8) × (a < 2 ^ 16)
-Fits (Abort e a b) = (e < 2 ^ 8) × (a < 2 ^ 16) × (b < 2 ^ 28)
+abbrev pub NumbersFit : Call → Type 0
+NumbersFit (CreateThread t p) = (t < 2 ^ 8) × (p < 2 ^ 16)
+NumbersFit (DestroyThread t) = t < 2 ^ 8
+NumbersFit (SetPriority t p) = (t < 2 ^ 8) × (p < 2 ^ 16)
+NumbersFit (CreateEndpoint e) = e < 2 ^ 8
+NumbersFit (Interrupt l) = l < 2 ^ 8
+NumbersFit Tick = Unit {0}
+NumbersFit (Send e b m) = (e < 2 ^ 8) × (b < 2 ^ 28) × (m < 2 ^ 28)
+NumbersFit (Receive e) = e < 2 ^ 8
+NumbersFit Yield = Unit {0}
+NumbersFit (Wait l) = l < 2 ^ 8
+NumbersFit (Delete e a) = (e < 2 ^ 8) × (a < 2 ^ 16)
+NumbersFit (Abort e a b) = (e < 2 ^ 8) × (a < 2 ^ 16) × (b < 2 ^ 28)
 
 both : (a b : Bool) → a && b ≡ true → (a ≡ true) × (b ≡ true)
 both true b e = (refl, e)
@@ -55,7 +55,7 @@ line-fits l e = omega (arith, leb-true l 31 e)
 allowance-fits : (a : ℕ) → isAllowance a ≡ true → a < 2 ^ 16
 allowance-fits a e = omega (arith, leb-true a 65535 (both (leb 1 a) (leb a 65535) e .1))
 
-pub in-range-fits : (c : Call) → inRange c ≡ true → Fits c
+pub in-range-fits : (c : Call) → inRange c ≡ true → NumbersFit c
 in-range-fits (CreateThread t p) e =
     let h = both (isThread t) (isPriority p) e in (thread-fits t (h .0), priority-fits p (h .1))
 in-range-fits (DestroyThread t) e = thread-fits t e
@@ -94,7 +94,7 @@ read-word at n s a rest hn hs ha =
 
 -- the words of a call, whatever follows, read as that call
 pub call-read :
-    (at : ℕ) (c : Call) → Fits c → (after : List ℕ) →
+    (at : ℕ) (c : Call) → NumbersFit c → (after : List ℕ) →
     readFrom at (wordsOf c ++ after) ≡ judged at (at + length (wordsOf c)) (some c)
 unfolding wordsOf callOf wordsTaken
 call-read at (CreateThread t p) h after = read-word at 1 t p after (lit< tt) (h .0) (h .1)
@@ -114,40 +114,40 @@ call-read at (Abort x a b) h after =
     read-word at 12 x a (badgeWord b ∷ after) (lit< tt) (h .0) (h .1) ∙ rw (number-read 2 b after (h .2))
 
 -- the words that begin with the call word of these parts are the call's
-pub record Row (n s a : ℕ) (rest : List ℕ) (c : Call) : Type 0 where
-  pub fits : Fits c
+pub record CallRow (n s a : ℕ) (rest : List ℕ) (c : Call) : Type 0 where
+  pub fits : NumbersFit c
   pub words : take (length (wordsOf c)) (callWord n s a ∷ rest) ≡ wordsOf c
   pub taken : wordsTaken (16 + n) ≡ length (wordsOf c)
 
 -- a part that is not used, and is 0
-zero-argument : (n s a : ℕ) (rest : List ℕ) (c : Call) → a ≡ 0 → Row n s 0 rest c → Row n s a rest c
-zero-argument n s a rest c h r = subst⁻¹ (λ (x : ℕ). Row n s x rest c) h r
+zero-argument : (n s a : ℕ) (rest : List ℕ) (c : Call) → a ≡ 0 → CallRow n s 0 rest c → CallRow n s a rest c
+zero-argument n s a rest c h r = subst⁻¹ (λ (x : ℕ). CallRow n s x rest c) h r
 
-zero-subject : (n s a : ℕ) (rest : List ℕ) (c : Call) → s ≡ 0 → Row n 0 a rest c → Row n s a rest c
-zero-subject n s a rest c h r = subst⁻¹ (λ (x : ℕ). Row n x a rest c) h r
+zero-subject : (n s a : ℕ) (rest : List ℕ) (c : Call) → s ≡ 0 → CallRow n 0 a rest c → CallRow n s a rest c
+zero-subject n s a rest c h r = subst⁻¹ (λ (x : ℕ). CallRow n x a rest c) h r
 
 module _ (s a : ℕ) (hs : s < 2 ^ 8) (ha : a < 2 ^ 16) (rest : List ℕ) (c : Call) where
   -- the number takes a subject and an argument
-  both-used : (n : ℕ) (k : Call) → Row n s a rest k → some k ≡ some c → Row n s a rest c
-  both-used n k r e = subst (Row n s a rest) (Option·some-injective k c e) r
+  both-used : (n : ℕ) (k : Call) → CallRow n s a rest k → some k ≡ some c → CallRow n s a rest c
+  both-used n k r e = subst (CallRow n s a rest) (Option·some-injective k c e) r
 
   -- it takes a subject
-  subject-used : (n : ℕ) (k : Call) → Row n s 0 rest k → unused a (some k) ≡ some c → Row n s a rest c
+  subject-used : (n : ℕ) (k : Call) → CallRow n s 0 rest k → unused a (some k) ≡ some c → CallRow n s a rest c
   subject-used n k r e =
       let h = unused-some a (some k) c e in
-      zero-argument n s a rest c (h .0) (subst (Row n s 0 rest) (Option·some-injective k c (h .1)) r)
+      zero-argument n s a rest c (h .0) (subst (CallRow n s 0 rest) (Option·some-injective k c (h .1)) r)
 
   -- it takes none
-  none-used : (n : ℕ) (k : Call) → Row n 0 0 rest k → unused s (unused a (some k)) ≡ some c → Row n s a rest c
+  none-used : (n : ℕ) (k : Call) → CallRow n 0 0 rest k → unused s (unused a (some k)) ≡ some c → CallRow n s a rest c
   none-used n k r e =
       let h = unused-some s (unused a (some k)) c e in
       let g = unused-some a (some k) c (h .1) in
       zero-subject n s a rest c (h .0) (zero-argument n 0 a rest c (g .0)
-      (subst (Row n 0 0 rest) (Option·some-injective k c (g .1)) r))
+      (subst (CallRow n 0 0 rest) (Option·some-injective k c (g .1)) r))
 
   send-row :
       (b m : ℕ) → (b < 2 ^ 28) × (rest ≡ badgeWord b ∷ drop 1 rest) →
-      (m < 2 ^ 28) × (drop 1 rest ≡ messageWord m ∷ drop 1 (drop 1 rest)) → Row 7 s 0 rest (Send s b m)
+      (m < 2 ^ 28) × (drop 1 rest ≡ messageWord m ∷ drop 1 (drop 1 rest)) → CallRow 7 s 0 rest (Send s b m)
   unfolding wordsOf wordsTaken
   send-row b m fb fm = record {
     fits = (hs, fb .0, fm .0);
@@ -156,7 +156,7 @@ module _ (s a : ℕ) (hs : s < 2 ^ 8) (ha : a < 2 ^ 16) (rest : List ℕ) (c : C
     taken = refl;
   }
 
-  abort-row : (b : ℕ) → (b < 2 ^ 28) × (rest ≡ badgeWord b ∷ drop 1 rest) → Row 12 s a rest (Abort s a b)
+  abort-row : (b : ℕ) → (b < 2 ^ 28) × (rest ≡ badgeWord b ∷ drop 1 rest) → CallRow 12 s a rest (Abort s a b)
   unfolding wordsOf wordsTaken
   abort-row b fb = record {
     fits = (hs, ha, fb .0);
@@ -164,22 +164,22 @@ module _ (s a : ℕ) (hs : s < 2 ^ 8) (ha : a < 2 ^ 16) (rest : List ℕ) (c : C
     taken = refl;
   }
 
-  with-send : sendOf s rest ≡ some c → Row 7 s 0 rest c
+  with-send : sendOf s rest ≡ some c → CallRow 7 s 0 rest c
   with-send e =
       let (b, eb, e₁) = given-some (numberIn 2 rest) (λ b. withMessage rest (λ m. some (Send s b m))) c e in
       let (m, em, e₂) = given-some (numberIn 3 (drop 1 rest)) (λ m. some (Send s b m)) c e₁ in
-      subst (Row 7 s 0 rest) (Option·some-injective (Send s b m) c e₂)
+      subst (CallRow 7 s 0 rest) (Option·some-injective (Send s b m) c e₂)
       (send-row b m (number-some 2 rest b eb) (number-some 3 (drop 1 rest) m em))
 
-  with-abort : abortOf s a rest ≡ some c → Row 12 s a rest c
+  with-abort : abortOf s a rest ≡ some c → CallRow 12 s a rest c
   with-abort e =
       let (b, eb, e₁) = given-some (numberIn 2 rest) (λ b. some (Abort s a b)) c e in
-      subst (Row 12 s a rest) (Option·some-injective (Abort s a b) c e₁) (abort-row b (number-some 2 rest b eb))
+      subst (CallRow 12 s a rest) (Option·some-injective (Abort s a b) c e₁) (abort-row b (number-some 2 rest b eb))
 
-  pub row : (n : ℕ) → callOf n s a rest ≡ some c → Row n s a rest c
+  pub row : (n : ℕ) → callOf n s a rest ≡ some c → CallRow n s a rest c
   unfolding callOf wordsOf wordsTaken
   row =
-      by-number (λ n. callOf n s a rest ≡ some c → Row n s a rest c)
+      by-number (λ n. callOf n s a rest ≡ some c → CallRow n s a rest c)
       (λ e. absurd (Option·none-ne-some c e))
       (both-used 1 (CreateThread s a) (record { fits = (hs, ha); words = refl; taken = refl }))
       (subject-used 2 (DestroyThread s) (record { fits = hs; words = refl; taken = refl }))
@@ -199,7 +199,7 @@ module _ (s a : ℕ) (hs : s < 2 ^ 8) (ha : a < 2 ^ 16) (rest : List ℕ) (c : C
 
 -- words that name a call are its words, and as many as the top byte says
 pub record Spelled (w : ℕ) (rest : List ℕ) (c : Call) : Type 0 where
-  pub fits : Fits c
+  pub fits : NumbersFit c
   pub words : take (length (wordsOf c)) (w ∷ rest) ≡ wordsOf c
   pub taken : wordsTaken (topByte w) ≡ length (wordsOf c)
 

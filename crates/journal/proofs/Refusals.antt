@@ -12,8 +12,8 @@ use Rattle.machine.specs.Calls.{inRange}
 use Rattle.journal.specs.declared.types.Read.{Read}
 use Rattle.journal.specs.declared.types.Read.the-variants.{Refused, Ended}
 use Rattle.machine.specs.Results.{plain}
-use Rattle.journal.specs.Words.{readFrom, readAt, answerOf, wordsOf}
-use Rattle.journal.proofs.Naming.{Fits, call-read, spelled}
+use Rattle.journal.specs.Words.{readFrom, readAt, answerToRead, wordsOf}
+use Rattle.journal.proofs.Naming.{NumbersFit, call-read, spelled}
 use Rattle.journal.proofs.Causes.{Cause, caused, cause-of}
 use Rattle.journal.proofs.Outcomes.{Outcome, outcome}
 use Rattle.journal.proofs.Outcomes.Outcome.{past-end, no-call, out-of-range, a-call}
@@ -22,7 +22,7 @@ use Rattle.journal.proofs.Outcomes.Outcome.{past-end, no-call, out-of-r
 pub record RefusedAt (journal : List ℕ) (at code place : ℕ) : Type 0 where
   pub stays : place ≡ at
   pub number : (code ≡ 18) ⊎ (code ≡ 19)
-  pub zeros : answerOf (readAt journal at) ≡ some (plain code)
+  pub zeros : answerToRead (readAt journal at) ≡ some (plain code)
 
 -- The reader gives only 18 and 19, and stays at the word where the call began.
 pub refused-at :
@@ -34,11 +34,11 @@ refused-at journal at code place e = go (readAt journal at) (outcome journal at)
     go r (no-call w rest l n) f =
         let p : place ≡ at = cc in
         let k : code ≡ 18 = cc in
-        record { stays = p; number = inl k; zeros = ap answerOf e }
+        record { stays = p; number = inl k; zeros = ap answerToRead e }
     go r (out-of-range w rest l c n b) f =
         let p : place ≡ at = cc in
         let k : code ≡ 19 = cc in
-        record { stays = p; number = inr k; zeros = ap answerOf e }
+        record { stays = p; number = inr k; zeros = ap answerToRead e }
     go r (a-call w rest l c n b) f = let z : _≡_ {A = ℕ} 0 1 = cc in absurd (omega arith)
 
 -- 18 comes before 19: where a cause of 18 holds, the answer is 18, whatever the ranges.
@@ -64,7 +64,7 @@ eighteen-only journal at e = go (readAt journal at) (outcome journal at) e
 
 -- the words at a place are those of a call that is not in range
 pub record OutOfRange (journal : List ℕ) (at : ℕ) (c : Call) : Type 0 where
-  pub fits : Fits c
+  pub fits : NumbersFit c
   pub words : take (length (wordsOf c)) (drop at journal) ≡ wordsOf c
   pub out : inRange c ≡ false
 

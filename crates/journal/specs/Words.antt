@@ -113,10 +113,10 @@ unfoldable pub readAt : List ℕ → ℕ → Read
 readAt journal at = readFrom at (drop at journal)
 
 -- the numbers of a reading: 0 for a call, 18 or 19 for a refusal, none where the journal has ended
-abbrev pub answerOf : Read → Option Answer
-answerOf (Found c next) = some (plain 0)
-answerOf (Refused code at) = some (plain code)
-answerOf Ended = none
+abbrev pub answerToRead : Read → Option Answer
+answerToRead (Found c next) = some (plain 0)
+answerToRead (Refused code at) = some (plain code)
+answerToRead Ended = none
 
 -- the word with these parts and top bits 1
 abbrev pub callWord : ℕ → ℕ → ℕ → ℕ

@@ -14,7 +14,7 @@ ghost use Prim.Native.Nat.{_<_};
 ghost use Rattle.machine.specs.Calls.{inRange};
 ghost use Rattle.journal.specs.Words.{numberIn, unused, sendOf, abortOf, callOf, callAt, judged, readAt};
 ghost use Rattle.journal.specs.Words.{callWord, badgeWord, messageWord, asWritten, wordsOf, written};
-ghost use Rattle.journal.specs.Steps.{named, nameOf, number};
+ghost use Rattle.journal.specs.Steps.{asNamed, callNamed, asNumber};
 
 // The number in a word of the kind asked for, if it is one.
 enum Number {
@@ -29,7 +29,7 @@ const MESSAGE: u32 = 3;
 
 // The number in the word that the rest of the journal begins with, if that has these top bits.
 fn number_in(rest: &[u32], top: u32) -> Number
-    ensures { λ r. ⌜ r ≡ number (numberIn top (now (rest .entry))) ⌝ }
+    ensures { λ r. ⌜ r ≡ asNumber (numberIn top (now (rest .entry))) ⌝ }
 {
     if rest.len() == 0 {
         return Number::Wrong;
@@ -44,13 +44,13 @@ fn number_in(rest: &[u32], top: u32) -> Number
 
 // An unused part is 0, or no call is named.
 pub fn if_unused(part: u32, call: Named) -> Named
-    ensures { λ r. ⌜ r ≡ named (unused part (nameOf call)) ⌝ }
+    ensures { λ r. ⌜ r ≡ asNamed (unused part (callNamed call)) ⌝ }
 {
     if part == 0 { call } else { Named::Nothing }
 }
 
 fn send(endpoint: u32, rest: &[u32]) -> Named
-    ensures { λ r. ⌜ r ≡ named (sendOf endpoint (now (rest .entry))) ⌝ }
+    ensures { λ r. ⌜ r ≡ asNamed (sendOf endpoint (now (rest .entry))) ⌝ }
 {
     let Number::Is(badge) = number_in(rest, BADGE) else {
         return Named::Nothing;
@@ -66,7 +66,7 @@ fn send(endpoint: u32, rest: &[u32]) -> Named
 }
 
 fn abort(endpoint: u32, allowance: u32, rest: &[u32]) -> Named
-    ensures { λ r. ⌜ r ≡ named (abortOf endpoint allowance (now (rest .entry))) ⌝ }
+    ensures { λ r. ⌜ r ≡ asNamed (abortOf endpoint allowance (now (rest .entry))) ⌝ }
 {
     let Number::Is(badge) = number_in(rest, BADGE) else {
         return Named::Nothing;
@@ -80,7 +80,7 @@ fn abort(endpoint: u32, allowance: u32, rest: &[u32]) -> Named
 
 // The call of a number, a subject and an argument alone.
 pub fn short_call(number: u32, subject: u32, argument: u32) -> Named
-    ensures { λ r. ⌜ r ≡ named (callOf number subject argument []) ⌝ }
+    ensures { λ r. ⌜ r ≡ asNamed (callOf number subject argument []) ⌝ }
 {
     match number {
         1 => Named::One(Call::CreateThread {
@@ -114,7 +114,7 @@ pub fn short_call(number: u32, subject: u32, argument: u32) -> Named
 
 // The call of the parts of a call word, with the words after it, which the rest of the journal begins with.
 fn call_of(number: u32, subject: u32, argument: u32, rest: &[u32]) -> Named
-    ensures { λ r. ⌜ r ≡ named (callOf number subject argument (now (rest .entry))) ⌝ }
+    ensures { λ r. ⌜ r ≡ asNamed (callOf number subject argument (now (rest .entry))) ⌝ }
 {
     match number {
         7 => if_unused(argument, send(subject, rest)),
@@ -125,7 +125,7 @@ fn call_of(number: u32, subject: u32, argument: u32, rest: &[u32]) -> Named
 
 // The call that a word begins, with the words after it.
 fn call_at(word: u32, rest: &[u32]) -> Named
-    ensures { λ r. ⌜ r ≡ named (callAt word (now (rest .entry))) ⌝ }
+    ensures { λ r. ⌜ r ≡ asNamed (callAt word (now (rest .entry))) ⌝ }
 {
     if words_taken(word >> 24) == 0 {
         return Named::Nothing;
@@ -135,7 +135,7 @@ fn call_at(word: u32, rest: &[u32]) -> Named
 
 // What is answered at a place where these words stand: 18 before 19.
 fn answer(words: Named, at: usize, next: usize) -> Read
-    ensures { λ r. ⌜ r ≡ judged at next (nameOf words) ⌝ }
+    ensures { λ r. ⌜ r ≡ judged at next (callNamed words) ⌝ }
 {
     let Named::One(call) = words else {
         return Read::Refused { code: 18, at };

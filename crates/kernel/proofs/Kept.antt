@@ -19,13 +19,13 @@ use Rattle.layout.specs.Words.{image}
 use Rattle.soundness.specs.Tables.{stateOf}
 use Rattle.soundness.proofs.Tables.{state-exact}
 use Rattle.layout.proofs.Ends.{none-some}
-use Rattle.layout.proofs.Tests.{Tells, tells-and, tells-eqb}
+use Rattle.layout.proofs.Tests.{Decides, tells-and, tells-eqb}
 use Rattle.lent_tables.specs.Entries.{Lent, lent, Sized, sized, zeros, Called, taken, called}
 use Rattle.kernel.specs.Kept.{Kept, lengths, unsound, refused, holds}
 use Rattle.kernel.proofs.Entry.{calledOf}
 
 -- The test of the lengths.
-sizes : (l : Lent) → Tells (sized l) (Sized l)
+sizes : (l : Lent) → Decides (sized l) (Sized l)
 sizes l = tells-and (tells-eqb (length (l .tables)) tableWords) (tells-eqb (length (l .scratch)) scratchWords)
 
 module _ (l : Lent) (c : Call) where

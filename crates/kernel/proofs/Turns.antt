@@ -14,7 +14,7 @@ use Rattle.machine.specs.State.{State}
 use Rattle.machine.specs.Results.{plain}
 use Rattle.machine.specs.Machine.{step}
 use Rattle.machine.specs.Sound.{Sound}
-use Rattle.machine.specs.History.{Run, freshRun, runFrom, recorded, told}
+use Rattle.machine.specs.Recorded.{Run, freshRun, runFrom, recorded, told}
 use Rattle.machine.proofs.Demand3.Demand.{demand}
 use Rattle.machine.proofs.Preserved.Steps.{step-sound, fresh-sound}
 use Rattle.layout.specs.Addresses.{tableWords, scratchWords}

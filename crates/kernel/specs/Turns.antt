@@ -11,7 +11,7 @@ use Rattle.machine.specs.declared.Call.{Call}
 use Rattle.machine.specs.Lists.{pick}
 use Rattle.machine.specs.Results.{plain}
 use Rattle.machine.specs.Machine.{step}
-use Rattle.machine.specs.History.{freshRun, runFrom, historyOf}
+use Rattle.machine.specs.Recorded.{freshRun, runFrom, historyOf}
 use Rattle.machine.specs.Claim.{Claim}
 use Rattle.layout.specs.Addresses.{scratchWords}
 use Rattle.layout.specs.Words.{image}

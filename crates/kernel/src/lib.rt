@@ -70,7 +70,7 @@ fn perform(tables: &mut [u32], c: Call) -> Answer
     let link = store::running(tables);
     let number = machine::number(c);
     if (link == 0) & (number >= 7) {
-        return endings::plain(20);
+        return machine::plain(20);
     }
     carry_out(tables, link, c)
 }
@@ -82,7 +82,7 @@ fn step(tables: &mut [u32], c: Call) -> Answer
 {
     let fits = machine::in_range(c);
     if !fits {
-        return endings::plain(19);
+        return machine::plain(19);
     }
     perform(tables, c)
 }
@@ -95,7 +95,7 @@ pub fn call(tables: &mut [u32], scratch: &mut [u32], c: Call) -> Answer
 {
     let code = lent_tables::check(tables, scratch);
     if code != 0 {
-        return endings::plain(code);
+        return machine::plain(code);
     }
     step(tables, c)
 }

@@ -171,13 +171,13 @@ address-small (slot a) h = at-small a h
 address-small (link k) h = linkAt-small k h
 
 -- Each address is that of a valid name.
-pub record Named (i : ℕ) : Type 0 where
+pub record HasName (i : ℕ) : Type 0 where
   pub name : Name
   pub valid : Valid name
   pub here : address name ≡ i
 
 -- The valid name of word k of thread t, of queue q and of endpoint e.
-in-thread : (t k i : ℕ) → t ≤ 255 → k < 10 → 10 * t + k ≡ i → Named i
+in-thread : (t k i : ℕ) → t ≤ 255 → k < 10 → 10 * t + k ≡ i → HasName i
 unfolding at linkAt
 in-thread t zero i h g e = record { name = slot (ofThread Field.Place t); valid = h; here = e }
 in-thread t (suc zero) i h g e = record { name = slot (ofThread Field.Priority t); valid = h; here = e }
@@ -195,13 +195,13 @@ in-thread t (suc (suc (suc (suc (suc (suc (suc (suc (suc zero))))))))) i h g e =
     record { name = slot (ofThread Field.Note t); valid = h; here = e }
 in-thread t (suc (suc (suc (suc (suc (suc (suc (suc (suc (suc k)))))))))) i h g e = absurd (omega arith)
 
-in-queue : (q k i : ℕ) → q ≤ 319 → k < 2 → 2560 + 2 * q + k ≡ i → Named i
+in-queue : (q k i : ℕ) → q ≤ 319 → k < 2 → 2560 + 2 * q + k ≡ i → HasName i
 unfolding linkAt
 in-queue q zero i h g e = record { name = link (head q); valid = h; here = omega arith }
 in-queue q (suc zero) i h g e = record { name = link (tail q); valid = h; here = omega arith }
 in-queue q (suc (suc k)) i h g e = absurd (omega arith)
 
-in-endpoint : (n k i : ℕ) → n ≤ 63 → k < 6 → 3200 + 6 * n + k ≡ i → Named i
+in-endpoint : (n k i : ℕ) → n ≤ 63 → k < 6 → 3200 + 6 * n + k ≡ i → HasName i
 unfolding at
 in-endpoint n zero i h g e = record { name = slot (ofEndpoint Part.Status n); valid = h; here = e }
 in-endpoint n (suc zero) i h g e = record { name = slot (ofEndpoint Part.Aborting n); valid = h; here = e }
@@ -222,28 +222,28 @@ below? i n = go (ltb i n) refl
     go false e = inr (ltb-false i n e)
 
 module _ (i : ℕ) (small : i < 4096) where
-  from-marks : 3624 ≤ i → Named i
+  from-marks : 3624 ≤ i → HasName i
   unfolding at
   from-marks h = go (below? i 3625) (below? i 3626)
     where
-      go : (i < 3625) ⊎ (3625 ≤ i) → (i < 3626) ⊎ (3626 ≤ i) → Named i
+      go : (i < 3625) ⊎ (3625 ≤ i) → (i < 3626) ⊎ (3626 ≤ i) → HasName i
       go (inl g) k = record { name = slot top; valid = tt; here = omega arith }
       go (inr g) (inl k) = record { name = slot running; valid = tt; here = omega arith }
       go (inr g) (inr k) = record { name = slot (unused (i - 3626)); valid = omega arith; here = omega arith }
 
-  from-lines : 3584 ≤ i → Named i
+  from-lines : 3584 ≤ i → HasName i
   unfolding at
   from-lines h = go (below? i 3616) (below? i 3624)
     where
-      go : (i < 3616) ⊎ (3616 ≤ i) → (i < 3624) ⊎ (3624 ≤ i) → Named i
+      go : (i < 3616) ⊎ (3616 ≤ i) → (i < 3624) ⊎ (3624 ≤ i) → HasName i
       go (inl g) k = record { name = slot (ofLine (i - 3584)); valid = omega arith; here = omega arith }
       go (inr g) (inl k) = record { name = slot (summary (i - 3616)); valid = omega arith; here = omega arith }
       go (inr g) (inr k) = from-marks k
 
-  pub named : Named i
+  pub named : HasName i
   named = go (below? i 2560) (below? i 3200) (below? i 3584)
     where
-      go : (i < 2560) ⊎ (2560 ≤ i) → (i < 3200) ⊎ (3200 ≤ i) → (i < 3584) ⊎ (3584 ≤ i) → Named i
+      go : (i < 2560) ⊎ (2560 ≤ i) → (i < 3200) ⊎ (3200 ≤ i) → (i < 3584) ⊎ (3584 ≤ i) → HasName i
       go (inl g) k l = in-thread (i / 10) (i % 10) i (omega arith) (omega arith) (omega arith)
       go (inr g) (inl k) l =
           in-queue ((i - 2560) / 2) ((i - 2560) % 2) i (omega arith) (omega arith) (omega arith)

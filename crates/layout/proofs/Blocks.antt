@@ -10,7 +10,7 @@ use Rattle.machine.specs.Sound.{Stores, DebtInRange, Numbers}
 use Rattle.machine.proofs.Lists.{Same, same, other, same?}
 use Rattle.layout.specs.declared.Field.{Field}
 use Rattle.layout.specs.Words.{threadWord, placeCode}
-use Rattle.layout.specs.Decode.{within, placeOf, debtOf, outcomeIn, storedIn, presentThread, threadAt, threadFrom}
+use Rattle.layout.specs.Decode.{orZero, placeOf, debtOf, outcomeIn, storedIn, presentThread, threadBy, threadFrom}
 use Rattle.layout.proofs.Codes.{within-small, within-same, ticks-range, ticks-back, PlaceSmall, place-small}
 use Rattle.layout.proofs.Codes.{place-back, DebtSmall, debt-small, debt-back, not-absent}
 
@@ -85,7 +85,7 @@ stores? (sending e) o = inl tt
 stores? (receiving e) o = inr (λ z. z)
 stores? (waiting l) o = inr (λ z. z)
 
-stored-some : (p : Place) (o w : ℕ) → Stores p o → storedIn p o w ≡ within (2 ^ 28 - 1) w
+stored-some : (p : Place) (o w : ℕ) → Stores p o → storedIn p o w ≡ orZero (2 ^ 28 - 1) w
 unfolding storedIn
 stored-some absent o w h = absurd h
 stored-some able o w h = rw (eq-eqb o 2 h)
@@ -147,7 +147,7 @@ present-neat t p w h g n =
       );
     }
 
-neat-at : (t : ℕ) (p : Place) (w : Field → ℕ) → t ≤ 255 → PlaceSmall p → NeatThread t (threadAt p w)
+neat-at : (t : ℕ) (p : Place) (w : Field → ℕ) → t ≤ 255 → PlaceSmall p → NeatThread t (threadBy p w)
 neat-at t absent w h g = absent-neat t
 neat-at t able w h g = present-neat t able w h g (not-absent refl (omega arith))
 neat-at t (sending e) w h g = present-neat t (sending e) w h g (not-absent refl (omega arith))
@@ -183,7 +183,7 @@ module _ (t : ℕ) (x : Thread) (X : NeatThread t x) where
           → storedIn p (outcomeIn p (x .outcome)) w ≡ w
       stored w h f = rw o (stored-back p (x .outcome) w h (rw e at f))
 
-  back-at : (p : Place) → x .place ≡ p → threadAt p (threadWord x) ≡ x
+  back-at : (p : Place) → x .place ≡ p → threadBy p (threadWord x) ≡ x
   back-at absent e = sym (X .unused e)
   back-at able e = present-back able e (not-absent refl (omega arith))
   back-at (sending n) e = present-back (sending n) e (not-absent refl (omega arith))

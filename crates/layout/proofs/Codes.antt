@@ -10,23 +10,23 @@ use Rattle.machine.specs.Lists.{pick}
 use Rattle.machine.specs.State.{Place, absent, able, sending, receiving, waiting, Debt, nothing, owns, noted, Line}
 use Rattle.machine.specs.State.{quiet, pending, awaited}
 use Rattle.layout.specs.Words.{linkOf, placeCode, debtCode, noteCode, lineCode}
-use Rattle.layout.specs.Decode.{within, linked, ticksOf, placeOf, debtOf, lineOf}
+use Rattle.layout.specs.Decode.{orZero, linked, ticksOf, placeOf, debtOf, lineBy}
 
 -- Of two that have a property, the one picked has it.
 pub pick-any : {A : Type 0} (P : A → Type 0) (b : Bool) {x y : A} → P x → P y → P (pick b x y)
 pick-any P true p q = p
 pick-any P false p q = q
 
-pub within-small : (n w : ℕ) → within n w ≤ n
-unfolding within
+pub within-small : (n w : ℕ) → orZero n w ≤ n
+unfolding orZero
 within-small n w = go (leb w n) refl
   where
     go : (b : Bool) → leb w n ≡ b → pick b w 0 ≤ n
     go true e = leb-true w n e
     go false e = omega arith
 
-pub within-same : (n w : ℕ) → w ≤ n → within n w ≡ w
-unfolding within
+pub within-same : (n w : ℕ) → w ≤ n → orZero n w ≡ w
+unfolding orZero
 within-same n w h = rw (le-leb w n h)
 
 pub ticks-range : (w : ℕ) → (1 ≤ ticksOf w) × (ticksOf w ≤ 5)
@@ -140,8 +140,8 @@ debt-back (noted e b) h =
 
 -- Lines
 
-pub line-small : (w t : ℕ) → lineOf w ≡ awaited t → t ≤ 255
-unfolding lineOf
+pub line-small : (w t : ℕ) → lineBy w ≡ awaited t → t ≤ 255
+unfolding lineBy
 line-small zero t e = absurd (let z : _≡_ {A = ℕ} 0 1 = cc in omega arith)
 line-small (suc zero) t e = absurd (let z : _≡_ {A = ℕ} 0 1 = cc in omega arith)
 line-small (suc (suc u)) t e = go (leb u 255) refl e
@@ -150,8 +150,8 @@ line-small (suc (suc u)) t e = go (leb u 255) refl e
     go true h k = let g : u ≡ t = cc in omega (arith, leb-true u 255 h)
     go false h k = absurd (let z : _≡_ {A = ℕ} 0 1 = cc in omega arith)
 
-pub line-back : (x : Line) → ((t : ℕ) → x ≡ awaited t → t ≤ 255) → lineOf (lineCode x) ≡ x
-unfolding lineOf
+pub line-back : (x : Line) → ((t : ℕ) → x ≡ awaited t → t ≤ 255) → lineBy (lineCode x) ≡ x
+unfolding lineBy
 line-back quiet h = refl
 line-back pending h = refl
 line-back (awaited t) h = rw (le-leb t 255 (h t refl))

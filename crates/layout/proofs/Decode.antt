@@ -13,15 +13,15 @@ use Rattle.layout.specs.declared.Part.{Part}
 use Rattle.layout.specs.Addresses.{ofThread, ofEndpoint, ofLine, running, head, at, linkAt, word}
 use Rattle.layout.specs.Words.{queuesOf, endpointWord, image}
 use Rattle.layout.specs.Shows.{Shows}
-use Rattle.layout.specs.Decode.{queueFrom, linked, lineOf, threadFrom, endpointFrom, decode}
+use Rattle.layout.specs.Decode.{queueFrom, linked, lineBy, threadFrom, endpointFrom, decode}
 use Rattle.layout.proofs.Codes.{linked-small, linked-back, line-back}
 use Rattle.layout.proofs.Codes.{line-small as read-small}
 use Rattle.layout.proofs.Blocks.{NeatThread, thread-neat, thread-back, beyond-absent, absent-neat}
-use Rattle.layout.proofs.Walks.{walk-small, walk-chain, bounded-length}
+use Rattle.layout.proofs.Following.{walk-small, walk-chain, bounded-length}
 use Rattle.layout.proofs.Ends.{NeatEndpoint, endpoint-neat, endpoint-back, missing-neat}
 use Rattle.layout.proofs.Standing.{queues-level, queues-endpoint}
 use Rattle.layout.proofs.Image.{image-shows}
-use Rattle.layout.proofs.Neat.{Neat, sound-neat}
+use Rattle.layout.proofs.Neat.{NeatState, sound-neat}
 
 -- An entry of a table that is empty past the index n.
 
@@ -45,8 +45,8 @@ module _ {A : Type 0} (n : ℕ) (x y : A) where
       go true e = f (leb-true i n e)
       go false e = g (leb-false i n e)
 
-pub decode-neat : (m : List ℕ) → Neat (decode m)
-unfolding decode lineOf
+pub decode-neat : (m : List ℕ) → NeatState (decode m)
+unfolding decode lineBy
 decode-neat m =
     record {
       threads = λ t.
@@ -65,7 +65,7 @@ decode-neat m =
           pick-at 255 (queueFrom m p) [] (λ l. Mem t l → t ≤ 255) p
           (λ _. walk-small m 256 (word m (linkAt (head p))) t) (λ k. absurd k);
       line-small = λ l t.
-          pick-at 31 (lineOf (word m (at (ofLine l)))) quiet (λ x. x ≡ awaited t → t ≤ 255) l
+          pick-at 31 (lineBy (word m (at (ofLine l)))) quiet (λ x. x ≡ awaited t → t ≤ 255) l
           (λ _. read-small (word m (at (ofLine l))) t) (read-small 0 t);
     }
 
@@ -89,7 +89,7 @@ module _ (m : List ℕ) (s : State) (S : Sound s) (M : Shows m s) where
         lines = fun-ext lines i;
       }
     where
-      N : Neat s
+      N : NeatState s
       N = sound-neat s S
 
       threads : (t : ℕ)
@@ -121,10 +121,10 @@ module _ (m : List ℕ) (s : State) (S : Sound s) (M : Shows m s) where
           pick-is 63 (endpointFrom (λ p. word m (at (ofEndpoint p e))) (queueFrom m (256 + e))) missingEndpoint e
           (s .endpoints e) (endpoint-here e) (λ h. sym (N .unused-endpoint e h))
 
-      lines : (l : ℕ) → pick (leb l 31) (lineOf (word m (at (ofLine l)))) quiet ≡ s .lines l
+      lines : (l : ℕ) → pick (leb l 31) (lineBy (word m (at (ofLine l)))) quiet ≡ s .lines l
       lines l =
-          pick-is 31 (lineOf (word m (at (ofLine l)))) quiet l (s .lines l)
-          (λ h. ap lineOf (M .slots (ofLine l) h) ∙ line-back (s .lines l) (N .line-small l))
+          pick-is 31 (lineBy (word m (at (ofLine l)))) quiet l (s .lines l)
+          (λ h. ap lineBy (M .slots (ofLine l) h) ∙ line-back (s .lines l) (N .line-small l))
           (λ h. sym (N .unused-line l h))
 
 -- Of a memory that is a sound state's image, it shows the state.

@@ -10,15 +10,15 @@ use Rattle.machine.specs.State.{Abort, Status, missing, live, closing, Endpoint
 use Rattle.machine.specs.Endpoints.{ownerOf, pendingOf}
 use Rattle.layout.specs.declared.Part.{Part}
 use Rattle.layout.specs.Words.{statusCode, abortCode, badgeCode, endpointWord}
-use Rattle.layout.specs.Decode.{within, abortAt, endpointAt, endpointFrom}
+use Rattle.layout.specs.Decode.{orZero, abortBy, endpointBy, endpointFrom}
 use Rattle.layout.proofs.Codes.{within-small, within-same, linked-small, linked-back}
-use Rattle.layout.proofs.Walks.{Within, between-within, between-back}
+use Rattle.layout.proofs.Following.{PartOf, between-within, between-back}
 
 -- What Sound asks of an abort, if there is one, at a queue, and of an endpoint alone.
 pub record NeatAbort (l : List ℕ) (o : Option Abort) : Type 0 where
   pub badge : badgeCode o < 2 ^ 28
   pub owner : (t : ℕ) → ownerOf o ≡ some t → t ≤ 255
-  pub part : Within l (pendingOf o)
+  pub part : PartOf l (pendingOf o)
 
 pub record NeatEndpoint (x : Endpoint) : Type 0 where
   pub small : (t : ℕ) → Mem t (x .waiters) → t ≤ 255
@@ -40,8 +40,8 @@ no-abort-neat l =
 
 -- What is read is neat.
 
-abort-neat : (n : ℕ) (w : Part → ℕ) (l : List ℕ) → NeatAbort l (abortAt n w l)
-unfolding abortAt
+abort-neat : (n : ℕ) (w : Part → ℕ) (l : List ℕ) → NeatAbort l (abortBy n w l)
+unfolding abortBy
 abort-neat zero w l = no-abort-neat l
 abort-neat (suc n) w l =
     record {
@@ -53,7 +53,7 @@ abort-neat (suc n) w l =
 pub missing-neat : NeatEndpoint missingEndpoint
 missing-neat = record { small = λ t m. absurd m; empty = λ e. refl; no-abort = λ n. refl; neat = no-abort-neat [] }
 
-neat-at : (n : ℕ) (w : Part → ℕ) (l : List ℕ) → ((t : ℕ) → Mem t l → t ≤ 255) → NeatEndpoint (endpointAt n w l)
+neat-at : (n : ℕ) (w : Part → ℕ) (l : List ℕ) → ((t : ℕ) → Mem t l → t ≤ 255) → NeatEndpoint (endpointBy n w l)
 neat-at zero w l h = missing-neat
 neat-at (suc zero) w l h =
     record {
@@ -78,8 +78,8 @@ endpoint-neat w l h = neat-at (w Part.Status) w l h
 -- A neat endpoint in whose queue nobody stands twice is read back.
 
 module _ (x : Endpoint) (X : NeatEndpoint x) (d : Distinct (x .waiters)) where
-  abort-back : (o : Option Abort) → x .abort ≡ o → abortAt (abortCode o) (endpointWord x) (x .waiters) ≡ o
-  unfolding abortAt
+  abort-back : (o : Option Abort) → x .abort ≡ o → abortBy (abortCode o) (endpointWord x) (x .waiters) ≡ o
+  unfolding abortBy
   abort-back none e = refl
   abort-back (some a) e =
       ap {B = Option Abort} some
@@ -90,7 +90,7 @@ module _ (x : Endpoint) (X : NeatEndpoint x) (d : Distinct (x .waiters)) where
         pending = (between-back (x .waiters) (pendingOf (x .abort)) (X .neat .part) d ∙ ap pendingOf e) i;
       })
 
-  back-at : (z : Status) → x .status ≡ z → endpointAt (statusCode z) (endpointWord x) (x .waiters) ≡ x
+  back-at : (z : Status) → x .status ≡ z → endpointBy (statusCode z) (endpointWord x) (x .waiters) ≡ x
   back-at missing e = λ i.
       record {
         status = sym e i;

@@ -4,7 +4,7 @@ pub mod Codes
 pub mod Standing
 pub mod Image
 pub mod Blocks
-pub mod Walks
+pub mod Following
 pub mod Ends
 pub mod Neat
 pub mod Decode

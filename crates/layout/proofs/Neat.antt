@@ -17,7 +17,7 @@ use Rattle.layout.proofs.Blocks.{NeatThread, absent?}
 use Rattle.layout.proofs.Ends.{NeatAbort, NeatEndpoint, no-abort-neat, none-some}
 use Rattle.layout.proofs.Standing.{queued-present, level-small, endpoint-small}
 
-pub record Neat (s : State) : Type 0 where
+pub record NeatState (s : State) : Type 0 where
   pub threads : (t : ℕ) → NeatThread t (s .threads t)
   pub endpoints : (e : ℕ) → NeatEndpoint (s .endpoints e)
   pub unused-endpoint : (e : ℕ) → 63 < e → s .endpoints e ≡ missingEndpoint
@@ -90,7 +90,7 @@ module _ (s : State) (S : Sound s) where
         part = record { before = p .before; behind = p .behind; within = p .within };
       }
 
-  pub sound-neat : Neat s
+  pub sound-neat : NeatState s
   sound-neat =
       record {
         threads = λ t.
@@ -118,7 +118,7 @@ module _ (s : State) (S : Sound s) where
         line-small = λ l t e. number t (waiting l) (S .queues .on-line t l .0 e) (omega arith);
       }
 
-module _ (s : State) (N : Neat s) where
+module _ (s : State) (N : NeatState s) where
   -- Whoever has a place is a thread, and its place is one.
   pub seated : (t : ℕ) {q : Place} → s .threads t .place ≡ q → 1 ≤ placeCode q → t ≤ 255
   seated t e h = N .threads t .numbers (not-absent e h) .thread

@@ -55,7 +55,7 @@ number (receiving e) p = 256 + e
 number (waiting l) p = 320
 
 -- The queue in which a thread stands.
-pub record Stands (s : State) (t : ℕ) : Type 0 where
+pub record StandsIn (s : State) (t : ℕ) : Type 0 where
   pub queue : ℕ
   pub small : queue ≤ 319
   pub here : queuesOf s queue ≡ queueOf s t
@@ -104,11 +104,11 @@ module _ (s : State) (R : Ranges s) (Q : Queues s) where
           here ∙ by-place e (Q .queued t e .0 (rw here at m))
 
   -- And the queue that they name, if the thread stands there, is one of the 320.
-  pub stands : (t : ℕ) → Mem t (queueOf s t) → Stands s t
+  pub stands : (t : ℕ) → Mem t (queueOf s t) → StandsIn s t
   unfolding queueOf
   stands t m = go (s .threads t .place) refl m
     where
-      at-endpoint : (e : ℕ) → Mem t (s .endpoints e .waiters) → s .endpoints e .waiters ≡ queueOf s t → Stands s t
+      at-endpoint : (e : ℕ) → Mem t (s .endpoints e .waiters) → s .endpoints e .waiters ≡ queueOf s t → StandsIn s t
       at-endpoint e k i =
           record {
             queue = 256 + e;
@@ -116,7 +116,7 @@ module _ (s : State) (R : Ranges s) (Q : Queues s) where
             here = queues-endpoint s e ∙ i;
           }
 
-      go : (p : Place) → s .threads t .place ≡ p → Mem t (queueAt s p (s .threads t .priority)) → Stands s t
+      go : (p : Place) → s .threads t .place ≡ p → Mem t (queueAt s p (s .threads t .priority)) → StandsIn s t
       go absent i k = absurd k
       go able i k =
           let small = level-small t (s .threads t .priority) k in

@@ -16,69 +16,69 @@ use Rattle.layout.specs.Decode.{placeOf}
 use Rattle.layout.specs.Tests.{all, member, same as agree}
 use Rattle.layout.proofs.Codes.{PlaceSmall, place-back}
 
-pub record Tells (b : Bool) (P : Type 0) : Type 0 where
+pub record Decides (b : Bool) (P : Type 0) : Type 0 where
   pub holds : b ≡ true → P
   pub back : P → b ≡ true
 
 -- A test that fails tells a fact that does not hold, one that passes a fact that does.
-pub tells-false : {P : Type 0} → (P → ⊥) → Tells false P
+pub tells-false : {P : Type 0} → (P → ⊥) → Decides false P
 tells-false n = record { holds = λ e. absurd (clash e refl); back = λ p. absurd (n p) }
 
-pub tells-true : {P : Type 0} → P → Tells true P
+pub tells-true : {P : Type 0} → P → Decides true P
 tells-true p = record { holds = λ e. p; back = λ _. refl }
 
-pub tells-map : {b : Bool} {P Q : Type 0} → (P → Q) → (Q → P) → Tells b P → Tells b Q
+pub tells-map : {b : Bool} {P Q : Type 0} → (P → Q) → (Q → P) → Decides b P → Decides b Q
 tells-map f g t = record { holds = λ e. f (t .holds e); back = λ q. t .back (g q) }
 
 -- The fact holds, or it does not, with the value of the test.
 abbrev Decided : Bool → Type 0 → Type 0
 Decided b P = ((b ≡ true) × P) ⊎ ((b ≡ false) × (P → ⊥))
 
-decided : {b : Bool} {P : Type 0} → Tells b P → Decided b P
+decided : {b : Bool} {P : Type 0} → Decides b P → Decided b P
 decided {b} {P} t = go b refl
   where
     go : (c : Bool) → b ≡ c → Decided b P
     go true e = inl (e, t .holds e)
     go false e = inr (e, λ p. clash (t .back p) e)
 
-module _ {a b : Bool} {A B : Type 0} (s : Tells a A) (t : Tells b B) where
-  pub tells-and : Tells (a && b) (A × B)
+module _ {a b : Bool} {A B : Type 0} (s : Decides a A) (t : Decides b B) where
+  pub tells-and : Decides (a && b) (A × B)
   tells-and = go (decided s) (decided t)
     where
-      go : Decided a A → Decided b B → Tells (a && b) (A × B)
+      go : Decided a A → Decided b B → Decides (a && b) (A × B)
       go (inl p) (inl q) = rw (p .0, q .0) (tells-true (p .1, q .1))
       go (inl p) (inr q) = rw (p .0, q .0) (tells-false (λ h. q .1 (h .1)))
       go (inr p) q = rw (p .0) (tells-false (λ h. p .1 (h .0)))
 
-  pub tells-or : Tells (a || b) (A ⊎ B)
+  pub tells-or : Decides (a || b) (A ⊎ B)
   tells-or = go (decided s) (decided t)
     where
-      go : Decided a A → Decided b B → Tells (a || b) (A ⊎ B)
+      go : Decided a A → Decided b B → Decides (a || b) (A ⊎ B)
       go (inl p) q = rw (p .0) (tells-true (inl (p .1)))
       go (inr p) (inl q) = rw (p .0, q .0) (tells-true (inr (q .1)))
       go (inr p) (inr q) = rw (p .0, q .0) (tells-false (λ h. ⊎-elim (p .1) (q .1) h))
 
-  pub tells-agree : Tells (agree a b) (A ↔ B)
+  pub tells-agree : Decides (agree a b) (A ↔ B)
   tells-agree = go (decided s) (decided t)
     where
-      go : Decided a A → Decided b B → Tells (agree a b) (A ↔ B)
+      go : Decided a A → Decided b B → Decides (agree a b) (A ↔ B)
       go (inl p) (inl q) = rw (p .0, q .0) (tells-true ((λ _. q .1), (λ _. p .1)))
       go (inl p) (inr q) = rw (p .0, q .0) (tells-false (λ h. q .1 (h .0 (p .1))))
       go (inr p) (inl q) = rw (p .0, q .0) (tells-false (λ h. p .1 (h .1 (q .1))))
       go (inr p) (inr q) = rw (p .0, q .0) (tells-true ((λ h. absurd (p .1 h)), (λ h. absurd (q .1 h))))
 
-pub tells-not : {a : Bool} {A : Type 0} → Tells a A → Tells (not a) (A → ⊥)
+pub tells-not : {a : Bool} {A : Type 0} → Decides a A → Decides (not a) (A → ⊥)
 tells-not {a} {A} s = go (decided s)
   where
-    go : Decided a A → Tells (not a) (A → ⊥)
+    go : Decided a A → Decides (not a) (A → ⊥)
     go (inl p) = rw (p .0) (tells-false (λ f. f (p .1)))
     go (inr p) = rw (p .0) (tells-true (p .1))
 
 -- Indices
 
 pub tells-below :
-    (n : ℕ) (f : ℕ → Bool) (P : ℕ → Type 0) → ((i : ℕ) → i < n → Tells (f i) (P i))
-    → Tells (all n f) ((i : ℕ) → i < n → P i)
+    (n : ℕ) (f : ℕ → Bool) (P : ℕ → Type 0) → ((i : ℕ) → i < n → Decides (f i) (P i))
+    → Decides (all n f) ((i : ℕ) → i < n → P i)
 unfolding all
 tells-below zero f P h = tells-true (λ i k. absurd (omega arith))
 tells-below (suc n) f P h =
@@ -91,31 +91,31 @@ tells-below (suc n) f P h =
 
 -- Numbers and lists
 
-pub tells-eqb : (m n : ℕ) → Tells (eqb m n) (m ≡ n)
+pub tells-eqb : (m n : ℕ) → Decides (eqb m n) (m ≡ n)
 tells-eqb m n = record { holds = eqb-true m n; back = eq-eqb m n }
 
-pub tells-leb : (m n : ℕ) → Tells (leb m n) (m ≤ n)
+pub tells-leb : (m n : ℕ) → Decides (leb m n) (m ≤ n)
 tells-leb m n = record { holds = leb-true m n; back = le-leb m n }
 
-pub tells-member : (t : ℕ) (l : List ℕ) → Tells (member t l) (Mem t l)
+pub tells-member : (t : ℕ) (l : List ℕ) → Decides (member t l) (Mem t l)
 tells-member t [] = tells-false (λ z. z)
 tells-member t (x ∷ l) = tells-or (tells-eqb t x) (tells-member t l)
 
 -- Codes
 
-pub tells-place : (p q : Place) → PlaceSmall p → PlaceSmall q → Tells (eqb (placeCode p) (placeCode q)) (p ≡ q)
+pub tells-place : (p q : Place) → PlaceSmall p → PlaceSmall q → Decides (eqb (placeCode p) (placeCode q)) (p ≡ q)
 tells-place p q h g =
     tells-map (λ e. sym (place-back p h) ∙ ap placeOf e ∙ place-back q g) (ap placeCode)
     (tells-eqb (placeCode p) (placeCode q))
 
-pub tells-some : (o : Option ℕ) (t : ℕ) → Tells (eqb (linkOf o) (suc t)) (o ≡ some t)
+pub tells-some : (o : Option ℕ) (t : ℕ) → Decides (eqb (linkOf o) (suc t)) (o ≡ some t)
 tells-some o t = tells-map (go o) (ap linkOf) (tells-eqb (linkOf o) (suc t))
   where
     go : (o : Option ℕ) → linkOf o ≡ suc t → o ≡ some t
     go none e = absurd (omega arith)
     go (some u) e = ap {B = Option ℕ} some (let f : u ≡ t = omega arith in f)
 
-pub tells-awaited : (x : Line) (t : ℕ) → Tells (eqb (lineCode x) (suc (suc t))) (x ≡ awaited t)
+pub tells-awaited : (x : Line) (t : ℕ) → Decides (eqb (lineCode x) (suc (suc t))) (x ≡ awaited t)
 tells-awaited x t = tells-map (go x) (ap lineCode) (tells-eqb (lineCode x) (suc (suc t)))
   where
     go : (x : Line) → lineCode x ≡ suc (suc t) → x ≡ awaited t
@@ -123,7 +123,7 @@ tells-awaited x t = tells-map (go x) (ap lineCode) (tells-eqb (lineCode x) (suc 
     go pending e = absurd (omega arith)
     go (awaited u) e = ap awaited (let f : u ≡ t = omega arith in f)
 
-pub tells-owns : (d : Debt) (e : ℕ) → e ≤ 63 → Tells (eqb (debtCode d) (1 + e)) (d ≡ owns e)
+pub tells-owns : (d : Debt) (e : ℕ) → e ≤ 63 → Decides (eqb (debtCode d) (1 + e)) (d ≡ owns e)
 tells-owns d e h = tells-map (go d) (ap debtCode) (tells-eqb (debtCode d) (1 + e))
   where
     go : (d : Debt) → debtCode d ≡ 1 + e → d ≡ owns e

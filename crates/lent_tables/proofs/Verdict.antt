@@ -17,15 +17,15 @@ use Rattle.soundness.specs.Tables.{stateOf}
 use Rattle.soundness.specs.Checks.{blockTest, levelTest, endpointTest, lineTest, summaryTest, runningTest}
 use Rattle.soundness.specs.Checks.{unusedTest, placedTest, goodTest, metBelow}
 use Rattle.lent_tables.specs.Entries.{lent, zeros, Freshened, Checked, freshened, verdict, checked}
-use Rattle.sound_queues.specs.Marks.{marksOf}
+use Rattle.sound_queues.specs.Met.{metIn}
 use Rattle.soundness.proofs.Every.{and-false}
 use Rattle.soundness.proofs.Tables.{good-state}
-use Rattle.sound_queues.proofs.Marking.{no-marks}
+use Rattle.sound_queues.proofs.Meeting.{none-met}
 
--- A cleared scratch marks those met before the first queue.
-pub no-met : (m : List ℕ) {s : List ℕ} → s ≡ zeros → s ≡ marksOf (metBelow 0 m)
+-- A cleared scratch has those met before the first queue.
+pub no-met : (m : List ℕ) {s : List ℕ} → s ≡ zeros → s ≡ metIn (metBelow 0 m)
 unfolding metBelow
-no-met m e = e ∙ no-marks
+no-met m e = e ∙ none-met
 
 -- The length of a scratch that is cleared, and what clearing one of the right length leaves.
 pub zeros-length : length zeros ≡ scratchWords

@@ -1,17 +1,18 @@
-// The entries on the lent tables: make them fresh, and check them. The check makes the tests of scans and walks, which
-// go once through all words, and accepts exactly those that show a sound state.
+// The entries on the lent tables: make them fresh, and check them. The check makes the tests of sound_words and
+// sound_queues, which go once through all words, and accepts exactly those that show a sound state.
 ghost use mathlib.Core.Path.{_≡_};
 ghost use lib.ListN.{length};
 ghost use Rattle.layout.specs.Addresses.{tableWords};
 ghost use Rattle.soundness.specs.Checks.{goodTest};
 ghost use Rattle.lent_tables.specs.Entries.{lent, zeros, Freshened, Checked, freshened, checked};
 
-// The words lent: for the tables, and for the scratch beside them.
+// How many words are lent for the tables.
 pub const TABLE_WORDS: usize = 4096;
 
+// How many are lent for the scratch beside them.
 pub const SCRATCH_WORDS: usize = 256;
 
-// All tests. The queues are walked before the places are tried, which go by the marks.
+// All tests. The queues are walked before the places are tried, which go by whom they met.
 fn passes(tables: &[u32], scratch: &mut [u32]) -> bool
     requires { ⌜ (length (now tables) ≡ tableWords) × (now scratch ≡ zeros) ⌝ }
     ensures { λ r. ⌜ r ≡ goodTest (now (tables .entry)) ⌝ }
@@ -40,7 +41,7 @@ pub fn fresh(tables: &mut [u32]) -> u32
     if tables.len() != TABLE_WORDS {
         return 16;
     }
-    sound_queues::marks::clear(tables);
+    words::clear(tables);
     0
 }
 
@@ -55,9 +56,9 @@ pub fn check(tables: &[u32], scratch: &mut [u32]) -> u32
     if scratch.len() != SCRATCH_WORDS {
         return 16;
     }
-    sound_queues::marks::clear(scratch);
+    words::clear(scratch);
     let passed = passes(tables, scratch);
-    sound_queues::marks::clear(scratch);
+    words::clear(scratch);
     if passed {
         return 0;
     }

@@ -8,7 +8,7 @@ use Rattle.machine.specs.Lists.{Mem, Distinct}
 use Rattle.layout.specs.Addresses.{Link, next, prev, head, tail, ValidLink, linkAt, word, afterAt, beforeAt}
 use Rattle.layout.specs.Words.{firstOf, lastOf}
 use Rattle.layout.specs.Shows.{Joined, Chain}
-use Rattle.layout.proofs.Walks.{last-in}
+use Rattle.layout.proofs.Following.{last-in}
 use Rattle.links.proofs.Names.{afterLink, beforeLink, next-next, prev-prev, next-prev, prev-head, prev-tail}
 use Rattle.links.proofs.Names.{next-head, next-tail, next-after, prev-after, head-after, tail-after, next-before}
 use Rattle.links.proofs.Names.{prev-before, head-before, tail-before}

@@ -6,14 +6,14 @@ use native.Mathlib.Numerals.{add-one}
 use lib.ListN.{set}
 use Rattle.layout.specs.Addresses.{next, prev, tail, linkAt, word, afterAt}
 use Rattle.words.specs.Access.{Address}
-use Rattle.links.specs.Links.{Joinable, Joins}
+use Rattle.links.specs.Links.{Joinable, JoinsQueue}
 use Rattle.links.proofs.Names.{afterLink, after-link, after-valid, after-before, next-after}
 use Rattle.links.proofs.Names.{next-prev, next-tail, prev-tail}
 use Rattle.links.proofs.Splits.{Of, of-mem}
 use Rattle.links.proofs.Readings.{tail-of, link-small}
 use Rattle.links.proofs.Chains.{Around}
 use Rattle.links.proofs.Relinks.{linked-join}
-use Rattle.links.proofs.Writes.{Wrote, wrote, kept-one, kept-more}
+use Rattle.links.proofs.Writes.{WroteLink, wrote, kept-one, kept-more}
 
 pub tail-small : {m : List ℕ} {q t i p : ℕ} → Joinable m q t → i ≡ linkAt (tail q) → p ≡ word m i → p ≤ 256
 tail-small {m} {q} {t} {i} {p} J e f =
@@ -22,7 +22,7 @@ tail-small {m} {q} {t} {i} {p} J e f =
     rw (f ∙ ap (word m) e) g
 
 module _ {m n₁ n₂ n : List ℕ} {q t p : ℕ} (J : Joinable m q t) (small : p ≤ 256) (last : word m (linkAt (tail q)) ≡ p)
-    (W₁ : Wrote m n₁ (afterLink q p) (suc t)) (W₂ : Wrote n₁ n₂ (prev t) p) (W₃ : Wrote n₂ n (tail q) (suc t)) where
+    (W₁ : WroteLink m n₁ (afterLink q p) (suc t)) (W₂ : WroteLink n₁ n₂ (prev t) p) (W₃ : WroteLink n₂ n (tail q) (suc t)) where
   around : Around m n q p 0 t
   around = record { others = λ k h a b c d. W₃ .others k h b ∙ W₂ .others k h d ∙ W₁ .others k h a }
 
@@ -40,7 +40,7 @@ module _ {m n₁ n₂ n : List ℕ} {q t p : ℕ} (J : Joinable m q t) (small : 
       W₃ .others (next t) (J .thread) (next-tail t q) ∙ W₂ .others (next t) (J .thread) (next-prev t t)
       ∙ W₁ .others (next t) (J .thread) (λ e. d (next-after t q p e))
 
-  joined : Joins m q t n
+  joined : JoinsQueue m q t n
   joined =
       record {
         kept = kept-more (kept-more (kept-one (J .size) W₁) W₂ (W₁ .size)) W₃ (W₂ .size);
@@ -56,12 +56,12 @@ module _ {m n₁ n₂ n : List ℕ} {q t p : ℕ} (J : Joinable m q t) (small : 
 pub pushed :
     {m n₁ n₂ n : List ℕ} {q t p v i₀ i₁ i₂ i₃ : ℕ} → Joinable m q t → v ≡ t + 1 → Address i₀ (linkAt (tail q))
     → p ≡ word m i₀ → Address i₁ (afterAt q p) → n₁ ≡ set m i₁ v → Address i₂ (linkAt (prev t)) → n₂ ≡ set n₁ i₂ p
-    → Address i₃ (linkAt (tail q)) → n ≡ set n₂ i₃ v → Joins m q t n
+    → Address i₃ (linkAt (tail q)) → n ≡ set n₂ i₃ v → JoinsQueue m q t n
 pushed {m} {n₁} {n₂} {n} {q} {t} {p} J e a₀ f₀ a₁ f₁ a₂ f₂ a₃ f₃ =
     let v = e ∙ add-one t in
     let s = tail-small J (a₀ .is) f₀ in
     let W₁ = wrote (afterLink q p) (J .size) (after-valid q p (J .queue) s) (a₁ .is ∙ after-link q p) f₁ in
     let W₂ = wrote (prev t) (W₁ .size) (J .thread) (a₂ .is) f₂ in
     let W₃ = wrote (tail q) (W₂ .size) (J .queue) (a₃ .is) f₃ in
-    joined J s (sym (f₀ ∙ ap (word m) (a₀ .is))) (subst (λ (x : ℕ). Wrote m n₁ (afterLink q p) x) v W₁) W₂
-    (subst (λ (x : ℕ). Wrote n₂ n (tail q) x) v W₃)
+    joined J s (sym (f₀ ∙ ap (word m) (a₀ .is))) (subst (λ (x : ℕ). WroteLink m n₁ (afterLink q p) x) v W₁) W₂
+    (subst (λ (x : ℕ). WroteLink n₂ n (tail q) x) v W₃)

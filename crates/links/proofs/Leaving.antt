@@ -6,14 +6,14 @@ use lib.ListN.{set}
 use Rattle.machine.specs.Lists.{Distinct}
 use Rattle.layout.specs.Addresses.{next, prev, linkAt, word, afterAt, beforeAt}
 use Rattle.words.specs.Access.{Address}
-use Rattle.links.specs.Links.{Leavable, Leaves}
+use Rattle.links.specs.Links.{Leavable, LeavesQueue}
 use Rattle.links.proofs.Names.{afterLink, beforeLink, after-link, before-link, after-valid, before-valid}
 use Rattle.links.proofs.Names.{after-before, next-after, prev-before, next-prev}
 use Rattle.links.proofs.Splits.{of-mem, split, not-before, not-behind}
 use Rattle.links.proofs.Readings.{next-small, prev-small, next-of, prev-of}
 use Rattle.links.proofs.Chains.{Around}
 use Rattle.links.proofs.Relinks.{linked-leave}
-use Rattle.links.proofs.Writes.{Wrote, wrote, kept-one, kept-more}
+use Rattle.links.proofs.Writes.{WroteLink, wrote, kept-one, kept-more}
 
 pub leaver-small : {m : List ℕ} {q t : ℕ} → Leavable m q t → t ≤ 255
 leaver-small {m} {q} {t} G = G .linked .small q t (G .queue) (G .stands)
@@ -57,8 +57,8 @@ neighbours {m} {q} {t} {p} {w} G e f g k =
     (subst (λ (x : ℕ). Neighbours m t (word m (linkAt (prev t))) x) (sym (f ∙ ap (word m) e)) (neighbours-of G))
 
 module _ {m n₁ n₂ n₃ n : List ℕ} {q t p w : ℕ} (G : Leavable m q t) (B : Neighbours m t p w)
-    (W₁ : Wrote m n₁ (afterLink q p) w) (W₂ : Wrote n₁ n₂ (beforeLink q w) p) (W₃ : Wrote n₂ n₃ (next t) 0)
-    (W₄ : Wrote n₃ n (prev t) 0) where
+    (W₁ : WroteLink m n₁ (afterLink q p) w) (W₂ : WroteLink n₁ n₂ (beforeLink q w) p) (W₃ : WroteLink n₂ n₃ (next t) 0)
+    (W₄ : WroteLink n₃ n (prev t) 0) where
   around : Around m n q p w t
   around =
       record { others = λ k h a b c d. W₄ .others k h d ∙ W₃ .others k h c ∙ W₂ .others k h b ∙ W₁ .others k h a }
@@ -80,7 +80,7 @@ module _ {m n₁ n₂ n₃ n : List ℕ} {q t p w : ℕ} (G : Leavable m q t) (B
   bare : (word n (linkAt (next t)) ≡ 0) × (word n (linkAt (prev t)) ≡ 0)
   bare = (W₄ .others (next t) (B .thread) (next-prev t t) ∙ W₃ .here, W₄ .here)
 
-  left : Leaves m q t n
+  left : LeavesQueue m q t n
   left =
       record {
         kept =
@@ -94,7 +94,7 @@ pub unlinked :
     {m n₁ n₂ n₃ n : List ℕ} {q t p w i₁ i₂ i₃ i₄ : ℕ} → Leavable m q t → Neighbours m t p w
     → Address i₁ (afterAt q p) → n₁ ≡ set m i₁ w → Address i₂ (beforeAt q w) → n₂ ≡ set n₁ i₂ p
     → Address i₃ (linkAt (next t)) → n₃ ≡ set n₂ i₃ 0 → Address i₄ (linkAt (prev t)) → n ≡ set n₃ i₄ 0
-    → Leaves m q t n
+    → LeavesQueue m q t n
 unlinked {m} {n₁} {n₂} {n₃} {n} {q} {t} {p} {w} G B a₁ f₁ a₂ f₂ a₃ f₃ a₄ f₄ =
     let hp = after-valid q p (G .queue) (B .before-small) in
     let hw = before-valid q w (G .queue) (B .after-small) in

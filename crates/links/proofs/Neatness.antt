@@ -9,16 +9,16 @@ use Rattle.layout.specs.Shows.{Linked}
 use Rattle.links.specs.Links.{Free}
 
 -- Threads in range, each in one queue at most, and there once.
-pub record Neat (queues : ℕ → List ℕ) : Type 0 where
+pub record NeatQueues (queues : ℕ → List ℕ) : Type 0 where
   pub small : (q t : ℕ) → q ≤ 319 → Mem t (queues q) → t ≤ 255
   pub once : (q : ℕ) → q ≤ 319 → Distinct (queues q)
   pub apart : (q r t : ℕ) → q ≤ 319 → r ≤ 319 → Mem t (queues q) → Mem t (queues r) → q ≡ r
 
-pub linked-neat : {m : List ℕ} {queues : ℕ → List ℕ} → Linked m queues → Neat queues
+pub linked-neat : {m : List ℕ} {queues : ℕ → List ℕ} → Linked m queues → NeatQueues queues
 linked-neat L = record { small = L .small; once = L .once; apart = L .apart }
 
 -- A queue becomes l, whose threads stand in no other queue.
-module _ {queues : ℕ → List ℕ} (q : ℕ) (l : List ℕ) (N : Neat queues) (once : q ≤ 319 → Distinct l)
+module _ {queues : ℕ → List ℕ} (q : ℕ) (l : List ℕ) (N : NeatQueues queues) (once : q ≤ 319 → Distinct l)
     (small : q ≤ 319 → (u : ℕ) → Mem u l → u ≤ 255)
     (apart : q ≤ 319 → (r u : ℕ) → r ≤ 319 → Mem u l → Mem u (queues r) → q ≡ r) where
   from-here : (u r : ℕ) → r ≤ 319 → Mem u (put queues q l r) → q ≤ 319 → Mem u l → q ≡ r
@@ -31,7 +31,7 @@ module _ {queues : ℕ → List ℕ} (q : ℕ) (l : List ℕ) (N : Neat queues) 
       put-all (λ (r : ℕ) (x : List ℕ). r ≤ 319 → Mem u x → i ≡ r) queues q l
       (λ g n. sym (apart g i u h n k)) (λ r _ g n. N .apart i r u h g k n) r
 
-  neat-put : Neat (put queues q l)
+  neat-put : NeatQueues (put queues q l)
   neat-put =
       record {
         small = λ r u.
@@ -44,8 +44,8 @@ module _ {queues : ℕ → List ℕ} (q : ℕ) (l : List ℕ) (N : Neat queues) 
             (λ f y. from-here u r g n f y) (λ j _ f y. from-there u j r f y g n) i h k;
       }
 
-module _ {queues : ℕ → List ℕ} (q t : ℕ) (N : Neat queues) where
-  pub neat-join : Free queues t → t ≤ 255 → Neat (put queues q (queues q ++ (t ∷ [])))
+module _ {queues : ℕ → List ℕ} (q t : ℕ) (N : NeatQueues queues) where
+  pub neat-join : Free queues t → t ≤ 255 → NeatQueues (put queues q (queues q ++ (t ∷ [])))
   neat-join free small =
       neat-put q (queues q ++ (t ∷ [])) N (λ h. distinct-snoc t (queues q) (N .once q h) (free q h))
       (λ h u k. in-range h u (mem-snoc u t (queues q) k)) (λ h r u g k n. in-one h r u g n (mem-snoc u t (queues q) k))
@@ -58,7 +58,7 @@ module _ {queues : ℕ → List ℕ} (q t : ℕ) (N : Neat queues) where
       in-one h r u g n (inl k) = N .apart q r u h g k n
       in-one h r u g n (inr e) = absurd (free r g (subst (λ (v : ℕ). Mem v (queues r)) e n))
 
-  pub neat-leave : Neat (put queues q (without t (queues q)))
+  pub neat-leave : NeatQueues (put queues q (without t (queues q)))
   neat-leave =
       neat-put q (without t (queues q)) N (λ h. distinct-without t (queues q) (N .once q h))
       (λ h u k. N .small q u h (mem-without t u (queues q) k .0))

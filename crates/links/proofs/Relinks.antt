@@ -12,7 +12,7 @@ use Rattle.layout.specs.Shows.{Chain, Linked}
 use Rattle.links.specs.Links.{Free}
 use Rattle.links.proofs.Splits.{Of, of-mem, first-of, last-of, Split, split, not-before, not-behind}
 use Rattle.links.proofs.Splits.{without-split}
-use Rattle.links.proofs.Neatness.{Neat, linked-neat, neat-join, neat-leave}
+use Rattle.links.proofs.Neatness.{NeatQueues, linked-neat, neat-join, neat-leave}
 use Rattle.links.proofs.Chains.{Around, nexts, prevs, heads, tails, chain-frame, chain-join, chain-leave}
 use Rattle.links.proofs.Readings.{chained, tail-word, tail-of, next-split, prev-split}
 
@@ -31,7 +31,7 @@ module _ {m n : List ℕ} {q p w t : ℕ} {queues : ℕ → List ℕ} (A : Aroun
       no-t u k e = alone r g d (subst (λ (v : ℕ). Mem v (queues r)) e k)
 
   pub relinked :
-      (l : List ℕ) → Neat (put queues q l) → Chain n q 0 l 0
+      (l : List ℕ) → NeatQueues (put queues q l) → Chain n q 0 l 0
       → ((u : ℕ) → (u ≡ t → ⊥) → Mem u (queues q) → Mem u l)
       → ((Mem t l → ⊥) → (word n (linkAt (next t)) ≡ 0) × (word n (linkAt (prev t)) ≡ 0))
       → Linked n (put queues q l)

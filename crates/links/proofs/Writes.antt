@@ -5,19 +5,19 @@ use mathlib.Core.List.{List}
 use lib.ListN.{length, set, length-set}
 use Rattle.layout.specs.Addresses.{Slot, Link, ValidSlot, ValidLink, at, linkAt, word}
 use Rattle.layout.proofs.Stores.{link-same, link-other, link-slot}
-use Rattle.links.specs.Links.{Kept}
+use Rattle.links.specs.Links.{OnlyLinks}
 
 -- Link k holds v in n, and all else is as in m.
-pub record Wrote (m n : List ℕ) (k : Link) (v : ℕ) : Type 0 where
+pub record WroteLink (m n : List ℕ) (k : Link) (v : ℕ) : Type 0 where
   pub size : length n ≡ 4096
   pub here : word n (linkAt k) ≡ v
   pub others : (j : Link) → ValidLink j → (j ≡ k → ⊥) → word n (linkAt j) ≡ word m (linkAt j)
   pub slots : (a : Slot) → ValidSlot a → word n (at a) ≡ word m (at a)
 
 pub wrote :
-    {m n : List ℕ} {i v : ℕ} (k : Link) → length m ≡ 4096 → ValidLink k → i ≡ linkAt k → n ≡ set m i v → Wrote m n k v
+    {m n : List ℕ} {i v : ℕ} (k : Link) → length m ≡ 4096 → ValidLink k → i ≡ linkAt k → n ≡ set m i v → WroteLink m n k v
 wrote {m} {n} {i} {v} k size h e f =
-    subst (λ (r : List ℕ). Wrote m r k v) (sym (f ∙ ap (λ (j : ℕ). set m j v) e))
+    subst (λ (r : List ℕ). WroteLink m r k v) (sym (f ∙ ap (λ (j : ℕ). set m j v) e))
     (record {
       size = length-set m (linkAt k) v ∙ size;
       here = link-same m size v k h;
@@ -25,9 +25,9 @@ wrote {m} {n} {i} {v} k size h e f =
       slots = link-slot m size v k h;
     })
 
-pub kept-one : {m n : List ℕ} {k : Link} {v : ℕ} → length m ≡ 4096 → Wrote m n k v → Kept m n
+pub kept-one : {m n : List ℕ} {k : Link} {v : ℕ} → length m ≡ 4096 → WroteLink m n k v → OnlyLinks m n
 kept-one size W = record { size = W .size ∙ sym size; slots = W .slots }
 
-pub kept-more : {m n r : List ℕ} {k : Link} {v : ℕ} → Kept m n → Wrote n r k v → length n ≡ 4096 → Kept m r
+pub kept-more : {m n r : List ℕ} {k : Link} {v : ℕ} → OnlyLinks m n → WroteLink n r k v → length n ≡ 4096 → OnlyLinks m r
 kept-more K W size =
     record { size = W .size ∙ sym size ∙ K .size; slots = λ a h. W .slots a h ∙ K .slots a h }

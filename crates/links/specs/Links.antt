@@ -14,7 +14,7 @@ abbrev pub Free : (ℕ → List ℕ) → ℕ → Type 0
 Free queues t = (q : ℕ) → q ≤ 319 → Mem t (queues q) → ⊥
 
 -- Every word that is no link is as it was.
-pub record Kept (m m′ : List ℕ) : Type 0 where
+pub record OnlyLinks (m m′ : List ℕ) : Type 0 where
   pub size : length m′ ≡ length m
   pub slots : (a : Slot) → ValidSlot a → word m′ (at a) ≡ word m (at a)
 
@@ -28,8 +28,8 @@ pub record Joinable (m : List ℕ) (q t : ℕ) : Type 0 where
   pub free : Free queues t
 
 -- t has joined the tail of queue q.
-pub record Joins (m : List ℕ) (q t : ℕ) (m′ : List ℕ) : Type 0 where
-  pub kept : Kept m m′
+pub record JoinsQueue (m : List ℕ) (q t : ℕ) (m′ : List ℕ) : Type 0 where
+  pub kept : OnlyLinks m m′
   pub links :
       (queues : ℕ → List ℕ) → Linked m queues → Free queues t
       → Linked m′ (put queues q (queues q ++ (t ∷ [])))
@@ -43,8 +43,8 @@ pub record Leavable (m : List ℕ) (q t : ℕ) : Type 0 where
   pub stands : Mem t (queues q)
 
 -- t has left queue q, wherever it stood in it.
-pub record Leaves (m : List ℕ) (q t : ℕ) (m′ : List ℕ) : Type 0 where
-  pub kept : Kept m m′
+pub record LeavesQueue (m : List ℕ) (q t : ℕ) (m′ : List ℕ) : Type 0 where
+  pub kept : OnlyLinks m m′
   pub links :
       (queues : ℕ → List ℕ) → Linked m queues → Mem t (queues q)
       → Linked m′ (put queues q (without t (queues q)))

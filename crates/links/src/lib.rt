@@ -3,12 +3,12 @@
 ghost use mathlib.Core.Path.{_≡_};
 ghost use Prim.Native.Nat.{_≤_};
 ghost use lib.ListN.{length};
-ghost use Rattle.links.specs.Links.{Joinable, Joins, Leavable, Leaves, First, Last, Next, Prev};
+ghost use Rattle.links.specs.Links.{Joinable, JoinsQueue, Leavable, LeavesQueue, First, Last, Next, Prev};
 
 // Thread t joins the tail of queue q.
 pub fn push_tail(tables: &mut [u32], q: usize, t: usize)
     requires { ⌜ Joinable (now tables) q t ⌝ }
-    ensures { λ _. ⌜ Joins (now (tables .entry)) q t (now (tables .exit)) ⌝ }
+    ensures { λ _. ⌜ JoinsQueue (now (tables .entry)) q t (now (tables .exit)) ⌝ }
 {
     let last = words::get(tables, words::tail_at(q));
     let link = (t + 1) as u32;
@@ -20,7 +20,7 @@ pub fn push_tail(tables: &mut [u32], q: usize, t: usize)
 // Thread t leaves queue q, in which it stands.
 pub fn unlink(tables: &mut [u32], q: usize, t: usize)
     requires { ⌜ Leavable (now tables) q t ⌝ }
-    ensures { λ _. ⌜ Leaves (now (tables .entry)) q t (now (tables .exit)) ⌝ }
+    ensures { λ _. ⌜ LeavesQueue (now (tables .entry)) q t (now (tables .exit)) ⌝ }
 {
     let next = words::get(tables, words::next_at(t));
     let prev = words::get(tables, words::prev_at(t));

@@ -109,7 +109,7 @@ fn stop(l: Lister, turn: Turn, out: &mut [u8], used: usize) -> Fed
     };
     Fed {
         lister: empty(l, l.index, false),
-        used: add(out, used, l.index, 0, endings::plain(code), who),
+        used: add(out, used, l.index, 0, machine::plain(code), who),
     }
 }
 
@@ -206,7 +206,7 @@ pub fn finish(l: Lister, tables: &[u32], out: &mut [u8]) -> usize
         0,
         l.index,
         0,
-        endings::plain(18),
+        machine::plain(18),
         kernel::running(tables),
     )
 }

@@ -3,6 +3,7 @@ pub mod Standing
 pub mod Owing
 pub mod Leaving
 pub mod Blocking
+pub mod HostCalls
 pub mod Arrivals
 pub mod Ending
 pub mod Together
@@ -16,5 +17,6 @@ pub mod Invariant
 pub mod Recording
 pub mod OtherCalls
 pub mod Breakable
+pub mod AbortOutcomes
 pub mod AbortCalls
 pub mod Demand

@@ -61,8 +61,8 @@ pub record Looked : Type 0 where
   pub state : State
   pub looks : List Look
 
-unfoldable pub after : Look → Looked → Looked
-after x r = record { state = r .state; looks = x ∷ r .looks }
+unfoldable pub afterLook : Look → Looked → Looked
+afterLook x r = record { state = r .state; looks = x ∷ r .looks }
 
 abbrev pub pendingAt : ℕ → State → List ℕ
 pendingAt e s = pendingOf (s .endpoints e .abort)
@@ -72,7 +72,7 @@ unfoldable pub lookUpTo : ℕ → List ℕ → ℕ → State → Looked
 lookUpTo zero l e s = record { state = s; looks = [] }
 lookUpTo (suc n) [] e s = record { state = s; looks = [] }
 lookUpTo (suc n) (w ∷ l) e s =
-    after (record { waiter = w; removed = hits e w s })
+    afterLook (record { waiter = w; removed = hits e w s })
     (lookUpTo n (pendingAt e (look e w s)) e (look e w s))
 
 -- Begin: the first sender is the cursor, the last the end mark, the caller t the owner.

@@ -15,8 +15,8 @@ use Rattle.machine.specs.declared.Call.the-variants.{Interrupt, Tick, Se
 use Rattle.machine.specs.Calls.{numberOf}
 use Rattle.machine.specs.Lists.{pick, only, Mem, Distinct, Rising}
 use Rattle.machine.specs.Results.{plain}
-use Rattle.machine.specs.History.{History, Aborting, Ended, Delivery, AbortCall, NamedLook, Reported, reportOf}
-use Rattle.machine.specs.History.{isIn}
+use Rattle.machine.specs.History.{History, Aborting, Ended, Delivery, AbortCall, NamedLook, Reported, isIn}
+use Rattle.machine.specs.Walk.{reportOf}
 
 -- x stands in the list.
 abbrev pub In : {A : Type 0} → A → List A → Type 0

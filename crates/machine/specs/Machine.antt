@@ -15,7 +15,7 @@ use Rattle.machine.specs.State.{setRuns, setEndpoint, setLine, withPrior
 use Rattle.machine.specs.Scheduling.{enqueue, unqueue, standDown, wake, block}
 use Rattle.machine.specs.Endpoints.{senders, receivers, underAbort, joinEndpoint, leaveEndpoint, wakeFrom}
 use Rattle.machine.specs.Endpoints.{dropDebt}
-use Rattle.machine.specs.Results.{Result, accept, done, blocked, refuse}
+use Rattle.machine.specs.Results.{Result, accept, done, blocked, refuse, receipt}
 use Rattle.machine.specs.Aborts.{delete, abort}
 
 abbrev pub isAbsent : Place → Bool
@@ -134,7 +134,7 @@ send t e b m s = sendAt (s .endpoints e .status) t e b m s
 unfoldable pub receiveFrom : Option ℕ → ℕ → ℕ → State → Result
 receiveFrom none t e s = blocked (block t (receiving e) 0 0 (joinEndpoint t e s))
 receiveFrom (some u) t e s =
-    accept (record { code = 0; count = 0; badge = s .threads u .badge; message = s .threads u .message }) []
+    accept (receipt (s .threads u .badge) (s .threads u .message)) []
     (wakeFrom e u 1 0 0 s)
 
 unfoldable pub receiveAt : Status → ℕ → ℕ → State → Result

@@ -51,11 +51,11 @@ badgeOf (Wait l) = 0
 badgeOf (Delete e a) = 0
 badgeOf (Abort e a b) = b
 
-abbrev pub threadIn : Call → State → Thread
-threadIn c s = s .threads (subjectOf c)
+abbrev pub threadNamed : Call → State → Thread
+threadNamed c s = s .threads (subjectOf c)
 
-abbrev pub endpointIn : Call → State → Endpoint
-endpointIn c s = s .endpoints (subjectOf c)
+abbrev pub endpointNamed : Call → State → Endpoint
+endpointNamed c s = s .endpoints (subjectOf c)
 
 abbrev pub isNobody : Option ℕ → Bool
 isNobody none = true
@@ -102,11 +102,11 @@ row20 c s = record { cause = leb 7 (numberOf c) && isNobody (s .runs); number = 
 
 -- "2, 3: thread absent | 21"
 abbrev pub row21 : Call → State → Refusal
-row21 c s = record { cause = oneOf (2 ∷ 3 ∷ []) (numberOf c) && isAbsent (threadIn c s .place); number = some 21 }
+row21 c s = record { cause = oneOf (2 ∷ 3 ∷ []) (numberOf c) && isAbsent (threadNamed c s .place); number = some 21 }
 
 -- "1: thread present | 22"
 abbrev pub row22 : Call → State → Refusal
-row22 c s = record { cause = oneOf (1 ∷ []) (numberOf c) && not (isAbsent (threadIn c s .place)); number = some 22 }
+row22 c s = record { cause = oneOf (1 ∷ []) (numberOf c) && not (isAbsent (threadNamed c s .place)); number = some 22 }
 
 -- Of the note: "the owner's next abort call of that endpoint and badge is answered 0, count 0, before 23 is tried": it
 -- is not refused.
@@ -121,23 +121,23 @@ rowOfNote c s =
 abbrev pub row23 : Call → State → Refusal
 row23 c s =
     record {
-      cause = oneOf (7 ∷ 8 ∷ 11 ∷ 12 ∷ []) (numberOf c) && isMissing (endpointIn c s .status);
+      cause = oneOf (7 ∷ 8 ∷ 11 ∷ 12 ∷ []) (numberOf c) && isMissing (endpointNamed c s .status);
       number = some 23;
     }
 
 -- "4: endpoint present, closing included | 24"
 abbrev pub row24 : Call → State → Refusal
-row24 c s = record { cause = oneOf (4 ∷ []) (numberOf c) && not (isMissing (endpointIn c s .status)); number = some 24 }
+row24 c s = record { cause = oneOf (4 ∷ []) (numberOf c) && not (isMissing (endpointNamed c s .status)); number = some 24 }
 
 -- "7, 8, 12: endpoint closing | 25"
 abbrev pub row25 : Call → State → Refusal
 row25 c s =
-    record { cause = oneOf (7 ∷ 8 ∷ 12 ∷ []) (numberOf c) && isClosing (endpointIn c s .status); number = some 25 }
+    record { cause = oneOf (7 ∷ 8 ∷ 12 ∷ []) (numberOf c) && isClosing (endpointNamed c s .status); number = some 25 }
 
 -- "7: that badge is under abort there | 26"
 abbrev pub row26 : Call → State → Refusal
 row26 c s =
-    record { cause = oneOf (7 ∷ []) (numberOf c) && underAbort (badgeOf c) (endpointIn c s .abort); number = some 26 }
+    record { cause = oneOf (7 ∷ []) (numberOf c) && underAbort (badgeOf c) (endpointNamed c s .abort); number = some 26 }
 
 -- "10: the line has a waiter | 27"
 abbrev pub row27 : Call → State → Refusal

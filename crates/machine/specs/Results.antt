@@ -28,6 +28,10 @@ plain n = record { code = n; count = 0; badge = 0; message = 0 }
 abbrev pub counted : ℕ → ℕ → Answer
 counted n k = record { code = n; count = k; badge = 0; message = 0 }
 
+-- Badge and message are 0 except for a message taken by 8.
+abbrev pub receipt : ℕ → ℕ → Answer
+receipt b m = record { code = 0; count = 0; badge = b; message = m }
+
 -- A refused call: its number, three zeros, and everything left as it was.
 abbrev pub refuse : ℕ → State → Result
 refuse n s = record { state = s; answer = plain n; looks = [] }

@@ -50,7 +50,7 @@ pub record Numbers (t : ℕ) (x : Thread) : Type 0 where
 
 -- Cursor and end, the first and the last pending, are both none, or senders of the queue in order: what is pending is
 -- the part of the queue from the one to the other.
-pub record Part (s : State) (e : ℕ) (pending : List ℕ) : Type 0 where
+pub record Stretch (s : State) (e : ℕ) (pending : List ℕ) : Type 0 where
   pub before : List ℕ
   pub behind : List ℕ
   pub within : s .endpoints e .waiters ≡ before ++ (pending ++ behind)
@@ -90,7 +90,7 @@ pub record Statuses (s : State) : Type 0 where
 -- Cursor and end are both none, or senders of that queue in order; no sender under the aborted badge stands outside
 -- them.
 pub record Marks (s : State) : Type 0 where
-  pub part : (e : ℕ) (a : Abort) → s .endpoints e .abort ≡ some a → Part s e (a .pending)
+  pub part : (e : ℕ) (a : Abort) → s .endpoints e .abort ≡ some a → Stretch s e (a .pending)
   pub none-outside :
       (e t : ℕ) (a : Abort) → s .endpoints e .abort ≡ some a → s .threads t .place ≡ sending e
       → s .threads t .badge ≡ a .badge → Mem t (a .pending)

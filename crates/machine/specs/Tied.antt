@@ -10,7 +10,9 @@ use Rattle.machine.specs.Calls.{inRange}
 use Rattle.machine.specs.State.{State, Thread, Debt, nothing, owns, noted, Endpoint}
 use Rattle.machine.specs.Endpoints.{ownerOf}
 use Rattle.machine.specs.Results.{Result, plain}
-use Rattle.machine.specs.History.{Ended, Reported, Debts, isNoteOf, reportOf, runFrom, freshRun, historyBy}
+use Rattle.machine.specs.History.{Ended, Reported, Debts}
+use Rattle.machine.specs.Walk.{isNoteOf, reportOf}
+use Rattle.machine.specs.Recorded.{runFrom, freshRun, historyBy}
 use Rattle.machine.specs.Claim.{In}
 
 -- The owner as a list.

@@ -2,6 +2,7 @@
 // stand in proofs/.
 ghost use mathlib.Core.Path.{_≡_};
 ghost use Rattle.machine.specs.Calls.{numberOf, isAllowance, inRange};
+ghost use Rattle.machine.specs.Results.{plain, counted};
 
 // A call, each kind with its own numbers. Any number may stand in any place: those out of range are refused by 19.
 pub enum Call {
@@ -52,6 +53,30 @@ pub struct Answer {
     pub count: u32,
     pub badge: u32,
     pub message: u32,
+}
+
+// A code alone, with three zeros.
+pub fn plain(code: u32) -> Answer
+    ensures { λ r. ⌜ r ≡ plain code ⌝ }
+{
+    Answer {
+        code,
+        count: 0,
+        badge: 0,
+        message: 0,
+    }
+}
+
+// A code and a count.
+pub fn counted(code: u32, count: u32) -> Answer
+    ensures { λ r. ⌜ r ≡ counted code count ⌝ }
+{
+    Answer {
+        code,
+        count,
+        badge: 0,
+        message: 0,
+    }
 }
 
 // Who runs after a call.

@@ -17,8 +17,8 @@ use Rattle.layout.specs.Addresses.{ofLine, summary, top, running, unused, Valid
 use Rattle.layout.specs.Words.{endpointWord, content, queuesOf, occupiedIn}
 use Rattle.layout.specs.Shows.{Linked, Shows}
 use Rattle.layout.proofs.Stores.{linked-keep, linked-same}
-use Rattle.links.specs.Links.{Kept}
-use Rattle.store.specs.Marks.{SummaryWords, NoMark, MarksIn}
+use Rattle.links.specs.Links.{OnlyLinks}
+use Rattle.store.specs.Levels.{SummaryWords, NotSummary, SetsLevel}
 
 -- The queues and the occupied levels of a state in which one entry is another.
 
@@ -69,7 +69,7 @@ put-self {A} f p x e = λ i k. go k (same? k p) i
 
 module _ {m : List ℕ} {s : State} (p : ℕ) (l : List ℕ) (h : p ≤ 255) (M : Shows m s) where
   level-slots :
-      (n : List ℕ) → ((a : Slot) → ValidSlot a → NoMark a → word n (at a) ≡ word m (at a))
+      (n : List ℕ) → ((a : Slot) → ValidSlot a → NotSummary a → word n (at a) ≡ word m (at a))
       → SummaryWords n (occupiedIn (setLevel p l s)) → (a : Slot) → ValidSlot a
       → word n (at a) ≡ content (setLevel p l s) a
   level-slots n k w (ofThread f t) v = k (ofThread f t) v tt ∙ M .slots (ofThread f t) v
@@ -82,7 +82,7 @@ module _ {m : List ℕ} {s : State} (p : ℕ) (l : List ℕ) (h : p ≤ 255) (M 
 
   level-shows :
       (n : List ℕ) → length n ≡ length m → Linked n (put (queuesOf s) p l)
-      → ((a : Slot) → ValidSlot a → NoMark a → word n (at a) ≡ word m (at a))
+      → ((a : Slot) → ValidSlot a → NotSummary a → word n (at a) ≡ word m (at a))
       → SummaryWords n (occupiedIn (setLevel p l s)) → Shows n (setLevel p l s)
   level-shows n size L k w =
       record {
@@ -92,7 +92,7 @@ module _ {m : List ℕ} {s : State} (p : ℕ) (l : List ℕ) (h : p ≤ 255) (M 
         slots = level-slots n k w;
       }
 
-  kept-words : (n : List ℕ) → Kept m n → SummaryWords n (occupiedIn s)
+  kept-words : (n : List ℕ) → OnlyLinks m n → SummaryWords n (occupiedIn s)
   kept-words n K =
       record {
         words = λ w v. K .slots (summary w) v ∙ M .slots (summary w) v;
@@ -101,7 +101,7 @@ module _ {m : List ℕ} {s : State} (p : ℕ) (l : List ℕ) (h : p ≤ 255) (M 
 
   -- The mark of the level says whether l is empty.
   pub level-marked :
-      {n o : List ℕ} {x : Bool} → Kept m n → Linked n (put (queuesOf s) p l) → MarksIn n p x o → x ≡ occupied l
+      {n o : List ℕ} {x : Bool} → OnlyLinks m n → Linked n (put (queuesOf s) p l) → SetsLevel n p x o → x ≡ occupied l
       → Shows o (setLevel p l s)
   level-marked {n} {o} {x} K L D e =
       level-shows o (D .size ∙ K .size) (linked-keep n o (D .links) (put (queuesOf s) p l) L)
@@ -111,7 +111,7 @@ module _ {m : List ℕ} {s : State} (p : ℕ) (l : List ℕ) (h : p ≤ 255) (M 
 
   -- l is as empty as the queue before it.
   pub level-unmarked :
-      {n : List ℕ} → Kept m n → Linked n (put (queuesOf s) p l) → occupied l ≡ occupied (s .levels p)
+      {n : List ℕ} → OnlyLinks m n → Linked n (put (queuesOf s) p l) → occupied l ≡ occupied (s .levels p)
       → Shows n (setLevel p l s)
   level-unmarked {n} K L e =
       level-shows n (K .size) L (λ a v k. K .slots a v)
@@ -153,7 +153,7 @@ module _ (s : State) (e : ℕ) (l : List ℕ) where
   waited-content (unused i) = refl
 
   pub waiters-linked :
-      {m n : List ℕ} → e ≤ 63 → Shows m s → Kept m n → Linked n (put (queuesOf s) (256 + e) l)
+      {m n : List ℕ} → e ≤ 63 → Shows m s → OnlyLinks m n → Linked n (put (queuesOf s) (256 + e) l)
       → Shows n (waited e l s)
   waiters-linked {n = n} h M K L =
       record {

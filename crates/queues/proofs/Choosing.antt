@@ -24,18 +24,18 @@ use Rattle.layout.specs.Shows.{Shows}
 use Rattle.layout.proofs.Standing.{queues-level}
 use Rattle.links.specs.Links.{First}
 use Rattle.store.specs.Steps.{Shown, Does, Tells}
-use Rattle.store.specs.Store.{IsThread, Any, Runs}
+use Rattle.store.specs.Store.{IsThread, Any, SetsRunning}
 use Rattle.store.specs.Readings.{threadIn, runningIn}
-use Rattle.store.specs.Marks.{Loads}
-use Rattle.queues.specs.Queues.{Loose, StandsAt, Chooses, leaveLevel, highestLink}
+use Rattle.store.specs.Levels.{LoadsSummary}
+use Rattle.queues.specs.Queues.{Loose, InLevelAt, Chooses, leaveLevel, highestLink}
 use Rattle.queues.proofs.Joining.{shown-next}
 
 -- The level that the summary finds is the machine's.
 
-pub summary-loaded : {m : List ℕ} {sm : Summary} → Shown m Any → Loads m sm → IsSummary sm
+pub summary-loaded : {m : List ℕ} {sm : Summary} → Shown m Any → LoadsSummary m sm → IsSummary sm
 summary-loaded S L = record { levels = occupiedIn (S .state); shown = L .shown (S .state) (S .shows) }
 
-module _ {m : List ℕ} {sm : Summary} {l : Level} (L : Loads m sm) (F : Finds sm l) where
+module _ {m : List ℕ} {sm : Summary} {l : Level} (L : LoadsSummary m sm) (F : Finds sm l) where
   found : (s : State) → Shows m s → levelOf l ≡ highest (s .levels)
   found s M = F .found (occupiedIn s) (L .shown s M) ∙ sym (highest-levels (s .levels))
 
@@ -109,24 +109,24 @@ module _ {m : List ℕ} {r : ℕ} (T : Tells m Any r highestLink) where
                 linked = F .first (queuesOf s) (M .links) ∙ ap firstOf (queues-level s (r - 1) small ∙ e);
               }
 
-      pub head-stands : (s : State) → Shows m s → StandsAt (r - 1) (link - 1) s
+      pub head-stands : (s : State) → Shows m s → InLevelAt (r - 1) (link - 1) s
       head-stands s M =
           let H = head-is s M in
           let k : link - 1 ≡ H .thread = omega (arith, H .linked) in
           record { level = H .small; stands = rw (H .whole) (inl k) }
 
-      pub head-shown : Shown m Any → Shown m (StandsAt (r - 1) (link - 1))
+      pub head-shown : Shown m Any → Shown m (InLevelAt (r - 1) (link - 1))
       head-shown S =
           record { state = S .state; shows = S .shows; holds = head-stands (S .state) (S .shows) }
 
       pub head-there : Shown m Any → 1 ≤ link
       head-there S = omega (arith, head-is (S .state) (S .shows) .linked)
 
-      module _ {o : List ℕ} (D : Does m o (StandsAt (r - 1) (link - 1)) (leaveLevel (r - 1) (link - 1))) where
+      module _ {o : List ℕ} (D : Does m o (InLevelAt (r - 1) (link - 1)) (leaveLevel (r - 1) (link - 1))) where
         pub head-left : Shown m Any → Shown o Any
         head-left S = shown-next D (λ _ _ _. tt) (head-shown S)
 
-        pub dispatched : {k : List ℕ} → Runs o link k → Does m k Any dispatch
+        pub dispatched : {k : List ℕ} → SetsRunning o link k → Does m k Any dispatch
         unfolding dispatch dispatchAt dispatchHead
         dispatched {k} R = record { shows = λ s M h. go s M (head-is s M) }
           where

@@ -15,12 +15,12 @@ use Rattle.layout.specs.declared.Field.{Field}
 use Rattle.layout.specs.Words.{queuesOf}
 use Rattle.layout.specs.Shows.{Linked, Shows}
 use Rattle.layout.proofs.Standing.{queues-level, queues-endpoint}
-use Rattle.links.specs.Links.{Joinable, Joins}
+use Rattle.links.specs.Links.{Joinable, JoinsQueue}
 use Rattle.store.specs.Steps.{Shown, Does, Tells}
-use Rattle.store.specs.Store.{IsThread, placing, Places, Runs}
+use Rattle.store.specs.Store.{IsThread, placing, SetsPlace, SetsRunning}
 use Rattle.store.specs.Readings.{threadIn}
-use Rattle.store.specs.Marks.{MarksIn}
-use Rattle.queues.specs.Queues.{Loose, Comes, Blocks}
+use Rattle.store.specs.Levels.{SetsLevel}
+use Rattle.queues.specs.Queues.{Loose, ToEndpoint, BlocksAt}
 use Rattle.queues.proofs.Changed.{level-marked, waiters-linked}
 
 -- One step after another.
@@ -55,11 +55,11 @@ module _ {m : List ℕ} {t p : ℕ} (R : Tells m (IsThread t) p (threadIn Field.
         free = S .holds .free;
       }
 
-  pub markable : {n : List ℕ} → Shown m (Loose t) → Joins m p t n → (length n ≡ 4096) × (p < 256)
+  pub markable : {n : List ℕ} → Shown m (Loose t) → JoinsQueue m p t n → (length n ≡ 4096) × (p < 256)
   markable S J =
       (J .kept .size ∙ S .shows .size, omega (arith, level-of (S .state) (S .shows) (S .holds), S .holds .level))
 
-  pub enqueued : {n o : List ℕ} → Joins m p t n → MarksIn n p true o → Does m o (Loose t) (enqueue t)
+  pub enqueued : {n o : List ℕ} → JoinsQueue m p t n → SetsLevel n p true o → Does m o (Loose t) (enqueue t)
   unfolding enqueue
   enqueued {n} {o} J D = record { shows = λ s M h. go s M h (level-of s M h) }
     where
@@ -91,30 +91,30 @@ loose-placed {t} p o b x s h =
 -- Steps that end in joining.
 
 module _ {t : ℕ} {m n : List ℕ} where
-  stopped : Runs m 0 n → Does m n (Loose t) (setRuns none)
+  stopped : SetsRunning m 0 n → Does m n (Loose t) (setRuns none)
   stopped R = record { shows = λ s M h. R .does none refl .shows s M tt }
 
-  pub stopped-shown : Shown m (Loose t) → Runs m 0 n → Shown n (Loose t)
+  pub stopped-shown : Shown m (Loose t) → SetsRunning m 0 n → Shown n (Loose t)
   stopped-shown S R = shown-next (stopped R) (λ s _ h. loose-runs none s h) S
 
-  pub stood-down : {o : List ℕ} → Runs m 0 n → Does n o (Loose t) (enqueue t) → Does m o (Loose t) (standDown t)
+  pub stood-down : {o : List ℕ} → SetsRunning m 0 n → Does n o (Loose t) (enqueue t) → Does m o (Loose t) (standDown t)
   unfolding standDown
   stood-down R E = and-then (stopped R) (λ s _ h. loose-runs none s h) E
 
 module _ {t : ℕ} {m n : List ℕ} (o b x : ℕ) where
-  roused : Places m t 1 o b x n → Does m n (Loose t) (placing t able o b x)
+  roused : SetsPlace m t 1 o b x n → Does m n (Loose t) (placing t able o b x)
   roused P = record { shows = λ s M h. P .does able refl .shows s M (h .thread) }
 
-  pub roused-shown : Shown m (Loose t) → Places m t 1 o b x n → Shown n (Loose t)
+  pub roused-shown : Shown m (Loose t) → SetsPlace m t 1 o b x n → Shown n (Loose t)
   roused-shown S P = shown-next (roused P) (λ s _ h. loose-placed able o b x s h) S
 
   pub woken :
-      {k : List ℕ} → Places m t 1 o b x n → Does n k (Loose t) (enqueue t) → Does m k (Loose t) (wake t o b x)
+      {k : List ℕ} → SetsPlace m t 1 o b x n → Does n k (Loose t) (enqueue t) → Does m k (Loose t) (wake t o b x)
   unfolding wake
   woken P E = and-then (roused P) (λ s _ h. loose-placed able o b x s h) E
 
 -- Nobody runs, and the thread is at its place.
-module _ {t : ℕ} {m n : List ℕ} (R : Runs m 0 n) where
+module _ {t : ℕ} {m n : List ℕ} (R : SetsRunning m 0 n) where
   pub halted-shown : Shown m (IsThread t) → Shown n (IsThread t)
   halted-shown S =
       record {
@@ -123,7 +123,7 @@ module _ {t : ℕ} {m n : List ℕ} (R : Runs m 0 n) where
         holds = S .holds;
       }
 
-  pub blocked : {o : List ℕ} (code b x : ℕ) → Places n t code 0 b x o → Blocks m t code b x o
+  pub blocked : {o : List ℕ} (code b x : ℕ) → SetsPlace n t code 0 b x o → BlocksAt m t code b x o
   unfolding block
   blocked code b x P =
       record {
@@ -133,7 +133,7 @@ module _ {t : ℕ} {m n : List ℕ} (R : Runs m 0 n) where
 
 -- Joining an endpoint's queue.
 module _ {m : List ℕ} {t e : ℕ} where
-  pub joinable-endpoint : Shown m (Comes t e) → Joinable m (256 + e) t
+  pub joinable-endpoint : Shown m (ToEndpoint t e) → Joinable m (256 + e) t
   joinable-endpoint S =
       record {
         size = S .shows .size;
@@ -144,11 +144,11 @@ module _ {m : List ℕ} {t e : ℕ} where
         free = S .holds .free;
       }
 
-  pub joined : {n : List ℕ} → Joins m (256 + e) t n → Does m n (Comes t e) (joinEndpoint t e)
+  pub joined : {n : List ℕ} → JoinsQueue m (256 + e) t n → Does m n (ToEndpoint t e) (joinEndpoint t e)
   unfolding joinEndpoint
   joined {n} J = record { shows = λ s M h. go s M h }
     where
-      go : (s : State) → Shows m s → Comes t e s → Shows n (joinEndpoint t e s)
+      go : (s : State) → Shows m s → ToEndpoint t e s → Shows n (joinEndpoint t e s)
       go s M h =
           let L : Linked n (put (queuesOf s) (256 + e) (queuesOf s (256 + e) ++ (t ∷ []))) =
           J .links (queuesOf s) (M .links) (h .free) in

@@ -13,14 +13,14 @@ use Rattle.layout.specs.declared.Field.{Field}
 use Rattle.layout.specs.Words.{firstOf, queuesOf}
 use Rattle.layout.specs.Shows.{Linked, Shows}
 use Rattle.layout.proofs.Standing.{queues-level, queues-endpoint as endpoint-queue}
-use Rattle.links.specs.Links.{Leavable, Leaves, First}
+use Rattle.links.specs.Links.{Leavable, LeavesQueue, First}
 use Rattle.links.proofs.Neatness.{linked-neat, free-leave}
 use Rattle.layout.proofs.Chains.{first-zero}
 use Rattle.store.specs.Steps.{Shown, Does, Tells}
 use Rattle.store.specs.Store.{IsThread}
 use Rattle.store.specs.Readings.{threadIn}
-use Rattle.store.specs.Marks.{MarksIn}
-use Rattle.queues.specs.Queues.{Loose, Stands, StandsAt, Waits, leaveLevel, passingAt}
+use Rattle.store.specs.Levels.{SetsLevel}
+use Rattle.queues.specs.Queues.{Loose, InLevel, InLevelAt, InEndpoint, leaveLevel, passingAt}
 use Rattle.queues.proofs.Changed.{queues-endpoint, level-marked, level-unmarked, waited, waiters-linked}
 use Rattle.queues.proofs.Joining.{shown-next, and-then}
 
@@ -35,7 +35,7 @@ occupied-first [] n = absurd (n refl)
 occupied-first (u ∷ l) n = refl
 
 module _ {m : List ℕ} {p t : ℕ} where
-  pub leavable-level : Shown m (StandsAt p t) → Leavable m p t
+  pub leavable-level : Shown m (InLevelAt p t) → Leavable m p t
   leavable-level S =
       record {
         size = S .shows .size;
@@ -45,20 +45,20 @@ module _ {m : List ℕ} {p t : ℕ} where
         stands = rw (queues-level (S .state) p (S .holds .level)) (S .holds .stands);
       }
 
-  module _ {n : List ℕ} (U : Leaves m p t n) where
-    unlinked : (s : State) → Shows m s → StandsAt p t s → Linked n (put (queuesOf s) p (without t (s .levels p)))
+  module _ {n : List ℕ} (U : LeavesQueue m p t n) where
+    unlinked : (s : State) → Shows m s → InLevelAt p t s → Linked n (put (queuesOf s) p (without t (s .levels p)))
     unlinked s M h =
         let e = queues-level s p (h .level) in
         rw e at (U .links (queuesOf s) (M .links) (rw e (h .stands)))
 
     first-left :
-        {r : ℕ} → First n p r → (s : State) → Shows m s → StandsAt p t s → r ≡ firstOf (without t (s .levels p))
+        {r : ℕ} → First n p r → (s : State) → Shows m s → InLevelAt p t s → r ≡ firstOf (without t (s .levels p))
     first-left F s M h =
         F .first (put (queuesOf s) p (without t (s .levels p))) (unlinked s M h)
         ∙ ap firstOf (put-same (queuesOf s) p (without t (s .levels p)))
 
     pub emptied :
-        {r : ℕ} {o : List ℕ} → First n p r → r ≡ 0 → MarksIn n p false o → Does m o (StandsAt p t) (leaveLevel p t)
+        {r : ℕ} {o : List ℕ} → First n p r → r ≡ 0 → SetsLevel n p false o → Does m o (InLevelAt p t) (leaveLevel p t)
     emptied F z D =
         record {
           shows = λ s M h.
@@ -68,7 +68,7 @@ module _ {m : List ℕ} {p t : ℕ} where
         }
 
     pub still-occupied :
-        {r : ℕ} → First n p r → (r ≡ 0 → ⊥) → Does m n (StandsAt p t) (leaveLevel p t)
+        {r : ℕ} → First n p r → (r ≡ 0 → ⊥) → Does m n (InLevelAt p t) (leaveLevel p t)
     still-occupied F z =
         record {
           shows = λ s M h.
@@ -81,11 +81,11 @@ module _ {m : List ℕ} {p t : ℕ} where
 -- Leaving the queue of the thread's own level.
 
 module _ {m : List ℕ} {t p : ℕ} (R : Tells m (IsThread t) p (threadIn Field.Priority t)) where
-  own-level : (s : State) → Shows m s → Stands t s → StandsAt p t s
+  own-level : (s : State) → Shows m s → InLevel t s → InLevelAt p t s
   own-level s M h =
       let e = R .tells s M (h .thread) in record { level = rw e (h .level); stands = rw e (h .stands) }
 
-  pub own-shown : Shown m (Stands t) → Shown m (StandsAt p t)
+  pub own-shown : Shown m (InLevel t) → Shown m (InLevelAt p t)
   own-shown S =
       record {
         state = S .state;
@@ -93,7 +93,7 @@ module _ {m : List ℕ} {t p : ℕ} (R : Tells m (IsThread t) p (threadIn Field.
         holds = own-level (S .state) (S .shows) (S .holds);
       }
 
-  pub unqueued : {n : List ℕ} → Does m n (StandsAt p t) (leaveLevel p t) → Does m n (Stands t) (unqueue t)
+  pub unqueued : {n : List ℕ} → Does m n (InLevelAt p t) (leaveLevel p t) → Does m n (InLevel t) (unqueue t)
   unfolding unqueue
   unqueued D =
       record { shows = λ s M h. rw (R .tells s M (h .thread)) at (D .shows s M (own-level s M h)) }
@@ -112,11 +112,11 @@ set-twice e x y s =
     ap (λ f. record { threads = s .threads; runs = s .runs; levels = s .levels; endpoints = f; lines = s .lines })
     (put-twice (s .endpoints) e x y)
 
-module _ {m n : List ℕ} {t e : ℕ} (P : Does m n (Waits t e) (passingAt t e)) where
-  still-stands : (s : State) → Waits t e s → Mem t (queuesOf (passingAt t e s) (256 + e))
+module _ {m n : List ℕ} {t e : ℕ} (P : Does m n (InEndpoint t e) (passingAt t e)) where
+  still-stands : (s : State) → InEndpoint t e s → Mem t (queuesOf (passingAt t e s) (256 + e))
   still-stands s h = rw (endpoint-queue (passingAt t e s) e, put-same (s .endpoints) e) (h .stands)
 
-  pub leavable-endpoint : Shown m (Waits t e) → Leavable n (256 + e) t
+  pub leavable-endpoint : Shown m (InEndpoint t e) → Leavable n (256 + e) t
   leavable-endpoint S =
       let M = P .shows (S .state) (S .shows) (S .holds) in
       record {
@@ -127,11 +127,11 @@ module _ {m n : List ℕ} {t e : ℕ} (P : Does m n (Waits t e) (passingAt t e))
         stands = still-stands (S .state) (S .holds);
       }
 
-  pub left : {o : List ℕ} → Leaves n (256 + e) t o → Does m o (Waits t e) (leaveEndpoint t e)
+  pub left : {o : List ℕ} → LeavesQueue n (256 + e) t o → Does m o (InEndpoint t e) (leaveEndpoint t e)
   unfolding leaveEndpoint
   left {o} U = record { shows = λ s M h. go s M h }
     where
-      go : (s : State) → Shows m s → Waits t e s → Shows o (leaveEndpoint t e s)
+      go : (s : State) → Shows m s → InEndpoint t e s → Shows o (leaveEndpoint t e s)
       go s M h =
           let z = passingAt t e s in
           let N : Shows n z = P .shows s M h in
@@ -144,7 +144,7 @@ module _ {m n : List ℕ} {t e : ℕ} (P : Does m n (Waits t e) (passingAt t e))
 
 -- Who has left an endpoint's queue is in none, and may be woken.
 
-left-loose : {m : List ℕ} {t e : ℕ} (s : State) → Shows m s → Waits t e s → Loose t (leaveEndpoint t e s)
+left-loose : {m : List ℕ} {t e : ℕ} (s : State) → Shows m s → InEndpoint t e s → Loose t (leaveEndpoint t e s)
 unfolding leaveEndpoint
 left-loose {m} {t} {e} s M h =
     record {
@@ -156,11 +156,11 @@ left-loose {m} {t} {e} s M h =
           (rw (endpoint-queue s e) (rw (queues-endpoint s e _ (h .endpoint) q) at k));
     }
 
-module _ {m n : List ℕ} {t e : ℕ} (D : Does m n (Waits t e) (leaveEndpoint t e)) where
-  pub left-shown : Shown m (Waits t e) → Shown n (Loose t)
+module _ {m n : List ℕ} {t e : ℕ} (D : Does m n (InEndpoint t e) (leaveEndpoint t e)) where
+  pub left-shown : Shown m (InEndpoint t e) → Shown n (Loose t)
   left-shown = shown-next D left-loose
 
   pub woken-from :
-      {o : List ℕ} (x b k : ℕ) → Does n o (Loose t) (wake t x b k) → Does m o (Waits t e) (wakeFrom e t x b k)
+      {o : List ℕ} (x b k : ℕ) → Does n o (Loose t) (wake t x b k) → Does m o (InEndpoint t e) (wakeFrom e t x b k)
   unfolding wakeFrom
   woken-from x b k E = and-then D left-loose E

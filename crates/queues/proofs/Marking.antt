@@ -14,14 +14,14 @@ use Rattle.layout.specs.Shows.{Shows}
 use Rattle.layout.proofs.Standing.{queues-endpoint}
 use Rattle.links.specs.Links.{Next, Prev}
 use Rattle.store.specs.Steps.{Does, Tells}
-use Rattle.store.specs.Store.{IsEndpoint, Looks}
+use Rattle.store.specs.Store.{IsEndpoint, SetsPending}
 use Rattle.store.specs.Readings.{endpointIn}
 use Rattle.store.proofs.Sites.{parts, site-shows, site-start}
-use Rattle.queues.specs.Queues.{Waits, passingAt}
+use Rattle.queues.specs.Queues.{InEndpoint, passingAt}
 use Rattle.queues.proofs.Passing.{pass-both, pass-cursor, pass-end, pass-neither}
 
 -- What is to look at is a part of the queue, so nobody stands twice in it.
-module _ {m : List ℕ} {t e : ℕ} (s : State) (M : Shows m s) (h : Waits t e s) (a : Abort)
+module _ {m : List ℕ} {t e : ℕ} (s : State) (M : Shows m s) (h : InEndpoint t e s) (a : Abort)
     (z : s .endpoints e .abort ≡ some a) where
   part-once : Distinct (a .pending)
   part-once =
@@ -51,15 +51,15 @@ module _ {m : List ℕ} {t e : ℕ} (s : State) (M : Shows m s) (h : Waits t e s
 -- The abort at e passes t by: marks x and y are stored that are the first and the last of those left, or none is.
 module _ {m : List ℕ} {t e : ℕ} where
   stored :
-      {n : List ℕ} (x y : ℕ) → Looks m e x y n
-      → ((s : State) → Shows m s → Waits t e s → s .endpoints e .abort ≡ none → ⊥)
-      → ((s : State) → Shows m s → Waits t e s → (a : Abort) → s .endpoints e .abort ≡ some a
+      {n : List ℕ} (x y : ℕ) → SetsPending m e x y n
+      → ((s : State) → Shows m s → InEndpoint t e s → s .endpoints e .abort ≡ none → ⊥)
+      → ((s : State) → Shows m s → InEndpoint t e s → (a : Abort) → s .endpoints e .abort ≡ some a
       → (firstOf (without t (a .pending)) ≡ x) × (lastOf 0 (without t (a .pending)) ≡ y))
-      → Does m n (Waits t e) (passingAt t e)
+      → Does m n (InEndpoint t e) (passingAt t e)
   stored {n} x y S stands is = record { shows = λ s M h. go s M h (s .endpoints e .abort) refl }
     where
       go :
-          (s : State) → Shows m s → Waits t e s → (o : Option Abort) → s .endpoints e .abort ≡ o
+          (s : State) → Shows m s → InEndpoint t e s → (o : Option Abort) → s .endpoints e .abort ≡ o
           → Shows n (passingAt t e s)
       go s M h none z = absurd (stands s M h z)
       go s M h (some a) z =
@@ -67,14 +67,14 @@ module _ {m : List ℕ} {t e : ℕ} where
           rw z (rw z at (S .does (without t (a .pending)) (k .0) (k .1) .shows s M (h .endpoint, (a, z))))
 
   unstored :
-      ((s : State) → Shows m s → Waits t e s → (a : Abort) → s .endpoints e .abort ≡ some a
+      ((s : State) → Shows m s → InEndpoint t e s → (a : Abort) → s .endpoints e .abort ≡ some a
       → (firstOf (without t (a .pending)) ≡ firstOf (a .pending))
       × (lastOf 0 (without t (a .pending)) ≡ lastOf 0 (a .pending)))
-      → Does m m (Waits t e) (passingAt t e)
+      → Does m m (InEndpoint t e) (passingAt t e)
   unstored is = record { shows = λ s M h. go s M h (s .endpoints e .abort) refl }
     where
       go :
-          (s : State) → Shows m s → Waits t e s → (o : Option Abort) → s .endpoints e .abort ≡ o
+          (s : State) → Shows m s → InEndpoint t e s → (o : Option Abort) → s .endpoints e .abort ≡ o
           → Shows m (passingAt t e s)
       go s M h none z =
           site-shows e (h .endpoint) m m _ s _ M (site-start e (h .endpoint) m s M) refl
@@ -88,7 +88,7 @@ module _ {m : List ℕ} {t e : ℕ} where
 module _ {m : List ℕ} {t e c d : ℕ} (C : Tells m (IsEndpoint e) c (endpointIn Part.Cursor e))
     (E : Tells m (IsEndpoint e) d (endpointIn Part.End e))
   where
-    module _ (s : State) (M : Shows m s) (h : Waits t e s) where
+    module _ (s : State) (M : Shows m s) (h : InEndpoint t e s) where
       cursor-none : s .endpoints e .abort ≡ none → c ≡ 0
       cursor-none z = rw z at (C .tells s M (h .endpoint))
 
@@ -101,7 +101,7 @@ module _ {m : List ℕ} {t e c d : ℕ} (C : Tells m (IsEndpoint e) c (endpointI
       end-some : (a : Abort) → s .endpoints e .abort ≡ some a → d ≡ lastOf 0 (a .pending)
       end-some a z = rw z at (E .tells s M (h .endpoint))
 
-    pub passed-both : {n : List ℕ} → Looks m e 0 0 n → c ≡ t + 1 → d ≡ t + 1 → Does m n (Waits t e) (passingAt t e)
+    pub passed-both : {n : List ℕ} → SetsPending m e 0 0 n → c ≡ t + 1 → d ≡ t + 1 → Does m n (InEndpoint t e) (passingAt t e)
     passed-both S f g =
         stored 0 0 S (λ s M h z. omega (arith, cursor-none s M h z))
         (λ s M h a z.
@@ -111,8 +111,8 @@ module _ {m : List ℕ} {t e c d : ℕ} (C : Tells m (IsEndpoint e) c (endpointI
         (ap firstOf w, ap (lastOf 0) w))
 
     pub passed-cursor :
-        {n : List ℕ} {r : ℕ} → Next m t r → Looks m e r d n → c ≡ t + 1 → (d ≡ t + 1 → ⊥)
-        → Does m n (Waits t e) (passingAt t e)
+        {n : List ℕ} {r : ℕ} → Next m t r → SetsPending m e r d n → c ≡ t + 1 → (d ≡ t + 1 → ⊥)
+        → Does m n (InEndpoint t e) (passingAt t e)
     passed-cursor {r = r} N S f g =
         stored r d S (λ s M h z. omega (arith, cursor-none s M h z))
         (λ s M h a z.
@@ -121,8 +121,8 @@ module _ {m : List ℕ} {t e c d : ℕ} (C : Tells m (IsEndpoint e) c (endpointI
         (k .0, k .1 ∙ sym (end-some s M h a z)))
 
     pub passed-end :
-        {n : List ℕ} {r : ℕ} → Prev m t r → Looks m e c r n → (c ≡ t + 1 → ⊥) → d ≡ t + 1
-        → Does m n (Waits t e) (passingAt t e)
+        {n : List ℕ} {r : ℕ} → Prev m t r → SetsPending m e c r n → (c ≡ t + 1 → ⊥) → d ≡ t + 1
+        → Does m n (InEndpoint t e) (passingAt t e)
     passed-end {r = r} N S f g =
         stored c r S (λ s M h z. omega (arith, end-none s M h z))
         (λ s M h a z.
@@ -130,7 +130,7 @@ module _ {m : List ℕ} {t e c d : ℕ} (C : Tells m (IsEndpoint e) c (endpointI
         (λ i. f (omega (arith, cursor-some s M h a z))) (omega (arith, end-some s M h a z)) in
         (k .0 ∙ sym (cursor-some s M h a z), k .1))
 
-    pub passed-neither : (c ≡ t + 1 → ⊥) → (d ≡ t + 1 → ⊥) → Does m m (Waits t e) (passingAt t e)
+    pub passed-neither : (c ≡ t + 1 → ⊥) → (d ≡ t + 1 → ⊥) → Does m m (InEndpoint t e) (passingAt t e)
     passed-neither f g =
         unstored (λ s M h a z.
         pass-neither t (a .pending) (part-once s M h a z) (λ i. f (omega (arith, cursor-some s M h a z)))

@@ -7,7 +7,7 @@ use native.Mathlib.Omega.{arith}
 use Rattle.machine.specs.Lists.{Mem, Distinct, without}
 use Rattle.machine.proofs.Lists.{mem?, distinct-right, without-none}
 use Rattle.layout.specs.Words.{firstOf, lastOf}
-use Rattle.layout.proofs.Walks.{last-in}
+use Rattle.layout.proofs.Following.{last-in}
 use Rattle.links.proofs.Splits.{of-mem, last-of, last-snoc, split, without-split}
 
 -- The last of a list is that of its part from t on.

@@ -20,13 +20,13 @@ pub record Loose (t : ℕ) (s : State) : Type 0 where
   pub free : Free (queuesOf s) t
 
 -- t stands in its level's queue.
-pub record Stands (t : ℕ) (s : State) : Type 0 where
+pub record InLevel (t : ℕ) (s : State) : Type 0 where
   pub thread : t ≤ 255
   pub level : s .threads t .priority ≤ 255
   pub stands : Mem t (s .levels (s .threads t .priority))
 
 -- t stands in the queue of level p.
-pub record StandsAt (p t : ℕ) (s : State) : Type 0 where
+pub record InLevelAt (p t : ℕ) (s : State) : Type 0 where
   pub level : p ≤ 255
   pub stands : Mem t (s .levels p)
 
@@ -35,13 +35,13 @@ pub record Chooses (s : State) : Type 0 where
   pub running : (t : ℕ) → s .runs ≡ some t → Loose t s
 
 -- t, in no queue, comes to an endpoint.
-pub record Comes (t e : ℕ) (s : State) : Type 0 where
+pub record ToEndpoint (t e : ℕ) (s : State) : Type 0 where
   pub thread : t ≤ 255
   pub endpoint : e ≤ 63
   pub free : Free (queuesOf s) t
 
 -- t waits at endpoint e, and what is pending there is a part of its queue.
-pub record Waits (t e : ℕ) (s : State) : Type 0 where
+pub record InEndpoint (t e : ℕ) (s : State) : Type 0 where
   pub thread : t ≤ 255
   pub level : s .threads t .priority ≤ 255
   pub endpoint : e ≤ 63
@@ -51,7 +51,7 @@ pub record Waits (t e : ℕ) (s : State) : Type 0 where
       → (before : List ℕ) × (behind : List ℕ) × (s .endpoints e .waiters ≡ before ++ (a .pending ++ behind))
 
 -- A place enters the code as its number; the thread blocks at whatever place it is the number of.
-pub record Blocks (m : List ℕ) (t code badge message : ℕ) (m′ : List ℕ) : Type 0 where
+pub record BlocksAt (m : List ℕ) (t code badge message : ℕ) (m′ : List ℕ) : Type 0 where
   pub does : (p : Place) → placeCode p ≡ code → Does m m′ (IsThread t) (block t p badge message)
 
 -- t leaves the queue of level p.

@@ -6,7 +6,7 @@ ghost use Rattle.machine.specs.Scheduling.{dispatch as dispatching, chooseFor, 
 ghost use Rattle.machine.specs.Endpoints.{joinEndpoint, leaveEndpoint, wakeFrom as rousing};
 ghost use Rattle.store.specs.Steps.{Shown, Does, Tells};
 ghost use Rattle.store.specs.Store.{IsThread, IsEndpoint, Any};
-ghost use Rattle.queues.specs.Queues.{Loose, Stands, StandsAt, Chooses, Comes, Waits, Blocks};
+ghost use Rattle.queues.specs.Queues.{Loose, InLevel, InLevelAt, Chooses, ToEndpoint, InEndpoint, BlocksAt};
 ghost use Rattle.queues.specs.Queues.{leaveLevel, passingAt, highestLink};
 use layout::Field;
 use layout::Part;
@@ -24,8 +24,8 @@ pub fn enqueue(tables: &mut [u32], t: usize)
 
 // Thread t leaves the queue of level p, which is empty in the summary if nobody is left there.
 fn leave_level(tables: &mut [u32], p: u32, t: usize)
-    requires { ⌜ Shown (now tables) (StandsAt p t) ⌝ }
-    ensures { λ _. ⌜ Does (now (tables .entry)) (now (tables .exit)) (StandsAt p t) (leaveLevel p t) ⌝ }
+    requires { ⌜ Shown (now tables) (InLevelAt p t) ⌝ }
+    ensures { λ _. ⌜ Does (now (tables .entry)) (now (tables .exit)) (InLevelAt p t) (leaveLevel p t) ⌝ }
 {
     links::unlink(tables, p as usize, t);
     let first = links::first(tables, p as usize);
@@ -36,8 +36,8 @@ fn leave_level(tables: &mut [u32], p: u32, t: usize)
 
 // Thread t leaves its level's queue.
 pub fn unqueue(tables: &mut [u32], t: usize)
-    requires { ⌜ Shown (now tables) (Stands t) ⌝ }
-    ensures { λ _. ⌜ Does (now (tables .entry)) (now (tables .exit)) (Stands t) (unqueueing t) ⌝ }
+    requires { ⌜ Shown (now tables) (InLevel t) ⌝ }
+    ensures { λ _. ⌜ Does (now (tables .entry)) (now (tables .exit)) (InLevel t) (unqueueing t) ⌝ }
 {
     let p = store::thread(tables, Field::Priority, t);
     leave_level(tables, p, t);
@@ -64,7 +64,7 @@ pub fn wake(tables: &mut [u32], t: usize, outcome: u32, badge: u32, message: u32
 // The running thread t blocks at a place, and nobody runs.
 pub fn block(tables: &mut [u32], t: usize, place: u32, badge: u32, message: u32)
     requires { ⌜ Shown (now tables) (IsThread t) ⌝ }
-    ensures { λ _. ⌜ Blocks (now (tables .entry)) t place badge message (now (tables .exit)) ⌝ }
+    ensures { λ _. ⌜ BlocksAt (now (tables .entry)) t place badge message (now (tables .exit)) ⌝ }
 {
     store::set_running(tables, 0);
     store::set_place(tables, t, place, 0, badge, message);
@@ -126,16 +126,16 @@ pub fn choose(tables: &mut [u32])
 
 // Thread t, in no queue, joins the tail of endpoint e's.
 pub fn join_endpoint(tables: &mut [u32], t: usize, e: usize)
-    requires { ⌜ Shown (now tables) (Comes t e) ⌝ }
-    ensures { λ _. ⌜ Does (now (tables .entry)) (now (tables .exit)) (Comes t e) (joinEndpoint t e) ⌝ }
+    requires { ⌜ Shown (now tables) (ToEndpoint t e) ⌝ }
+    ensures { λ _. ⌜ Does (now (tables .entry)) (now (tables .exit)) (ToEndpoint t e) (joinEndpoint t e) ⌝ }
 {
     links::push_tail(tables, 256 + e, t);
 }
 
 // Thread t goes from those that the abort at endpoint e has to look at: a mark that it is passes to its neighbour.
 pub fn pass_marks(tables: &mut [u32], t: usize, e: usize)
-    requires { ⌜ Shown (now tables) (Waits t e) ⌝ }
-    ensures { λ _. ⌜ Does (now (tables .entry)) (now (tables .exit)) (Waits t e) (passingAt t e) ⌝ }
+    requires { ⌜ Shown (now tables) (InEndpoint t e) ⌝ }
+    ensures { λ _. ⌜ Does (now (tables .entry)) (now (tables .exit)) (InEndpoint t e) (passingAt t e) ⌝ }
 {
     let link = (t + 1) as u32;
     let cursor = store::endpoint(tables, Part::Cursor, e);
@@ -157,8 +157,8 @@ pub fn pass_marks(tables: &mut [u32], t: usize, e: usize)
 
 // Thread t leaves the queue of endpoint e, and an abort that stands there has not to look at it any more.
 pub fn leave_endpoint(tables: &mut [u32], t: usize, e: usize)
-    requires { ⌜ Shown (now tables) (Waits t e) ⌝ }
-    ensures { λ _. ⌜ Does (now (tables .entry)) (now (tables .exit)) (Waits t e) (leaveEndpoint t e) ⌝ }
+    requires { ⌜ Shown (now tables) (InEndpoint t e) ⌝ }
+    ensures { λ _. ⌜ Does (now (tables .entry)) (now (tables .exit)) (InEndpoint t e) (leaveEndpoint t e) ⌝ }
 {
     pass_marks(tables, t, e);
     links::unlink(tables, 256 + e, t);
@@ -166,8 +166,8 @@ pub fn leave_endpoint(tables: &mut [u32], t: usize, e: usize)
 
 // Thread t leaves the queue of endpoint e and is woken with an outcome.
 pub fn wake_from(tables: &mut [u32], e: usize, t: usize, outcome: u32, badge: u32, message: u32)
-    requires { ⌜ Shown (now tables) (Waits t e) ⌝ }
-    ensures { λ _. ⌜ Does (now (tables .entry)) (now (tables .exit)) (Waits t e) (rousing e t outcome badge message) ⌝ }
+    requires { ⌜ Shown (now tables) (InEndpoint t e) ⌝ }
+    ensures { λ _. ⌜ Does (now (tables .entry)) (now (tables .exit)) (InEndpoint t e) (rousing e t outcome badge message) ⌝ }
 {
     leave_endpoint(tables, t, e);
     wake(tables, t, outcome, badge, message);

@@ -12,7 +12,7 @@ use Rattle.layout.specs.declared.Field.{Field}
 use Rattle.layout.specs.declared.Part.{Part}
 use Rattle.layout.specs.Addresses.{head, linkAt, word}
 use Rattle.layout.specs.Tests.{same}
-use Rattle.soundness.specs.Checks.{threadIn, endpointIn, kindOf, bannedOf, ownerTest, abortTest, statusTest}
+use Rattle.soundness.specs.Checks.{threadAt, endpointAt, kindOf, bannedOf, ownerTest, abortTest, statusTest}
 
 pub beq-same : (a b : Bool) → Bool·beq a b ≡ same a b
 beq-same true true = refl
@@ -22,7 +22,7 @@ beq-same false false = refl
 
 module _ (m : List ℕ) (e : ℕ) where
   -- Status s, where an abort stands if a is not 0.
-  module _ (s : ℕ) {a : ℕ} (aborts : a ≡ endpointIn m Part.Aborting e) where
+  module _ (s : ℕ) {a : ℕ} (aborts : a ≡ endpointAt m Part.Aborting e) where
     pub status-absent :
         {h : ℕ} → s ≡ 0 → h ≡ word m (linkAt (head (256 + e))) → (eqb h 0 && eqb a 0) ≡ statusTest s m e
     unfolding statusTest
@@ -33,7 +33,7 @@ module _ (m : List ℕ) (e : ℕ) where
     status-live z = rw z
 
   pub status-closing :
-      (s : ℕ) {a : ℕ} → a ≡ endpointIn m Part.Aborting e → (s ≡ 0 → ⊥) → (s ≡ 1 → ⊥)
+      (s : ℕ) {a : ℕ} → a ≡ endpointAt m Part.Aborting e → (s ≡ 0 → ⊥) → (s ≡ 1 → ⊥)
       → (eqb s 2 && eqb a 0) ≡ statusTest s m e
   unfolding statusTest
   status-closing zero f n o = absurd (n refl)
@@ -52,7 +52,7 @@ module _ (m : List ℕ) (e : ℕ) where
   owner-far (suc t) h = rw (lt-leb t 255 (omega arith))
 
   pub owner-owes :
-      (o : ℕ) {w : ℕ} → (o ≡ 0 → ⊥) → o ≤ 256 → w ≡ threadIn m Field.Owes (o - 1) → eqb w (e + 1) ≡ ownerTest o m e
+      (o : ℕ) {w : ℕ} → (o ≡ 0 → ⊥) → o ≤ 256 → w ≡ threadAt m Field.Owes (o - 1) → eqb w (e + 1) ≡ ownerTest o m e
   unfolding ownerTest
   owner-owes zero n h f = absurd (n refl)
   owner-owes (suc t) n h f =
@@ -60,17 +60,17 @@ module _ (m : List ℕ) (e : ℕ) where
 
   -- An abort's words: badge b, cursor c and end d.
   module _
-      {b c d : ℕ} (badge : b ≡ endpointIn m Part.Aborted e) (first : c ≡ endpointIn m Part.Cursor e)
-      (last : d ≡ endpointIn m Part.End e)
+      {b c d : ℕ} (badge : b ≡ endpointAt m Part.Aborted e) (first : c ≡ endpointAt m Part.Cursor e)
+      (last : d ≡ endpointAt m Part.End e)
     where
       pub abort-none :
-          (a : ℕ) {o : ℕ} → a ≡ 0 → o ≡ endpointIn m Part.Owner e
+          (a : ℕ) {o : ℕ} → a ≡ 0 → o ≡ endpointAt m Part.Owner e
           → (((eqb b 0 && eqb o 0) && eqb c 0) && eqb d 0) ≡ abortTest a m e
       unfolding abortTest
       abort-none a z f = rw (z, badge, first, last, f)
 
       pub abort-stands :
-          (a : ℕ) {r : Bool} → (a ≡ 0 → ⊥) → a ≤ 1 → r ≡ ownerTest (endpointIn m Part.Owner e) m e
+          (a : ℕ) {r : Bool} → (a ≡ 0 → ⊥) → a ≤ 1 → r ≡ ownerTest (endpointAt m Part.Owner e) m e
           → ((ltb b (2 ^ 28) && r) && Bool·beq (eqb c 0) (eqb d 0)) ≡ abortTest a m e
       unfolding abortTest
       abort-stands zero n h f = absurd (n refl)
@@ -93,17 +93,17 @@ module _ (m : List ℕ) (e : ℕ) where
   kind-far zero h = absurd (omega arith)
   kind-far (suc t) h = rw (lt-leb t 255 (omega arith))
 
-  pub kind-first : (y : ℕ) {p : ℕ} → (y ≡ 0 → ⊥) → y ≤ 256 → p ≡ threadIn m Field.Place (y - 1) → p ≡ kindOf y m e
+  pub kind-first : (y : ℕ) {p : ℕ} → (y ≡ 0 → ⊥) → y ≤ 256 → p ≡ threadAt m Field.Place (y - 1) → p ≡ kindOf y m e
   unfolding kindOf
   kind-first zero n h f = absurd (n refl)
   kind-first (suc t) n h f = let q : suc t - 1 ≡ t = omega arith in rw (le-leb t 255 (omega arith)) (rw q at f)
 
-  module _ (k : ℕ) {a : ℕ} (aborts : a ≡ endpointIn m Part.Aborting e) where
+  module _ (k : ℕ) {a : ℕ} (aborts : a ≡ endpointAt m Part.Aborting e) where
     pub banned-some :
-        {b : ℕ} → (eqb a 1 && eqb k (2 + e)) ≡ true → b ≡ endpointIn m Part.Aborted e → b ≡ bannedOf m e k
+        {b : ℕ} → (eqb a 1 && eqb k (2 + e)) ≡ true → b ≡ endpointAt m Part.Aborted e → b ≡ bannedOf m e k
     unfolding bannedOf
-    banned-some t f = f ∙ sym (ap (λ (x : Bool). pick x (endpointIn m Part.Aborted e) (2 ^ 28)) (rw aborts at t))
+    banned-some t f = f ∙ sym (ap (λ (x : Bool). pick x (endpointAt m Part.Aborted e) (2 ^ 28)) (rw aborts at t))
 
     pub banned-none : (eqb a 1 && eqb k (2 + e)) ≡ false → 2 ^ 28 ≡ bannedOf m e k
     unfolding bannedOf
-    banned-none t = sym (ap (λ (x : Bool). pick x (endpointIn m Part.Aborted e) (2 ^ 28)) (rw aborts at t))
+    banned-none t = sym (ap (λ (x : Bool). pick x (endpointAt m Part.Aborted e) (2 ^ 28)) (rw aborts at t))

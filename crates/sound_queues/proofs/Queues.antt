@@ -9,15 +9,15 @@ use lib.ListN.{length}
 use borrow.Author.Tests.{le-leb, lt-leb}
 use Rattle.layout.specs.Addresses.{word, linkAt, head, tail, next, prev}
 use Rattle.soundness.specs.Checks.{readyTest, levelFrom, levelTest, metFrom, met}
-use Rattle.sound_queues.specs.Marks.{Marked, Walk}
-use Rattle.sound_queues.proofs.Walking.{and-right, Passed, passed-none, passed-more, passed-all, met-more, met-done}
+use Rattle.sound_queues.specs.Met.{Meets, Follows}
+use Rattle.sound_queues.proofs.Walking.{and-right, MetSoFar, passed-none, passed-more, passed-all, met-more, met-done}
 
 -- What holds at the head of the walk's loop: it is at link y, behind x, with some turns left.
 pub record LevelAt (m : List ℕ) (p : ℕ) (before after : List ℕ) (x y left : ℕ) : Type 0 where
   pub few : left ≤ 257
   pub kept : length after ≡ 256
   pub same : levelTest m p ≡ levelFrom left y m p x
-  pub passed : Passed before after (metFrom 257 (word m (linkAt (head p))) m) (metFrom left y m)
+  pub passed : MetSoFar before after (metFrom 257 (word m (linkAt (head p))) m) (metFrom left y m)
 
 -- Thread t is met behind link x as it should be.
 abbrev met-well : List ℕ → ℕ → ℕ → ℕ → Bool
@@ -59,11 +59,11 @@ module _ (m : List ℕ) (p : ℕ) where
   level-far (suc n) (suc t) x h z e = rw (e, lt-leb t 255 (omega arith))
 
   -- The thread of link y, behind link x, is as it should be.
-  abbrev pub Stands : ℕ → ℕ → Bool → Type 0
-  Stands x y r = r ≡ (eqb (word m (linkAt (prev (y - 1)))) x && readyTest m p (y - 1))
+  abbrev pub ReadyStands : ℕ → ℕ → Bool → Type 0
+  ReadyStands x y r = r ≡ (eqb (word m (linkAt (prev (y - 1)))) x && readyTest m p (y - 1))
 
   level-not :
-      (left y x : ℕ) {r : Bool} → 0 < left → (y ≡ 0 → ⊥) → y ≤ 256 → Stands x y r → r ≡ false
+      (left y x : ℕ) {r : Bool} → 0 < left → (y ≡ 0 → ⊥) → y ≤ 256 → ReadyStands x y r → r ≡ false
       → levelTest m p ≡ levelFrom left y m p x → false ≡ levelTest m p
   unfolding levelFrom
   level-not zero y x h n z k b e = absurd (omega arith)
@@ -74,7 +74,7 @@ module _ (m : List ℕ) (p : ℕ) where
       rw (e, le-leb t 255 (omega arith), s)
 
   level-next :
-      (left y x : ℕ) {r : Bool} {z : ℕ} → 0 < left → (y ≡ 0 → ⊥) → y ≤ 256 → Stands x y r → r ≡ true
+      (left y x : ℕ) {r : Bool} {z : ℕ} → 0 < left → (y ≡ 0 → ⊥) → y ≤ 256 → ReadyStands x y r → r ≡ true
       → z ≡ word m (linkAt (next (y - 1))) → levelTest m p ≡ levelFrom left y m p x
       → levelTest m p ≡ levelFrom (left - 1) z m p y
   unfolding levelFrom
@@ -89,12 +89,12 @@ module _ (m : List ℕ) (p : ℕ) where
   module _ {before after : List ℕ} {x y left : ℕ} (c : LevelAt m p before after x y left) where
     pub level-walked :
         {w : ℕ} → 0 < left → y ≡ 0 → w ≡ word m (linkAt (tail p))
-        → Walk before after (met m p) (levelTest m p) (eqb w x)
+        → Follows before after (met m p) (levelTest m p) (eqb w x)
     level-walked {w} h z f =
         let i : eqb w x ≡ levelTest m p = level-end left y x h z (c .same) f in
         record {
           is = i;
-          marks = λ b.
+          meets = λ b.
               passed-all (rw (level-met (sym i ∙ b), met-done m left y z) at (c .passed));
         }
 
@@ -102,7 +102,7 @@ module _ (m : List ℕ) (p : ℕ) where
     level-out h z = level-far left y x h z (c .same)
 
     pub level-bad :
-        {r : Bool} → 0 < left → (y ≡ 0 → ⊥) → y ≤ 256 → Stands x y r → r ≡ false → false ≡ levelTest m p
+        {r : Bool} → 0 < left → (y ≡ 0 → ⊥) → y ≤ 256 → ReadyStands x y r → r ≡ false → false ≡ levelTest m p
     level-bad h n z k b = level-not left y x h n z k b (c .same)
 
     pub level-long : left ≤ 0 → false ≡ levelTest m p
@@ -110,8 +110,8 @@ module _ (m : List ℕ) (p : ℕ) where
     level-long h = let z : left ≡ 0 = omega arith in sym (c .same ∙ ap (λ (n : ℕ). levelFrom n y m p x) z)
 
     pub level-again :
-        {r : Bool} {z : ℕ} {marked : List ℕ} → 0 < left → (y ≡ 0 → ⊥) → y ≤ 256 → Stands x y r → r ≡ true
-        → Marked after marked (y - 1) → length marked ≡ length after → z ≡ word m (linkAt (next (y - 1)))
+        {r : Bool} {z : ℕ} {marked : List ℕ} → 0 < left → (y ≡ 0 → ⊥) → y ≤ 256 → ReadyStands x y r → r ≡ true
+        → Meets after marked (y - 1) → length marked ≡ length after → z ≡ word m (linkAt (next (y - 1)))
         → LevelAt m p before marked y z (left - 1)
     level-again {z = z} h n l k b d s w =
         record {

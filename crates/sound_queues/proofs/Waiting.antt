@@ -11,32 +11,31 @@ use borrow.Author.Tests.{eq-eqb, ne-eqb, le-leb, lt-leb}
 use Rattle.layout.specs.declared.Field.{Field}
 use Rattle.layout.specs.declared.Part.{Part}
 use Rattle.layout.specs.Addresses.{word, linkAt, head, tail, next, prev}
-use Rattle.soundness.specs.Checks.{Phase, ahead, inside, past, enter, leave, allowed, complete, threadIn, endpointIn}
+use Rattle.soundness.specs.declared.Phase.{Phase}
+use Rattle.soundness.specs.Checks.{phaseAt, phaseBehind, allowed, complete, threadAt, endpointAt}
 use Rattle.soundness.specs.Checks.{kindOf, bannedOf, waitersFrom, waitersTest, statusTest, abortTest, endpointTest}
 use Rattle.soundness.specs.Checks.{metFrom, metBelow, met}
-use Rattle.sound_queues.specs.Marks.{marksOf, Marked, Walk, Walks}
-use Rattle.sound_queues.specs.Steps.{phaseOf, waitersAs, kindFits}
-use Rattle.sound_queues.specs.declared.phases.Phase.{Phase as InCode}
-use Rattle.sound_queues.specs.declared.phases.Phase.the-variants.{Ahead, Inside}
-use Rattle.sound_queues.proofs.Walking.{and-right, Passed, passed-none, passed-more, passed-all, met-more, met-done}
+use Rattle.sound_queues.specs.Met.{metIn, Meets, Follows, FollowsAll}
+use Rattle.sound_queues.specs.Steps.{waitersAs, kindFits}
+use Rattle.sound_queues.proofs.Walking.{and-right, MetSoFar, passed-none, passed-more, passed-all, met-more, met-done}
 use Rattle.sound_queues.proofs.Walking.{met-below}
 
 -- The phases of the code
 
-pub enter-in : (f : InCode) (c y : ℕ) → f ≡ Ahead → y ≡ c → inside ≡ enter (phaseOf f) c y
-unfolding enter
+pub enter-in : (f : Phase) (c y : ℕ) → f ≡ Phase.Ahead → y ≡ c → Phase.Inside ≡ phaseAt f c y
+unfolding phaseAt
 enter-in f c y e h = rw (e, eq-eqb y c h)
 
-pub enter-not : (f : InCode) (c y : ℕ) → f ≡ Ahead → (y ≡ c → ⊥) → ahead ≡ enter (phaseOf f) c y
-unfolding enter
+pub enter-not : (f : Phase) (c y : ℕ) → f ≡ Phase.Ahead → (y ≡ c → ⊥) → Phase.Ahead ≡ phaseAt f c y
+unfolding phaseAt
 enter-not f c y e h = rw (e, ne-eqb y c h)
 
-pub leave-out : (f : InCode) (d y : ℕ) → f ≡ Inside → y ≡ d → past ≡ leave (phaseOf f) d y
-unfolding leave
+pub leave-out : (f : Phase) (d y : ℕ) → f ≡ Phase.Inside → y ≡ d → Phase.Past ≡ phaseBehind f d y
+unfolding phaseBehind
 leave-out f d y e h = rw (e, eq-eqb y d h)
 
-pub leave-not : (f : InCode) (d y : ℕ) → f ≡ Inside → (y ≡ d → ⊥) → inside ≡ leave (phaseOf f) d y
-unfolding leave
+pub leave-not : (f : Phase) (d y : ℕ) → f ≡ Phase.Inside → (y ≡ d → ⊥) → Phase.Inside ≡ phaseBehind f d y
+unfolding phaseBehind
 leave-not f d y e h = rw (e, ne-eqb y d h)
 
 -- What holds at the head of the walk's loop: it is at link y, behind x, in phase f, with some turns left.
@@ -44,13 +43,13 @@ pub record WaitersAt (m : List ℕ) (e k c d b : ℕ) (before after : List ℕ) 
   pub few : left ≤ 257
   pub kept : length after ≡ 256
   pub same : waitersAs m e k ≡ waitersFrom left y f m (256 + e) k c d b x
-  pub passed : Passed before after (metFrom 257 (word m (linkAt (head (256 + e)))) m) (metFrom left y m)
+  pub passed : MetSoFar before after (metFrom 257 (word m (linkAt (head (256 + e)))) m) (metFrom left y m)
 
 -- Thread t is met behind link x, in phase f, as it should be.
 abbrev met-well : List ℕ → ℕ → ℕ → ℕ → Phase → ℕ → ℕ → Bool
 met-well m k c b f x t =
-    leb t 255 && eqb (word m (linkAt (prev t))) x && eqb (threadIn m Field.Place t) k
-    && allowed (enter f c (suc t)) b (threadIn m Field.Badge t)
+    leb t 255 && eqb (word m (linkAt (prev t))) x && eqb (threadAt m Field.Place t) k
+    && allowed (phaseAt f c (suc t)) b (threadAt m Field.Badge t)
 
 module _ (m : List ℕ) (q k c d b : ℕ) where
   -- One turn more makes no difference where the walk comes to its end.
@@ -63,7 +62,7 @@ module _ (m : List ℕ) (q k c d b : ℕ) where
   waiters-short (suc n) zero f x e = refl
   waiters-short (suc n) (suc t) f x e =
       let y : ℕ = word m (linkAt (next t)) in
-      let g : Phase = leave (enter f c (suc t)) d (suc t) in
+      let g : Phase = phaseBehind (phaseAt f c (suc t)) d (suc t) in
       ap (λ (l : List ℕ). t ∷ l)
       (waiters-short n y g (suc t)
       (and-right (met-well m k c b f x t) (waitersFrom (suc n) y g m q k c d b (suc t)) e))
@@ -84,14 +83,14 @@ module _ (m : List ℕ) (q k c d b : ℕ) where
   waiters-far (suc n) (suc t) f x h z = rw (lt-leb t 255 (omega arith))
 
   -- The thread of link y, behind link x and in phase f, is as it should be.
-  abbrev pub Stands : Phase → ℕ → ℕ → Bool → Type 0
-  Stands f x y r =
-      r ≡ (eqb (word m (linkAt (prev (y - 1)))) x && eqb (threadIn m Field.Place (y - 1)) k
-      && allowed f b (threadIn m Field.Badge (y - 1)))
+  abbrev pub WaiterStands : Phase → ℕ → ℕ → Bool → Type 0
+  WaiterStands f x y r =
+      r ≡ (eqb (word m (linkAt (prev (y - 1)))) x && eqb (threadAt m Field.Place (y - 1)) k
+      && allowed f b (threadAt m Field.Badge (y - 1)))
 
   waiters-not :
       (left y : ℕ) (f : Phase) (x : ℕ) {h : Phase} {r : Bool} → 0 < left → (y ≡ 0 → ⊥) → y ≤ 256
-      → h ≡ enter f c y → Stands h x y r → r ≡ false → false ≡ waitersFrom left y f m q k c d b x
+      → h ≡ phaseAt f c y → WaiterStands h x y r → r ≡ false → false ≡ waitersFrom left y f m q k c d b x
   unfolding waitersFrom
   waiters-not zero y f x l n z i s v = absurd (omega arith)
   waiters-not (suc n) zero f x l o z i s v = absurd (o refl)
@@ -102,7 +101,7 @@ module _ (m : List ℕ) (q k c d b : ℕ) where
 
   waiters-next :
       (left y : ℕ) (f : Phase) (x : ℕ) {h g : Phase} {r : Bool} {u : ℕ} → 0 < left → (y ≡ 0 → ⊥) → y ≤ 256
-      → h ≡ enter f c y → Stands h x y r → r ≡ true → g ≡ leave h d y → u ≡ word m (linkAt (next (y - 1)))
+      → h ≡ phaseAt f c y → WaiterStands h x y r → r ≡ true → g ≡ phaseBehind h d y → u ≡ word m (linkAt (next (y - 1)))
       → waitersFrom left y f m q k c d b x ≡ waitersFrom (left - 1) u g m q k c d b y
   unfolding waitersFrom
   waiters-next zero y f x l n z i s v a w = absurd (omega arith)
@@ -115,16 +114,16 @@ module _ (m : List ℕ) (q k c d b : ℕ) where
 
 module _ (m : List ℕ) (e k : ℕ) where
   pub waiters-holds :
-      (s : List ℕ) {c d b y : ℕ} → length s ≡ 256 → c ≡ endpointIn m Part.Cursor e → d ≡ endpointIn m Part.End e
-      → b ≡ bannedOf m e k → y ≡ word m (linkAt (head (256 + e))) → WaitersAt m e k c d b s s ahead 0 y 257
+      (s : List ℕ) {c d b y : ℕ} → length s ≡ 256 → c ≡ endpointAt m Part.Cursor e → d ≡ endpointAt m Part.End e
+      → b ≡ bannedOf m e k → y ≡ word m (linkAt (head (256 + e))) → WaitersAt m e k c d b s s Phase.Ahead 0 y 257
   waiters-holds s {c} {d} {b} {y} h i j l o =
       rw (i, j, l, o) (record { few = omega arith; kept = h; same = refl; passed = passed-none _ _ })
 
   waiters-met : waitersAs m e k ≡ true → metFrom 257 (word m (linkAt (head (256 + e)))) m ≡ met m (256 + e)
   unfolding met
   waiters-met h =
-      waiters-short m (256 + e) k (endpointIn m Part.Cursor e) (endpointIn m Part.End e) (bannedOf m e k) 256
-      (word m (linkAt (head (256 + e)))) ahead 0 h
+      waiters-short m (256 + e) k (endpointAt m Part.Cursor e) (endpointAt m Part.End e) (bannedOf m e k) 256
+      (word m (linkAt (head (256 + e)))) Phase.Ahead 0 h
 
   module _
       {c d b : ℕ} {before after : List ℕ} {f : Phase} {x y left : ℕ}
@@ -132,27 +131,27 @@ module _ (m : List ℕ) (e k : ℕ) where
     where
       pub waiters-walked :
           {w : ℕ} {r : Bool} → y ≡ 0 → w ≡ word m (linkAt (tail (256 + e))) → r ≡ complete f c
-          → Walk before after (met m (256 + e)) (waitersAs m e k) (eqb w x && r)
+          → Follows before after (met m (256 + e)) (waitersAs m e k) (eqb w x && r)
       waiters-walked {w} {r} z g h =
           let i : (eqb w x && r) ≡ waitersAs m e k =
           waiters-end m (256 + e) k c d b left y f x turn z g h ∙ sym (at .same) in
           record {
             is = i;
-            marks = λ v. passed-all (rw (waiters-met (sym i ∙ v), met-done m left y z) at (at .passed));
+            meets = λ v. passed-all (rw (waiters-met (sym i ∙ v), met-done m left y z) at (at .passed));
           }
 
       pub waiters-out : 256 < y → false ≡ waitersAs m e k
       waiters-out z = waiters-far m (256 + e) k c d b left y f x turn z ∙ sym (at .same)
 
       pub waiters-bad :
-          {h : Phase} {r : Bool} → (y ≡ 0 → ⊥) → y ≤ 256 → h ≡ enter f c y
-          → Stands m (256 + e) k c d b h x y r → r ≡ false → false ≡ waitersAs m e k
+          {h : Phase} {r : Bool} → (y ≡ 0 → ⊥) → y ≤ 256 → h ≡ phaseAt f c y
+          → WaiterStands m (256 + e) k c d b h x y r → r ≡ false → false ≡ waitersAs m e k
       waiters-bad n z i s v = waiters-not m (256 + e) k c d b left y f x turn n z i s v ∙ sym (at .same)
 
       pub waiters-again :
-          {h g : Phase} {r : Bool} {u : ℕ} {marked : List ℕ} → (y ≡ 0 → ⊥) → y ≤ 256 → h ≡ enter f c y
-          → Stands m (256 + e) k c d b h x y r → r ≡ true → g ≡ leave h d y
-          → Marked after marked (y - 1) → length marked ≡ length after → u ≡ word m (linkAt (next (y - 1)))
+          {h g : Phase} {r : Bool} {u : ℕ} {marked : List ℕ} → (y ≡ 0 → ⊥) → y ≤ 256 → h ≡ phaseAt f c y
+          → WaiterStands m (256 + e) k c d b h x y r → r ≡ true → g ≡ phaseBehind h d y
+          → Meets after marked (y - 1) → length marked ≡ length after → u ≡ word m (linkAt (next (y - 1)))
           → WaitersAt m e k c d b before marked g y u (left - 1)
       waiters-again {u = u} n z i s v a t l w =
           record {
@@ -180,18 +179,18 @@ module _ (m : List ℕ) (e : ℕ) {k : ℕ} (kind : k ≡ kindOf (word m (linkAt
   -- What is tried before the walk.
   abbrev pub first-tests : Bool
   first-tests =
-      statusTest (endpointIn m Part.Status e) m e && abortTest (endpointIn m Part.Aborting e) m e && kindFits m e k
+      statusTest (endpointAt m Part.Status e) m e && abortTest (endpointAt m Part.Aborting e) m e && kindFits m e k
 
   endpoint-is : endpointTest m e ≡ (first-tests && waitersAs m e k)
   unfolding endpointTest waitersTest
   endpoint-is = rw (← kind)
-      (and-assoc (statusTest (endpointIn m Part.Status e) m e && abortTest (endpointIn m Part.Aborting e) m e)
+      (and-assoc (statusTest (endpointAt m Part.Status e) m e && abortTest (endpointAt m Part.Aborting e) m e)
       (kindFits m e k)
       (waitersAs m e k))
 
   module _
-      {s a n : Bool} (is-status : s ≡ statusTest (endpointIn m Part.Status e) m e)
-      (is-abort : a ≡ abortTest (endpointIn m Part.Aborting e) m e) (fits : n ≡ kindFits m e k)
+      {s a n : Bool} (is-status : s ≡ statusTest (endpointAt m Part.Status e) m e)
+      (is-abort : a ≡ abortTest (endpointAt m Part.Aborting e) m e) (fits : n ≡ kindFits m e k)
     where
       tests-are : first-tests ≡ (s && a && n)
       tests-are = rw (is-status, is-abort, fits)
@@ -200,33 +199,33 @@ module _ (m : List ℕ) (e : ℕ) {k : ℕ} (kind : k ≡ kindOf (word m (linkAt
       endpoint-bad h = sym (endpoint-is ∙ ap (λ (x : Bool). x && waitersAs m e k) (tests-are ∙ h))
 
       pub endpoint-walked :
-          {b c l : List ℕ} {r : Bool} → (s && a && n) ≡ true → Walk b c l (waitersAs m e k) r
-          → Walk b c l (endpointTest m e) r
+          {b c l : List ℕ} {r : Bool} → (s && a && n) ≡ true → Follows b c l (waitersAs m e k) r
+          → Follows b c l (endpointTest m e) r
       endpoint-walked h w =
           record {
             is = w .is ∙ sym (endpoint-is ∙ ap (λ (x : Bool). x && waitersAs m e k) (tests-are ∙ h));
-            marks = w .marks;
+            meets = w .meets;
           }
 
 -- From queue to queue
 
 pub walked-more :
-    (m : List ℕ) (q : ℕ) {b a : List ℕ} {test r : Bool} → Walk b a (met m q) test r → r ≡ true
-    → b ≡ marksOf (metBelow q m) → a ≡ marksOf (metBelow (q + 1) m)
-walked-more m q w h e = w .marks h (metBelow q m) e ∙ ap marksOf (met-below m q ∙ rw add-one)
+    (m : List ℕ) (q : ℕ) {b a : List ℕ} {test r : Bool} → Follows b a (met m q) test r → r ≡ true
+    → b ≡ metIn (metBelow q m) → a ≡ metIn (metBelow (q + 1) m)
+walked-more m q w h e = w .meets h (metBelow q m) e ∙ ap metIn (met-below m q ∙ rw add-one)
 
-pub walks-failed : {a : List ℕ} {f : ℕ → Bool} {test : Bool} → false ≡ test → Walks a f test false
-walks-failed e = record { is = e; marks = λ h. absurd (false≢true h) }
+pub walks-failed : {a : List ℕ} {f : ℕ → Bool} {test : Bool} → false ≡ test → FollowsAll a f test false
+walks-failed e = record { is = e; meets = λ h. absurd (false≢true h) }
 
 pub walks-all :
-    (m : List ℕ) (q n : ℕ) {a : List ℕ} {test : Bool} → a ≡ marksOf (metBelow q m) → q ≡ n → true ≡ test
-    → Walks a (metBelow n m) test true
+    (m : List ℕ) (q n : ℕ) {a : List ℕ} {test : Bool} → a ≡ metIn (metBelow q m) → q ≡ n → true ≡ test
+    → FollowsAll a (metBelow n m) test true
 walks-all m q n {a} e h t =
-    record { is = t; marks = λ _. subst (λ (i : ℕ). a ≡ marksOf (metBelow i m)) h e }
+    record { is = t; meets = λ _. subst (λ (i : ℕ). a ≡ metIn (metBelow i m)) h e }
 
 pub endpoint-more :
-    (m : List ℕ) (e : ℕ) {b a : List ℕ} {test r : Bool} → Walk b a (met m (256 + e)) test r → r ≡ true
-    → b ≡ marksOf (metBelow (256 + e) m) → a ≡ marksOf (metBelow (256 + (e + 1)) m)
+    (m : List ℕ) (e : ℕ) {b a : List ℕ} {test r : Bool} → Follows b a (met m (256 + e)) test r → r ≡ true
+    → b ≡ metIn (metBelow (256 + e) m) → a ≡ metIn (metBelow (256 + (e + 1)) m)
 endpoint-more m e {a = a} w h s =
     let q : 256 + e + 1 ≡ 256 + (e + 1) = omega arith in
-    subst (λ (i : ℕ). a ≡ marksOf (metBelow i m)) q (walked-more m (256 + e) w h s)
+    subst (λ (i : ℕ). a ≡ metIn (metBelow i m)) q (walked-more m (256 + e) w h s)

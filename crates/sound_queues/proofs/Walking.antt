@@ -9,19 +9,19 @@ use Rattle.machine.specs.Lists.{pick, put}
 use Rattle.layout.specs.Addresses.{word, linkAt, next}
 use Rattle.layout.specs.Tests.{member}
 use Rattle.soundness.specs.Checks.{metFrom, metBelow, met}
-use Rattle.sound_queues.specs.Marks.{marksOf, also, Marked, Walk}
+use Rattle.sound_queues.specs.Met.{metIn, also, Meets, Follows}
 
 pub and-right : (a b : Bool) → (a && b) ≡ true → b ≡ true
 and-right true b e = e
 and-right false b e = absurd (false≢true e)
 
 -- Of the threads l that the walk is to mark, rest are still to come.
-pub record Passed (before after l rest : List ℕ) : Type 0 where
+pub record MetSoFar (before after l rest : List ℕ) : Type 0 where
   pub goes :
-      (f : ℕ → Bool) → before ≡ marksOf f
-      → (g : ℕ → Bool) × (after ≡ marksOf g) × ((u : ℕ) → also l f u ≡ also rest g u)
+      (f : ℕ → Bool) → before ≡ metIn f
+      → (g : ℕ → Bool) × (after ≡ metIn g) × ((u : ℕ) → also l f u ≡ also rest g u)
 
-pub passed-none : (s l : List ℕ) → Passed s s l l
+pub passed-none : (s l : List ℕ) → MetSoFar s s l l
 passed-none s l = record { goes = λ f e. (f, e, λ u. refl) }
 
 also-put : (g : ℕ → Bool) (t u : ℕ) (rest : List ℕ) → also (t ∷ rest) g u ≡ also rest (put g t true) u
@@ -34,20 +34,20 @@ also-put g t u rest = go (eqb u t) (member u rest) (g u)
     go false k x = refl
 
 pub passed-more :
-    {b a a′ l rest : List ℕ} (t : ℕ) → Passed b a l (t ∷ rest) → Marked a a′ t → Passed b a′ l rest
+    {b a a′ l rest : List ℕ} (t : ℕ) → MetSoFar b a l (t ∷ rest) → Meets a a′ t → MetSoFar b a′ l rest
 passed-more {rest = rest} t p k =
     record {
       goes = λ f e.
           let h = p .goes f e in
-          (put (h .0) t true, k .marks (h .0) (h .1), λ u. h .2 u ∙ also-put (h .0) t u rest);
+          (put (h .0) t true, k .meets (h .0) (h .1), λ u. h .2 u ∙ also-put (h .0) t u rest);
     }
 
-pub passed-all : {b a l : List ℕ} → Passed b a l [] → (f : ℕ → Bool) → b ≡ marksOf f → a ≡ marksOf (also l f)
+pub passed-all : {b a l : List ℕ} → MetSoFar b a l [] → (f : ℕ → Bool) → b ≡ metIn f → a ≡ metIn (also l f)
 unfolding also
-passed-all p f e = let h = p .goes f e in h .1 ∙ ap marksOf (fun-ext (λ u. sym (h .2 u)))
+passed-all p f e = let h = p .goes f e in h .1 ∙ ap metIn (fun-ext (λ u. sym (h .2 u)))
 
-pub walk-failed : {b a l : List ℕ} {test : Bool} → false ≡ test → Walk b a l test false
-walk-failed e = record { is = e; marks = λ h. absurd (false≢true h) }
+pub walk-failed : {b a l : List ℕ} {test : Bool} → false ≡ test → Follows b a l test false
+walk-failed e = record { is = e; meets = λ h. absurd (false≢true h) }
 
 module _ (m : List ℕ) where
   pub met-more :

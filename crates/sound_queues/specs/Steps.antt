@@ -1,4 +1,4 @@
--- The parts of the tests that the code takes as one step each. The phases of its walks are those of the tests.
+-- The parts of the tests that the code takes as one step each.
 use Prim.Native.Nat.{ℕ, _+_}
 use mathlib.Core.Bool.{Bool, _&&_, _||_}
 use mathlib.Core.List.{List}
@@ -6,15 +6,9 @@ use lib.Dec.{eqb}
 use Rattle.layout.specs.declared.Field.{Field}
 use Rattle.layout.specs.declared.Part.{Part}
 use Rattle.layout.specs.Addresses.{prev, linkAt, word, afterAt}
-use Rattle.sound_queues.specs.declared.phases.Phase.{Phase as InCode}
-use Rattle.sound_queues.specs.declared.phases.Phase.the-variants.{Ahead, Inside, Past}
-use Rattle.soundness.specs.Checks.{Phase, ahead, inside, past, threadIn, endpointIn, readyTest, allowed}
+use Rattle.soundness.specs.declared.Phase.{Phase}
+use Rattle.soundness.specs.Checks.{threadAt, endpointAt, readyTest, allowed}
 use Rattle.soundness.specs.Checks.{waitersFrom, bannedOf}
-
-abbrev pub phaseOf : InCode → Phase
-phaseOf Ahead = ahead
-phaseOf Inside = inside
-phaseOf Past = past
 
 -- Thread t behind link x of a level's queue: linked back, and ready at p.
 abbrev pub readyBehind : List ℕ → ℕ → ℕ → ℕ → Bool
@@ -23,15 +17,15 @@ readyBehind m p x t = eqb (word m (linkAt (prev t))) x && readyTest m p t
 -- Thread t behind link x of an endpoint's queue, in phase f: linked back, of place k, and allowed where b is banned.
 abbrev pub standsBehind : List ℕ → ℕ → ℕ → Phase → ℕ → ℕ → Bool
 standsBehind m k b f x t =
-    eqb (word m (linkAt (prev t))) x && eqb (threadIn m Field.Place t) k && allowed f b (threadIn m Field.Badge t)
+    eqb (word m (linkAt (prev t))) x && eqb (threadAt m Field.Place t) k && allowed f b (threadAt m Field.Badge t)
 
 -- The queue of endpoint e, whose threads have place k.
 abbrev pub waitersAs : List ℕ → ℕ → ℕ → Bool
 waitersAs m e k =
-    waitersFrom 257 (word m (afterAt (256 + e) 0)) ahead m (256 + e) k (endpointIn m Part.Cursor e)
-    (endpointIn m Part.End e)
+    waitersFrom 257 (word m (afterAt (256 + e) 0)) Phase.Ahead m (256 + e) k (endpointAt m Part.Cursor e)
+    (endpointAt m Part.End e)
     (bannedOf m e k) 0
 
 -- The place k is that of its senders, or of its receivers where there are no marks.
 abbrev pub kindFits : List ℕ → ℕ → ℕ → Bool
-kindFits m e k = eqb k (2 + e) || (eqb k (66 + e) && eqb (endpointIn m Part.Cursor e) 0)
+kindFits m e k = eqb k (2 + e) || (eqb k (66 + e) && eqb (endpointAt m Part.Cursor e) 0)

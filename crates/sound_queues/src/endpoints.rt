@@ -6,18 +6,18 @@ ghost use lib.ListN.{length};
 ghost use Rattle.layout.specs.declared.Part.{Part};
 ghost use Rattle.layout.specs.Addresses.{word, linkAt, head};
 ghost use Rattle.layout.specs.Tests.{all};
-ghost use Rattle.soundness.specs.Checks.{endpointIn, kindOf, bannedOf, ownerTest, abortTest};
+ghost use Rattle.soundness.specs.Checks.{endpointAt, kindOf, bannedOf, ownerTest, abortTest};
 ghost use Rattle.soundness.specs.Checks.{statusTest, endpointTest, met, metBelow};
-ghost use Rattle.sound_queues.specs.Steps.{phaseOf, standsBehind, waitersAs, kindFits};
-ghost use Rattle.sound_queues.specs.Marks.{marksOf, Walk, Walks};
-use crate::phases::Phase;
+ghost use Rattle.sound_queues.specs.Steps.{standsBehind, waitersAs, kindFits};
+ghost use Rattle.sound_queues.specs.Met.{metIn, Follows, FollowsAll};
 use layout::Field;
 use layout::Part;
+use soundness::Phase;
 
 // An absent endpoint is empty; an absent or closing one has no abort.
 fn status(tables: &[u32], e: usize) -> bool
     requires { ⌜ (length (now tables) ≡ 4096) × (e ≤ 63) ⌝ }
-    ensures { λ r. ⌜ r ≡ statusTest (endpointIn (now (tables .entry)) Part.Status e) (now (tables .entry)) e ⌝ }
+    ensures { λ r. ⌜ r ≡ statusTest (endpointAt (now (tables .entry)) Part.Status e) (now (tables .entry)) e ⌝ }
 {
     let status = words::endpoint(tables, Part::Status, e);
     let aborting = words::endpoint(tables, Part::Aborting, e);
@@ -33,7 +33,7 @@ fn status(tables: &[u32], e: usize) -> bool
 // An owner owes: it names the endpoint.
 fn owner(tables: &[u32], e: usize) -> bool
     requires { ⌜ (length (now tables) ≡ 4096) × (e ≤ 63) ⌝ }
-    ensures { λ r. ⌜ r ≡ ownerTest (endpointIn (now (tables .entry)) Part.Owner e) (now (tables .entry)) e ⌝ }
+    ensures { λ r. ⌜ r ≡ ownerTest (endpointAt (now (tables .entry)) Part.Owner e) (now (tables .entry)) e ⌝ }
 {
     let owner = words::endpoint(tables, Part::Owner, e);
     if owner == 0 {
@@ -48,7 +48,7 @@ fn owner(tables: &[u32], e: usize) -> bool
 // No abort, or one of a badge in range.
 fn abort(tables: &[u32], e: usize) -> bool
     requires { ⌜ (length (now tables) ≡ 4096) × (e ≤ 63) ⌝ }
-    ensures { λ r. ⌜ r ≡ abortTest (endpointIn (now (tables .entry)) Part.Aborting e) (now (tables .entry)) e ⌝ }
+    ensures { λ r. ⌜ r ≡ abortTest (endpointAt (now (tables .entry)) Part.Aborting e) (now (tables .entry)) e ⌝ }
 {
     let aborting = words::endpoint(tables, Part::Aborting, e);
     let badge = words::endpoint(tables, Part::Aborted, e);
@@ -95,7 +95,7 @@ fn banned(tables: &[u32], e: usize, k: usize) -> usize
 // Thread t, met behind link x in a queue of place k: it is linked back, has the place, and may stand where it does.
 fn stands(tables: &[u32], k: usize, b: usize, x: usize, t: usize, f: Phase) -> bool
     requires { ⌜ (length (now tables) ≡ 4096) × (t ≤ 255) ⌝ }
-    ensures { λ r. ⌜ r ≡ standsBehind (now (tables .entry)) k b (phaseOf f) x t ⌝ }
+    ensures { λ r. ⌜ r ≡ standsBehind (now (tables .entry)) k b f x t ⌝ }
 {
     let prev = words::prev(tables, t);
     let place = words::thread(tables, Field::Place, t);
@@ -105,7 +105,7 @@ fn stands(tables: &[u32], k: usize, b: usize, x: usize, t: usize, f: Phase) -> b
 
 fn waiters(tables: &[u32], scratch: &mut [u32], e: usize, k: usize) -> bool
     requires { ⌜ (length (now tables) ≡ 4096) × (length (now scratch) ≡ 256) × (e ≤ 63) ⌝ }
-    ensures { λ r. ⌜ Walk (now (scratch .entry)) (now (scratch .exit)) (met (now (tables .entry)) (256 + e))
+    ensures { λ r. ⌜ Follows (now (scratch .entry)) (now (scratch .exit)) (met (now (tables .entry)) (256 + e))
         (waitersAs (now (tables .entry)) e k) r ⌝ }
 {
     let cursor = words::endpoint(tables, Part::Cursor, e);
@@ -127,7 +127,7 @@ fn waiters(tables: &[u32], scratch: &mut [u32], e: usize, k: usize) -> bool
         if !stands(tables, k, banned, x, t, here) {
             return false;
         }
-        crate::marks::mark(scratch, t);
+        crate::met::meet(scratch, t);
         f = crate::phases::leave(here, end, y);
         x = y;
         y = words::next(tables, t);
@@ -146,7 +146,7 @@ fn fits(tables: &[u32], e: usize, k: usize) -> bool
 
 fn endpoint(tables: &[u32], scratch: &mut [u32], e: usize) -> bool
     requires { ⌜ (length (now tables) ≡ 4096) × (length (now scratch) ≡ 256) × (e ≤ 63) ⌝ }
-    ensures { λ r. ⌜ Walk (now (scratch .entry)) (now (scratch .exit)) (met (now (tables .entry)) (256 + e))
+    ensures { λ r. ⌜ Follows (now (scratch .entry)) (now (scratch .exit)) (met (now (tables .entry)) (256 + e))
         (endpointTest (now (tables .entry)) e) r ⌝ }
 {
     let k = kind(tables, e);
@@ -158,8 +158,8 @@ fn endpoint(tables: &[u32], scratch: &mut [u32], e: usize) -> bool
 
 pub fn endpoints(tables: &[u32], scratch: &mut [u32]) -> bool
     requires { ⌜ (length (now tables) ≡ 4096) × (length (now scratch) ≡ 256)
-        × (now scratch ≡ marksOf (metBelow 256 (now tables))) ⌝ }
-    ensures { λ r. ⌜ Walks (now (scratch .exit)) (metBelow 320 (now (tables .entry)))
+        × (now scratch ≡ metIn (metBelow 256 (now tables))) ⌝ }
+    ensures { λ r. ⌜ FollowsAll (now (scratch .exit)) (metBelow 320 (now (tables .entry)))
         (all 64 (endpointTest (now (tables .entry)))) r ⌝ }
 {
     let mut e = 0;

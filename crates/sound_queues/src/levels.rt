@@ -6,7 +6,7 @@ ghost use lib.ListN.{length};
 ghost use Rattle.layout.specs.Tests.{all};
 ghost use Rattle.soundness.specs.Checks.{levelTest, met, metBelow};
 ghost use Rattle.sound_queues.specs.Steps.{readyBehind};
-ghost use Rattle.sound_queues.specs.Marks.{marksOf, Walk, Walks};
+ghost use Rattle.sound_queues.specs.Met.{metIn, Follows, FollowsAll};
 use layout::Field;
 
 // Thread t, met behind link x in the queue of level p: it is linked back, and ready at p.
@@ -23,7 +23,7 @@ fn ready(tables: &[u32], p: usize, x: usize, t: usize) -> bool
 
 fn level(tables: &[u32], scratch: &mut [u32], p: usize) -> bool
     requires { ⌜ (length (now tables) ≡ 4096) × (length (now scratch) ≡ 256) × (p ≤ 255) ⌝ }
-    ensures { λ r. ⌜ Walk (now (scratch .entry)) (now (scratch .exit)) (met (now (tables .entry)) p)
+    ensures { λ r. ⌜ Follows (now (scratch .entry)) (now (scratch .exit)) (met (now (tables .entry)) p)
         (levelTest (now (tables .entry)) p) r ⌝ }
 {
     let mut x: usize = 0;
@@ -40,7 +40,7 @@ fn level(tables: &[u32], scratch: &mut [u32], p: usize) -> bool
         if !ready(tables, p, x, t) {
             return false;
         }
-        crate::marks::mark(scratch, t);
+        crate::met::meet(scratch, t);
         x = y;
         y = words::next(tables, t);
         left -= 1;
@@ -50,8 +50,8 @@ fn level(tables: &[u32], scratch: &mut [u32], p: usize) -> bool
 
 pub fn levels(tables: &[u32], scratch: &mut [u32]) -> bool
     requires { ⌜ (length (now tables) ≡ 4096) × (length (now scratch) ≡ 256)
-        × (now scratch ≡ marksOf (metBelow 0 (now tables))) ⌝ }
-    ensures { λ r. ⌜ Walks (now (scratch .exit)) (metBelow 256 (now (tables .entry)))
+        × (now scratch ≡ metIn (metBelow 0 (now tables))) ⌝ }
+    ensures { λ r. ⌜ FollowsAll (now (scratch .exit)) (metBelow 256 (now (tables .entry)))
         (all 256 (levelTest (now (tables .entry)))) r ⌝ }
 {
     let mut p = 0;

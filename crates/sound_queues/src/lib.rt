@@ -1,7 +1,7 @@
-// The check's tests that follow the queues' links: each queue is walked once and whoever is met is marked in the
-// scratch; then each thread's place is compared with the marks. Each walk answers a test of checks/specs/Checks.
+// The check's tests that follow the queues' links: each queue is walked once and whoever is met is noted in the
+// scratch; then each thread's place is compared with whom they met. Each walk answers a test of soundness/specs/Checks.
 pub mod endpoints;
 pub mod levels;
-pub mod marks;
+pub mod met;
 mod phases;
 pub mod places;

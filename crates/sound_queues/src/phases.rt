@@ -1,18 +1,11 @@
-// Where a walk through an abort's queue is: before its cursor, from there to its end mark, or past that. No sender
-// under the aborted badge may stand outside the marks.
+// The phases of a walk through an abort's queue, by its marks. No sender under the aborted badge may stand outside them.
 ghost use mathlib.Core.Path.{_≡_};
-ghost use Rattle.soundness.specs.Checks.{enter, leave, allowed, complete};
-ghost use Rattle.sound_queues.specs.Steps.{phaseOf};
-
-pub enum Phase {
-    Ahead,
-    Inside,
-    Past,
-}
+ghost use Rattle.soundness.specs.Checks.{phaseAt, phaseBehind, allowed, complete};
+use soundness::Phase;
 
 // The phase at link y, where the cursor is c.
 pub fn enter(f: Phase, c: usize, y: usize) -> Phase
-    ensures { λ r. ⌜ phaseOf r ≡ enter (phaseOf f) c y ⌝ }
+    ensures { λ r. ⌜ r ≡ phaseAt f c y ⌝ }
 {
     match f {
         Phase::Ahead => {
@@ -28,7 +21,7 @@ pub fn enter(f: Phase, c: usize, y: usize) -> Phase
 
 // The phase behind link y, where the end mark is d.
 pub fn leave(f: Phase, d: usize, y: usize) -> Phase
-    ensures { λ r. ⌜ phaseOf r ≡ leave (phaseOf f) d y ⌝ }
+    ensures { λ r. ⌜ r ≡ phaseBehind f d y ⌝ }
 {
     match f {
         Phase::Ahead => Phase::Ahead,
@@ -44,7 +37,7 @@ pub fn leave(f: Phase, d: usize, y: usize) -> Phase
 
 // Whether a waiter under badge w may stand here, where the aborted badge is b.
 pub fn allowed(f: Phase, b: usize, w: usize) -> bool
-    ensures { λ r. ⌜ r ≡ allowed (phaseOf f) b w ⌝ }
+    ensures { λ r. ⌜ r ≡ allowed f b w ⌝ }
 {
     match f {
         Phase::Ahead => w != b,
@@ -55,7 +48,7 @@ pub fn allowed(f: Phase, b: usize, w: usize) -> bool
 
 // At the end of the queue both marks have been met, or there are none.
 pub fn complete(f: Phase, c: usize) -> bool
-    ensures { λ r. ⌜ r ≡ complete (phaseOf f) c ⌝ }
+    ensures { λ r. ⌜ r ≡ complete f c ⌝ }
 {
     match f {
         Phase::Ahead => c == 0,

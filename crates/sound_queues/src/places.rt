@@ -5,15 +5,15 @@ ghost use Prim.Native.Nat.{_≤_};
 ghost use lib.ListN.{length};
 ghost use Rattle.layout.specs.Tests.{all};
 ghost use Rattle.soundness.specs.Checks.{placedTest, metBelow};
-ghost use Rattle.sound_queues.specs.Marks.{marksOf};
+ghost use Rattle.sound_queues.specs.Met.{metIn};
 use layout::Field;
 
 fn place(tables: &[u32], scratch: &[u32], t: usize) -> bool
     requires { ⌜ (length (now tables) ≡ 4096) × (length (now scratch) ≡ 256)
-        × (now scratch ≡ marksOf (metBelow 320 (now tables))) × (t ≤ 255) ⌝ }
+        × (now scratch ≡ metIn (metBelow 320 (now tables))) × (t ≤ 255) ⌝ }
     ensures { λ r. ⌜ r ≡ placedTest (now (tables .entry)) t ⌝ }
 {
-    let met = crate::marks::marked(scratch, t);
+    let met = crate::met::has_met(scratch, t);
     let place = words::thread(tables, Field::Place, t);
     let running = words::running(tables);
     let queued = ((place == 1) & (running != t + 1)) | ((2 <= place) & (place < 130));
@@ -23,7 +23,7 @@ fn place(tables: &[u32], scratch: &[u32], t: usize) -> bool
 
 pub fn places(tables: &[u32], scratch: &[u32]) -> bool
     requires { ⌜ (length (now tables) ≡ 4096) × (length (now scratch) ≡ 256)
-        × (now scratch ≡ marksOf (metBelow 320 (now tables))) ⌝ }
+        × (now scratch ≡ metIn (metBelow 320 (now tables))) ⌝ }
     ensures { λ r. ⌜ r ≡ all 256 (placedTest (now (tables .entry))) ⌝ }
 {
     let mut t = 0;

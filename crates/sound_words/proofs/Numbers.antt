@@ -10,10 +10,10 @@ use borrow.Author.Tests.{lt-ltb, le-ltb, eq-eqb, ne-eqb, leb-true}
 use Rattle.layout.specs.declared.Field.{Field}
 use Rattle.layout.specs.declared.Part.{Part}
 use Rattle.layout.specs.Addresses.{ofLine, at, word}
-use Rattle.soundness.specs.Checks.{threadIn, endpointIn, numbersTest, storedTest, waitsTest, owesTest, absentTest}
+use Rattle.soundness.specs.Checks.{threadAt, endpointAt, numbersTest, storedTest, waitsTest, owesTest, absentTest}
 use Rattle.soundness.specs.Checks.{presentTest, blockTest}
 
-module _ (m : List ℕ) (t : ℕ) {p : ℕ} (is : p ≡ threadIn m Field.Place t) where
+module _ (m : List ℕ) (t : ℕ) {p : ℕ} (is : p ≡ threadAt m Field.Place t) where
   pub waits-not : p < 130 → true ≡ waitsTest m t
   unfolding waitsTest
   waits-not h = rw (← is, lt-ltb p 130 h)
@@ -30,14 +30,14 @@ module _ (m : List ℕ) (t : ℕ) {p : ℕ} (is : p ≡ threadIn m Field.Place t
   unfolding blockTest
   block-present h e = rw (← is, ne-eqb p 0 h) e
 
-module _ (m : List ℕ) (t : ℕ) {n : ℕ} (noted : n ≡ threadIn m Field.Note t) where
+module _ (m : List ℕ) (t : ℕ) {n : ℕ} (noted : n ≡ threadAt m Field.Note t) where
   owes-zero : (w : ℕ) → w ≡ 0 → eqb n 0 ≡ owesTest w m t
   unfolding owesTest
   owes-zero zero h = rw noted
   owes-zero (suc w) h = absurd (omega arith)
 
   owes-owner :
-      (w : ℕ) {o : ℕ} → (w ≡ 0 → ⊥) → w ≤ 64 → o ≡ endpointIn m Part.Owner (w - 1)
+      (w : ℕ) {o : ℕ} → (w ≡ 0 → ⊥) → w ≤ 64 → o ≡ endpointAt m Part.Owner (w - 1)
       → (eqb n 0 && eqb o (t + 1)) ≡ owesTest w m t
   unfolding owesTest
   owes-owner zero z h e = absurd (z refl)
@@ -50,17 +50,17 @@ module _ (m : List ℕ) (t : ℕ) {n : ℕ} (noted : n ≡ threadIn m Field.Note
   owes-badge zero z h = absurd (z refl)
   owes-badge (suc w) z h = rw (le-ltb w 64 (omega arith), noted)
 
-  module _ {w : ℕ} (is : w ≡ threadIn m Field.Owes t) where
-    pub owing-nothing : w ≡ 0 → eqb n 0 ≡ owesTest (threadIn m Field.Owes t) m t
+  module _ {w : ℕ} (is : w ≡ threadAt m Field.Owes t) where
+    pub owing-nothing : w ≡ 0 → eqb n 0 ≡ owesTest (threadAt m Field.Owes t) m t
     owing-nothing h = rw (← is) (owes-zero w h)
 
     pub owing-abort :
-        {o : ℕ} → (w ≡ 0 → ⊥) → w ≤ 64 → o ≡ endpointIn m Part.Owner (w - 1)
-        → (eqb n 0 && eqb o (t + 1)) ≡ owesTest (threadIn m Field.Owes t) m t
+        {o : ℕ} → (w ≡ 0 → ⊥) → w ≤ 64 → o ≡ endpointAt m Part.Owner (w - 1)
+        → (eqb n 0 && eqb o (t + 1)) ≡ owesTest (threadAt m Field.Owes t) m t
     owing-abort z h e = rw (← is) (owes-owner w z h e)
 
     pub owing-note :
-        (w ≡ 0 → ⊥) → 64 < w → (leb w 128 && ltb n (2 ^ 28)) ≡ owesTest (threadIn m Field.Owes t) m t
+        (w ≡ 0 → ⊥) → 64 < w → (leb w 128 && ltb n (2 ^ 28)) ≡ owesTest (threadAt m Field.Owes t) m t
     owing-note z h = rw (← is) (owes-badge w z h)
 
 and-left : (a b : Bool) → (a && b) ≡ true → a ≡ true
@@ -73,13 +73,13 @@ module _ (m : List ℕ) (t : ℕ) {n : Bool} (numbers : n ≡ numbersTest m t) w
   present-not h = rw (← numbers, h)
 
   pub present-all :
-      {s w o : Bool} → n ≡ true → s ≡ storedTest m t → w ≡ waitsTest m t → o ≡ owesTest (threadIn m Field.Owes t) m t
+      {s w o : Bool} → n ≡ true → s ≡ storedTest m t → w ≡ waitsTest m t → o ≡ owesTest (threadAt m Field.Owes t) m t
       → ((s && w) && o) ≡ presentTest m t
   unfolding presentTest
   present-all h e f g = rw (← numbers, h, e, f, g)
 
-  pub place-small : n ≡ true → threadIn m Field.Place t ≤ 161
+  pub place-small : n ≡ true → threadAt m Field.Place t ≤ 161
   unfolding numbersTest
   place-small h =
-      leb-true (threadIn m Field.Place t) 161
+      leb-true (threadAt m Field.Place t) 161
       (and-left _ _ (and-left _ _ (and-left _ _ (and-left _ _ (and-left _ _ (sym numbers ∙ h))))))

@@ -9,7 +9,7 @@ use borrow.Author.Tests.{eq-eqb, ne-eqb, le-leb, lt-leb}
 use Rattle.layout.specs.declared.Field.{Field}
 use Rattle.layout.specs.Addresses.{ofLine, running, at, head, linkAt, word}
 use Rattle.layout.specs.Tests.{all}
-use Rattle.soundness.specs.Checks.{threadIn, lineFrom, lineTest, occupiedAt, runningFrom, runningTest}
+use Rattle.soundness.specs.Checks.{threadAt, lineFrom, lineTest, occupiedAt, runningFrom, runningTest}
 use Rattle.soundness.proofs.Every.{one-fails}
 
 -- Lines
@@ -27,7 +27,7 @@ module _ (m : List ℕ) (l : ℕ) {w : ℕ} (is : w ≡ word m (at (ofLine l))) 
   far (suc zero) h = absurd (omega arith)
   far (suc (suc t)) h = rw (lt-leb t 255 (omega arith))
 
-  waited : (v : ℕ) {p : ℕ} → 2 ≤ v → v ≤ 257 → p ≡ threadIn m Field.Place (v - 2) → eqb p (130 + l) ≡ lineFrom v m l
+  waited : (v : ℕ) {p : ℕ} → 2 ≤ v → v ≤ 257 → p ≡ threadAt m Field.Place (v - 2) → eqb p (130 + l) ≡ lineFrom v m l
   unfolding lineFrom
   waited zero h g e = absurd (omega arith)
   waited (suc zero) h g e = absurd (omega arith)
@@ -42,7 +42,7 @@ module _ (m : List ℕ) (l : ℕ) {w : ℕ} (is : w ≡ word m (at (ofLine l))) 
   unfolding lineTest
   line-far h = rw (← is) (far w h)
 
-  pub line-waited : {p : ℕ} → 2 ≤ w → w ≤ 257 → p ≡ threadIn m Field.Place (w - 2) → eqb p (130 + l) ≡ lineTest m l
+  pub line-waited : {p : ℕ} → 2 ≤ w → w ≤ 257 → p ≡ threadAt m Field.Place (w - 2) → eqb p (130 + l) ≡ lineTest m l
   unfolding lineTest
   line-waited h g e = rw (← is) (waited w h g e)
 
@@ -92,8 +92,8 @@ module _ (m : List ℕ) {w : ℕ} (is : w ≡ word m (at running)) where
   outside (suc t) h = rw (lt-leb t 255 (omega arith))
 
   somebody :
-      (v : ℕ) {p q : ℕ} {a : Bool} → (v ≡ 0 → ⊥) → v ≤ 256 → p ≡ threadIn m Field.Place (v - 1)
-      → q ≡ threadIn m Field.Priority (v - 1) → a ≡ all 256 (lower m q) → (eqb p 1 && a) ≡ runningFrom v m
+      (v : ℕ) {p q : ℕ} {a : Bool} → (v ≡ 0 → ⊥) → v ≤ 256 → p ≡ threadAt m Field.Place (v - 1)
+      → q ≡ threadAt m Field.Priority (v - 1) → a ≡ all 256 (lower m q) → (eqb p 1 && a) ≡ runningFrom v m
   unfolding runningFrom
   somebody zero n h e f g = absurd (n refl)
   somebody (suc t) n h e f g =
@@ -110,7 +110,7 @@ module _ (m : List ℕ) {w : ℕ} (is : w ≡ word m (at running)) where
   running-outside h = rw (← is) (outside w h)
 
   pub running-somebody :
-      {p q : ℕ} {a : Bool} → (w ≡ 0 → ⊥) → w ≤ 256 → p ≡ threadIn m Field.Place (w - 1)
-      → q ≡ threadIn m Field.Priority (w - 1) → a ≡ all 256 (lower m q) → (eqb p 1 && a) ≡ runningTest m
+      {p q : ℕ} {a : Bool} → (w ≡ 0 → ⊥) → w ≤ 256 → p ≡ threadAt m Field.Place (w - 1)
+      → q ≡ threadAt m Field.Priority (w - 1) → a ≡ all 256 (lower m q) → (eqb p 1 && a) ≡ runningTest m
   unfolding runningTest
   running-somebody n h e f g = rw (← is) (somebody w n h e f g)

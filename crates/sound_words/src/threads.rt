@@ -5,7 +5,7 @@ ghost use Prim.Native.Nat.{_≤_};
 ghost use lib.ListN.{length};
 ghost use Rattle.layout.specs.declared.Field.{Field};
 ghost use Rattle.layout.specs.Tests.{all};
-ghost use Rattle.soundness.specs.Checks.{threadIn, absentTest, numbersTest, storedTest, waitsTest, owesTest};
+ghost use Rattle.soundness.specs.Checks.{threadAt, absentTest, numbersTest, storedTest, waitsTest, owesTest};
 ghost use Rattle.soundness.specs.Checks.{presentTest, blockTest};
 use layout::Field;
 use layout::Part;
@@ -52,7 +52,7 @@ fn stored(tables: &[u32], t: usize) -> bool
 
 // A thread on a line is the line's waiter.
 fn waits(tables: &[u32], t: usize) -> bool
-    requires { ⌜ (length (now tables) ≡ 4096) × (t ≤ 255) × (threadIn (now tables) Field.Place t ≤ 161) ⌝ }
+    requires { ⌜ (length (now tables) ≡ 4096) × (t ≤ 255) × (threadAt (now tables) Field.Place t ≤ 161) ⌝ }
     ensures { λ r. ⌜ r ≡ waitsTest (now (tables .entry)) t ⌝ }
 {
     let place = words::thread(tables, Field::Place, t);
@@ -65,7 +65,7 @@ fn waits(tables: &[u32], t: usize) -> bool
 // What a thread owes: nothing, an abort that names it as owner, or a note.
 fn owing(tables: &[u32], t: usize) -> bool
     requires { ⌜ (length (now tables) ≡ 4096) × (t ≤ 255) ⌝ }
-    ensures { λ r. ⌜ r ≡ owesTest (threadIn (now (tables .entry)) Field.Owes t) (now (tables .entry)) t ⌝ }
+    ensures { λ r. ⌜ r ≡ owesTest (threadAt (now (tables .entry)) Field.Owes t) (now (tables .entry)) t ⌝ }
 {
     let owes = words::thread(tables, Field::Owes, t);
     let note = words::thread(tables, Field::Note, t);

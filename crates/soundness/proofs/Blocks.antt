@@ -21,8 +21,8 @@ use Rattle.layout.proofs.Addresses.{below?}
 use Rattle.layout.proofs.Codes.{PlaceSmall, place-back, DebtSmall}
 use Rattle.layout.proofs.Blocks.{NeatThread, absent-neat, thread-back, debt-in-range}
 use Rattle.layout.proofs.Neat.{seat-small}
-use Rattle.layout.proofs.Tests.{Tells, tells-map, tells-and, tells-or, tells-eqb, tells-leb, tells-some, tells-awaited}
-use Rattle.soundness.specs.Checks.{threadIn, endpointIn, absentTest, numbersTest, storedTest, waitsTest, owesTest}
+use Rattle.layout.proofs.Tests.{Decides, tells-map, tells-and, tells-or, tells-eqb, tells-leb, tells-some, tells-awaited}
+use Rattle.soundness.specs.Checks.{threadAt, endpointAt, absentTest, numbersTest, storedTest, waitsTest, owesTest}
 use Rattle.soundness.specs.Checks.{presentTest, blockTest}
 use Rattle.soundness.proofs.Tests.{tells-ltb, tells-pick, told}
 use Rattle.soundness.proofs.Reading.{Reads}
@@ -51,33 +51,33 @@ OnLine m t w = (w < 130) ⊎ (word m (at (ofLine (w - 130))) ≡ suc (suc t))
 abbrev Owing : List ℕ → ℕ → ℕ → ℕ → Type 0
 Owing m t n zero = n ≡ 0
 Owing m t n (suc w) =
-    (w < 64 → (n ≡ 0) × (endpointIn m Part.Owner w ≡ suc t)) × ((w < 64 → ⊥) → (w < 128) × (n < 2 ^ 28))
+    (w < 64 → (n ≡ 0) × (endpointAt m Part.Owner w ≡ suc t)) × ((w < 64 → ⊥) → (w < 128) × (n < 2 ^ 28))
 
 module _ (m : List ℕ) (t : ℕ) where
-  tells-absent : Tells (absentTest m t) (Zeros (λ f. threadIn m f t))
+  tells-absent : Decides (absentTest m t) (Zeros (λ f. threadAt m f t))
   unfolding absentTest
   tells-absent =
       tells-and (tells-and (tells-and (tells-and (tells-and (tells-and (tells-eqb _ 0) (tells-eqb _ 0)) (tells-eqb _ 0))
       (tells-eqb _ 0)) (tells-eqb _ 0)) (tells-eqb _ 0)) (tells-eqb _ 0)
 
-  tells-numbers : Tells (numbersTest m t) (Counted (λ f. threadIn m f t))
+  tells-numbers : Decides (numbersTest m t) (Counted (λ f. threadAt m f t))
   unfolding numbersTest
   tells-numbers =
       tells-and (tells-and (tells-and (tells-and (tells-and (tells-leb _ 161) (tells-leb _ 255))
       (tells-and (tells-leb 1 _) (tells-leb _ 5))) (tells-leb _ 5)) (tells-ltb _ (2 ^ 28))) (tells-ltb _ (2 ^ 28))
 
-  tells-stored : Tells (storedTest m t) (Kept (λ f. threadIn m f t))
+  tells-stored : Decides (storedTest m t) (Kept (λ f. threadAt m f t))
   unfolding storedTest
   tells-stored =
       tells-and (tells-or (tells-eqb _ 1) (tells-eqb _ 0))
       (tells-or (tells-or (tells-eqb _ 2) (tells-and (tells-leb 2 _) (tells-ltb _ 66)))
       (tells-and (tells-eqb _ 0) (tells-eqb _ 0)))
 
-  tells-waits : Tells (waitsTest m t) (OnLine m t (threadIn m Field.Place t))
+  tells-waits : Decides (waitsTest m t) (OnLine m t (threadAt m Field.Place t))
   unfolding waitsTest
   tells-waits = tells-or (tells-ltb _ 130) (tells-eqb _ (suc (suc t)))
 
-  tells-owes : (w : ℕ) → Tells (owesTest w m t) (Owing m t (threadIn m Field.Note t) w)
+  tells-owes : (w : ℕ) → Decides (owesTest w m t) (Owing m t (threadAt m Field.Note t) w)
   unfolding owesTest
   tells-owes zero = tells-eqb _ 0
   tells-owes (suc w) =
@@ -85,15 +85,15 @@ module _ (m : List ℕ) (t : ℕ) where
       (tells-and (tells-ltb w 128) (tells-ltb _ (2 ^ 28)))
 
   tells-words :
-      Tells (blockTest m t)
-      ((threadIn m Field.Place t ≡ 0 → Zeros (λ f. threadIn m f t))
-      × ((threadIn m Field.Place t ≡ 0 → ⊥)
-      → ((Counted (λ f. threadIn m f t) × Kept (λ f. threadIn m f t)) × OnLine m t (threadIn m Field.Place t))
-      × Owing m t (threadIn m Field.Note t) (threadIn m Field.Owes t)))
+      Decides (blockTest m t)
+      ((threadAt m Field.Place t ≡ 0 → Zeros (λ f. threadAt m f t))
+      × ((threadAt m Field.Place t ≡ 0 → ⊥)
+      → ((Counted (λ f. threadAt m f t) × Kept (λ f. threadAt m f t)) × OnLine m t (threadAt m Field.Place t))
+      × Owing m t (threadAt m Field.Note t) (threadAt m Field.Owes t)))
   unfolding blockTest presentTest
   tells-words =
       tells-pick (tells-eqb _ 0) tells-absent
-      (tells-and (tells-and (tells-and tells-numbers tells-stored) tells-waits) (tells-owes (threadIn m Field.Owes t)))
+      (tells-and (tells-and (tells-and tells-numbers tells-stored) tells-waits) (tells-owes (threadAt m Field.Owes t)))
 
 -- Each code in range is that of a place, and of a debt with its note.
 
@@ -227,11 +227,11 @@ module _
         go Field.Note = ne
 
 -- Where the test passes, the words are those of the thread read off them.
-pub block-words : (m : List ℕ) (t : ℕ) → t ≤ 255 → blockTest m t ≡ true → Same-words (λ f. threadIn m f t)
-block-words m t h e = go (same? (threadIn m Field.Place t) 0) (tells-words m t .holds e)
+pub block-words : (m : List ℕ) (t : ℕ) → t ≤ 255 → blockTest m t ≡ true → Same-words (λ f. threadAt m f t)
+block-words m t h e = go (same? (threadAt m Field.Place t) 0) (tells-words m t .holds e)
   where
     w : Field → ℕ
-    w f = threadIn m f t
+    w f = threadAt m f t
 
     go : Same (w Field.Place) 0
         → ((w Field.Place ≡ 0 → Zeros w)
@@ -248,11 +248,11 @@ block-words m t h e = go (same? (threadIn m Field.Place t) 0) (tells-words m t .
 -- What is left of the test
 
 -- The line that a thread waits on names it; the abort that it owns names it.
-abbrev pub Waits : State → ℕ → Type 0
-Waits s t = (l : ℕ) → s .threads t .place ≡ waiting l → s .lines l ≡ awaited t
+abbrev pub NamesWaiter : State → ℕ → Type 0
+NamesWaiter s t = (l : ℕ) → s .threads t .place ≡ waiting l → s .lines l ≡ awaited t
 
-abbrev pub Owes : State → ℕ → Type 0
-Owes s t = (e : ℕ) → s .threads t .debt ≡ owns e → ownerOf (s .endpoints e .abort) ≡ some t
+abbrev pub NamesOwner : State → ℕ → Type 0
+NamesOwner s t = (e : ℕ) → s .threads t .debt ≡ owns e → ownerOf (s .endpoints e .abort) ≡ some t
 
 code-small : (p : Place) → PlaceSmall p → placeCode p ≤ 161
 code-small absent h = omega arith
@@ -265,16 +265,16 @@ module _ (m : List ℕ) (s : State) (R : Reads m s) (t : ℕ) (h : t ≤ 255) wh
   X : NeatThread t (s .threads t)
   X = R .neat .threads t
 
-  here : (f : Field) → threadIn m f t ≡ threadWord (s .threads t) f
+  here : (f : Field) → threadAt m f t ≡ threadWord (s .threads t) f
   here f = R .slots (ofThread f t) h
 
-  is-absent : threadIn m Field.Place t ≡ 0 → s .threads t .place ≡ absent
+  is-absent : threadAt m Field.Place t ≡ 0 → s .threads t .place ≡ absent
   is-absent e = same-place (s .threads t .place) absent (X .place-small) tt (sym (here Field.Place) ∙ e)
 
-  zero-word : threadIn m Field.Place t ≡ 0 → (f : Field) → threadIn m f t ≡ threadWord absentThread f
+  zero-word : threadAt m Field.Place t ≡ 0 → (f : Field) → threadAt m f t ≡ threadWord absentThread f
   zero-word e f = here f ∙ ap (λ (x : Thread). threadWord x f) (X .unused (is-absent e))
 
-  has-numbers : (threadIn m Field.Place t ≡ 0 → ⊥) → Counted (λ f. threadIn m f t)
+  has-numbers : (threadAt m Field.Place t ≡ 0 → ⊥) → Counted (λ f. threadAt m f t)
   has-numbers n =
       let N = X .numbers (λ e. n (here Field.Place ∙ ap placeCode e)) in (
         (
@@ -294,37 +294,37 @@ module _ (m : List ℕ) (s : State) (R : Reads m s) (t : ℕ) (h : t ≤ 255) wh
       )
 
   none-stored :
-      ((threadIn m Field.Outcome t ≡ 2) ⊎ ((2 ≤ threadIn m Field.Place t) × (threadIn m Field.Place t < 66)) → ⊥)
-      → (threadIn m Field.Badge t ≡ 0) × (threadIn m Field.Message t ≡ 0)
+      ((threadAt m Field.Outcome t ≡ 2) ⊎ ((2 ≤ threadAt m Field.Place t) × (threadAt m Field.Place t < 66)) → ⊥)
+      → (threadAt m Field.Badge t ≡ 0) × (threadAt m Field.Message t ≡ 0)
   none-stored n =
       let r = X .stored (λ z. n (⊎-elim (λ e. inl (here Field.Outcome ∙ e))
       (λ r. inr (omega (arith, here Field.Place, r .0), omega (arith, here Field.Place, r .1)))
       (stores-code (s .threads t .place) (s .threads t .outcome) (X .place-small) z))) in
       (here Field.Badge ∙ r .0, here Field.Message ∙ r .1)
 
-  has-kept : Kept (λ f. threadIn m f t)
+  has-kept : Kept (λ f. threadAt m f t)
   has-kept = (
     ⊎-elim inl (λ n. inr (here Field.Outcome ∙ X .blocked (λ e. n (here Field.Place ∙ ap placeCode e))))
-        (told (tells-eqb (threadIn m Field.Place t) 1)),
+        (told (tells-eqb (threadAt m Field.Place t) 1)),
     ⊎-elim inl (λ n. inr (none-stored n))
         (told
-        (tells-or (tells-eqb (threadIn m Field.Outcome t) 2)
-        (tells-and (tells-leb 2 (threadIn m Field.Place t)) (tells-ltb (threadIn m Field.Place t) 66)))),
+        (tells-or (tells-eqb (threadAt m Field.Outcome t) 2)
+        (tells-and (tells-leb 2 (threadAt m Field.Place t)) (tells-ltb (threadAt m Field.Place t) 66)))),
   )
 
   -- The line that the thread waits on.
 
-  waits-of : OnLine m t (threadIn m Field.Place t) → Waits s t
+  waits-of : OnLine m t (threadAt m Field.Place t) → NamesWaiter s t
   waits-of o l e =
-      let code : threadIn m Field.Place t ≡ 130 + l = here Field.Place ∙ ap placeCode e in
-      let back : threadIn m Field.Place t - 130 ≡ l = omega arith in
+      let code : threadAt m Field.Place t ≡ 130 + l = here Field.Place ∙ ap placeCode e in
+      let back : threadAt m Field.Place t - 130 ≡ l = omega arith in
       ⊎-elim (λ z. absurd (omega arith))
       (λ k. tells-awaited (s .lines l) t .holds
       (tells-eqb (lineCode (s .lines l)) (suc (suc t)) .back
       (sym (R .slots (ofLine l) (seat-small s (R .neat) t e)) ∙ rw back at k)))
       o
 
-  on-line : Waits s t → (p : Place) → s .threads t .place ≡ p → PlaceSmall p → OnLine m t (placeCode p)
+  on-line : NamesWaiter s t → (p : Place) → s .threads t .place ≡ p → PlaceSmall p → OnLine m t (placeCode p)
   on-line W absent e g = inl (omega arith)
   on-line W able e g = inl (omega arith)
   on-line W (sending n) e g = inl (omega arith)
@@ -335,17 +335,17 @@ module _ (m : List ℕ) (s : State) (R : Reads m s) (t : ℕ) (h : t ≤ 255) wh
 
   -- The abort that it owns.
 
-  owes-of : Owing m t (threadIn m Field.Note t) (threadIn m Field.Owes t) → Owes s t
+  owes-of : Owing m t (threadAt m Field.Note t) (threadAt m Field.Owes t) → NamesOwner s t
   owes-of o e i =
       let small : e ≤ 63 = subst DebtSmall i (X .debt-small) in
-      let code : threadIn m Field.Owes t ≡ suc e
+      let code : threadAt m Field.Owes t ≡ suc e
       = (here Field.Owes ∙ ap debtCode i) ∙ (let z : 1 + e ≡ suc e = omega arith in z) in
-      let k = subst (Owing m t (threadIn m Field.Note t)) code o .0 (omega arith) .1 in
+      let k = subst (Owing m t (threadAt m Field.Note t)) code o .0 (omega arith) .1 in
       tells-some (ownerOf (s .endpoints e .abort)) t .holds
       (tells-eqb (linkOf (ownerOf (s .endpoints e .abort))) (suc t) .back
       (sym (R .slots (ofEndpoint Part.Owner e) small) ∙ k))
 
-  owing : Owes s t → (d : Debt) → s .threads t .debt ≡ d → DebtSmall d → Owing m t (noteCode d) (debtCode d)
+  owing : NamesOwner s t → (d : Debt) → s .threads t .debt ≡ d → DebtSmall d → Owing m t (noteCode d) (debtCode d)
   owing O nothing i g = refl
   owing O (owns e) i g =
       let z : 1 + e ≡ suc e = omega arith in
@@ -356,30 +356,30 @@ module _ (m : List ℕ) (s : State) (R : Reads m s) (t : ℕ) (h : t ≤ 255) wh
       subst (Owing m t b) (sym z) (λ k. absurd (omega arith), λ _. (omega arith, g .1))
 
   -- What is left of the test of a neat thread's words.
-  pub tells-block : Tells (blockTest m t) (Waits s t × Owes s t)
+  pub tells-block : Decides (blockTest m t) (NamesWaiter s t × NamesOwner s t)
   tells-block = tells-map from to (tells-words m t)
     where
-      absent-owes : threadIn m Field.Place t ≡ 0 → Owes s t
+      absent-owes : threadAt m Field.Place t ≡ 0 → NamesOwner s t
       absent-owes z e i =
           absurd (omega (arith, sym (zero-word z Field.Owes) ∙ here Field.Owes ∙ ap debtCode i))
 
-      absent-waits : threadIn m Field.Place t ≡ 0 → Waits s t
+      absent-waits : threadAt m Field.Place t ≡ 0 → NamesWaiter s t
       absent-waits z l e = absurd (omega (arith, sym z ∙ here Field.Place ∙ ap placeCode e))
 
-      from : (threadIn m Field.Place t ≡ 0 → Zeros (λ f. threadIn m f t))
-          × ((threadIn m Field.Place t ≡ 0 → ⊥)
-          → ((Counted (λ f. threadIn m f t) × Kept (λ f. threadIn m f t)) × OnLine m t (threadIn m Field.Place t))
-          × Owing m t (threadIn m Field.Note t) (threadIn m Field.Owes t))
-          → Waits s t × Owes s t
+      from : (threadAt m Field.Place t ≡ 0 → Zeros (λ f. threadAt m f t))
+          × ((threadAt m Field.Place t ≡ 0 → ⊥)
+          → ((Counted (λ f. threadAt m f t) × Kept (λ f. threadAt m f t)) × OnLine m t (threadAt m Field.Place t))
+          × Owing m t (threadAt m Field.Note t) (threadAt m Field.Owes t))
+          → NamesWaiter s t × NamesOwner s t
       from r =
           ⊎-elim (λ z. (absent-waits z, absent-owes z)) (λ n. (waits-of (r .1 n .0 .1), owes-of (r .1 n .1)))
-          (told (tells-eqb (threadIn m Field.Place t) 0))
+          (told (tells-eqb (threadAt m Field.Place t) 0))
 
-      to : Waits s t × Owes s t
-          → (threadIn m Field.Place t ≡ 0 → Zeros (λ f. threadIn m f t))
-          × ((threadIn m Field.Place t ≡ 0 → ⊥)
-          → ((Counted (λ f. threadIn m f t) × Kept (λ f. threadIn m f t)) × OnLine m t (threadIn m Field.Place t))
-          × Owing m t (threadIn m Field.Note t) (threadIn m Field.Owes t))
+      to : NamesWaiter s t × NamesOwner s t
+          → (threadAt m Field.Place t ≡ 0 → Zeros (λ f. threadAt m f t))
+          × ((threadAt m Field.Place t ≡ 0 → ⊥)
+          → ((Counted (λ f. threadAt m f t) × Kept (λ f. threadAt m f t)) × OnLine m t (threadAt m Field.Place t))
+          × Owing m t (threadAt m Field.Note t) (threadAt m Field.Owes t))
       to r = (
         λ z. (
           (

@@ -10,25 +10,26 @@ use Rattle.machine.specs.Lists.{pick, Mem, Distinct}
 use Rattle.machine.proofs.Lists.{Same, same, other, same?, mem-left, mem-right}
 use Rattle.layout.specs.Words.{firstOf, lastOf}
 use Rattle.layout.specs.Decode.{since, upTo, between}
-use Rattle.layout.proofs.Tests.{Tells, tells-true, tells-false, tells-map, tells-and, tells-not, tells-eqb}
-use Rattle.layout.proofs.Walks.{Within, between-within}
-use Rattle.soundness.specs.Checks.{ahead, inside, past, enter, leave, allowed, complete}
-use Rattle.soundness.proofs.Walks.{phased}
+use Rattle.layout.proofs.Tests.{Decides, tells-true, tells-false, tells-map, tells-and, tells-not, tells-eqb}
+use Rattle.layout.proofs.Following.{PartOf, between-within}
+use Rattle.soundness.specs.declared.Phase.{Phase}
+use Rattle.soundness.specs.Checks.{phaseAt, phaseBehind, allowed, complete}
+use Rattle.soundness.proofs.Following.{phased}
 
 -- Whoever stands in a part of a list stands in the list.
-pub part-in : {l part : List ℕ} → Within l part → (t : ℕ) → Mem t part → Mem t l
+pub part-in : {l part : List ℕ} → PartOf l part → (t : ℕ) → Mem t part → Mem t l
 part-in {l} {part} w t k =
     rw (w .within) (mem-right t (w .before) (part ++ w .behind) (mem-left t part (w .behind) k))
 
 -- The part runs from the cursor c to the end mark d, or is empty where there is no cursor; all with badge b are in it.
-pub record Marked (c d b : ℕ) (g : ℕ → ℕ) (l part : List ℕ) : Type 0 where
+pub record FromTo (c d b : ℕ) (g : ℕ → ℕ) (l part : List ℕ) : Type 0 where
   pub first : firstOf part ≡ c
   pub last : (c ≡ 0 → ⊥) → lastOf 0 part ≡ d
   pub outside : (u : ℕ) → Mem u l → g u ≡ b → Mem u part
 
 module _ (c d b : ℕ) (g : ℕ → ℕ) where
-  tells-past : (l : List ℕ) → Tells (phased past c d b g l) ((u : ℕ) → Mem u l → g u ≡ b → ⊥)
-  unfolding phased enter leave allowed complete
+  tells-past : (l : List ℕ) → Decides (phased Phase.Past c d b g l) ((u : ℕ) → Mem u l → g u ≡ b → ⊥)
+  unfolding phased phaseAt phaseBehind allowed complete
   tells-past [] = tells-true (λ u k. absurd k)
   tells-past (t ∷ l) =
       tells-map (λ p u. ⊎-elim (λ e i. p .0 (ap g (sym e) ∙ i)) (p .1 u)) (λ p. (p t (inl refl), λ u k. p u (inr k)))
@@ -37,16 +38,16 @@ module _ (c d b : ℕ) (g : ℕ → ℕ) where
   -- From the cursor on, behind a link x that is not the end mark.
   tells-inside :
       (l : List ℕ) → Distinct l → (x : ℕ) → (x ≡ d → ⊥)
-      → Tells (phased inside c d b g l)
+      → Decides (phased Phase.Inside c d b g l)
       ((lastOf x (upTo d l) ≡ d) × ((u : ℕ) → Mem u l → g u ≡ b → Mem u (upTo d l)))
-  unfolding phased enter leave allowed complete upTo
+  unfolding phased phaseAt phaseBehind allowed complete upTo
   tells-inside [] D x n = tells-false (λ p. n (p .0))
   tells-inside (t ∷ l) D x n = go (same? (suc t) d) (tells-inside l (D .1) (suc t))
     where
       go : Same (suc t) d
-          → ((suc t ≡ d → ⊥) → Tells (phased inside c d b g l)
+          → ((suc t ≡ d → ⊥) → Decides (phased Phase.Inside c d b g l)
           ((lastOf (suc t) (upTo d l) ≡ d) × ((u : ℕ) → Mem u l → g u ≡ b → Mem u (upTo d l))))
-          → Tells (phased (pick (eqb (suc t) d) past inside) c d b g l)
+          → Decides (phased (pick (eqb (suc t) d) Phase.Past Phase.Inside) c d b g l)
           ((lastOf (suc t) (pick (eqb (suc t) d) [] (upTo d l)) ≡ d)
           × ((u : ℕ) → Mem u (t ∷ l) → g u ≡ b → Mem u (t ∷ pick (eqb (suc t) d) [] (upTo d l))))
       go (same e q) ih =
@@ -63,19 +64,19 @@ module _ (c d b : ℕ) (g : ℕ → ℕ) where
           (ih o))
 
   pub tells-marked :
-      (l : List ℕ) → Distinct l → Tells (phased ahead c d b g l) (Marked c d b g l (between c d l))
-  unfolding phased enter leave allowed complete between since upTo
+      (l : List ℕ) → Distinct l → Decides (phased Phase.Ahead c d b g l) (FromTo c d b g l (between c d l))
+  unfolding phased phaseAt phaseBehind allowed complete between since upTo
   tells-marked [] D =
       tells-map
       (λ e. record { first = sym e; last = λ n. absurd (n e); outside = λ u k. absurd k })
       (λ M. sym (M .first)) (tells-eqb c 0)
   tells-marked (t ∷ l) D = go (same? (suc t) c) (tells-marked l (D .1))
     where
-      go : Same (suc t) c → Tells (phased ahead c d b g l) (Marked c d b g l (upTo d (since c l)))
-          → Tells
-          (allowed (pick (eqb (suc t) c) inside ahead) b (g t)
-          && phased (leave (pick (eqb (suc t) c) inside ahead) d (suc t)) c d b g l)
-          (Marked c d b g (t ∷ l) (upTo d (pick (eqb (suc t) c) (t ∷ l) (since c l))))
+      go : Same (suc t) c → Decides (phased Phase.Ahead c d b g l) (FromTo c d b g l (upTo d (since c l)))
+          → Decides
+          (allowed (pick (eqb (suc t) c) Phase.Inside Phase.Ahead) b (g t)
+          && phased (phaseBehind (pick (eqb (suc t) c) Phase.Inside Phase.Ahead) d (suc t)) c d b g l)
+          (FromTo c d b g (t ∷ l) (upTo d (pick (eqb (suc t) c) (t ∷ l) (since c l))))
       go (same e q) ih =
           rw q (tells-map (λ p. record { first = e; last = λ _. p .0; outside = p .1 })
           (λ M. (M .last (λ z. omega arith), M .outside))

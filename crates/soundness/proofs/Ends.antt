@@ -15,54 +15,54 @@ use Rattle.layout.specs.declared.Part.{Part}
 use Rattle.layout.specs.Addresses.{ofThread, ofEndpoint, head, linkAt, word}
 use Rattle.layout.specs.Words.{linkOf, firstOf, lastOf, debtCode, statusCode, abortCode, badgeCode, endpointWord}
 use Rattle.layout.specs.Shows.{Chain}
-use Rattle.layout.specs.Decode.{linked, between, abortAt, endpointAt, endpointFrom}
+use Rattle.layout.specs.Decode.{linked, between, abortBy, endpointBy, endpointFrom}
 use Rattle.layout.proofs.Chains.{chain-first, first-zero}
 use Rattle.layout.proofs.Codes.{within-same}
 use Rattle.layout.proofs.Ends.{NeatEndpoint, none-some}
-use Rattle.layout.proofs.Tests.{Tells, tells-true, tells-false, tells-map, tells-and, tells-agree, tells-eqb, tells-leb}
+use Rattle.layout.proofs.Tests.{Decides, tells-true, tells-false, tells-map, tells-and, tells-agree, tells-eqb, tells-leb}
 use Rattle.layout.proofs.Tests.{tells-owns}
-use Rattle.soundness.specs.Checks.{threadIn, endpointIn, ownerTest, abortTest, statusTest}
+use Rattle.soundness.specs.Checks.{threadAt, endpointAt, ownerTest, abortTest, statusTest}
 use Rattle.soundness.proofs.Tests.{tells-ltb, told}
-use Rattle.soundness.proofs.Cursors.{Marked}
+use Rattle.soundness.proofs.Cursors.{FromTo}
 use Rattle.soundness.proofs.Reading.{Reads, end-joined}
 
 -- What the tests say of an endpoint's words.
 
 abbrev Owned : List ℕ → ℕ → ℕ → Type 0
 Owned m e zero = Unit {0}
-Owned m e (suc t) = (t ≤ 255) × (threadIn m Field.Owes t ≡ suc e)
+Owned m e (suc t) = (t ≤ 255) × (threadAt m Field.Owes t ≡ suc e)
 
 abbrev Aborting : List ℕ → ℕ → ℕ → Type 0
 Aborting m e zero =
-    (((endpointIn m Part.Aborted e ≡ 0) × (endpointIn m Part.Owner e ≡ 0)) × (endpointIn m Part.Cursor e ≡ 0))
-    × (endpointIn m Part.End e ≡ 0)
+    (((endpointAt m Part.Aborted e ≡ 0) × (endpointAt m Part.Owner e ≡ 0)) × (endpointAt m Part.Cursor e ≡ 0))
+    × (endpointAt m Part.End e ≡ 0)
 Aborting m e (suc zero) =
-    ((endpointIn m Part.Aborted e < 2 ^ 28) × Owned m e (endpointIn m Part.Owner e))
-    × ((endpointIn m Part.Cursor e ≡ 0) ↔ (endpointIn m Part.End e ≡ 0))
+    ((endpointAt m Part.Aborted e < 2 ^ 28) × Owned m e (endpointAt m Part.Owner e))
+    × ((endpointAt m Part.Cursor e ≡ 0) ↔ (endpointAt m Part.End e ≡ 0))
 Aborting m e (suc (suc n)) = ⊥
 
 abbrev Standing : List ℕ → ℕ → ℕ → Type 0
-Standing m e zero = (word m (linkAt (head (256 + e))) ≡ 0) × (endpointIn m Part.Aborting e ≡ 0)
+Standing m e zero = (word m (linkAt (head (256 + e))) ≡ 0) × (endpointAt m Part.Aborting e ≡ 0)
 Standing m e (suc zero) = Unit {0}
-Standing m e (suc (suc zero)) = endpointIn m Part.Aborting e ≡ 0
+Standing m e (suc (suc zero)) = endpointAt m Part.Aborting e ≡ 0
 Standing m e (suc (suc (suc n))) = ⊥
 
 module _ (m : List ℕ) (e : ℕ) where
-  tells-owner : (w : ℕ) → Tells (ownerTest w m e) (Owned m e w)
+  tells-owner : (w : ℕ) → Decides (ownerTest w m e) (Owned m e w)
   unfolding ownerTest
   tells-owner zero = tells-true tt
   tells-owner (suc t) = tells-and (tells-leb t 255) (tells-eqb _ (suc e))
 
-  tells-aborting : (n : ℕ) → Tells (abortTest n m e) (Aborting m e n)
+  tells-aborting : (n : ℕ) → Decides (abortTest n m e) (Aborting m e n)
   unfolding abortTest
   tells-aborting zero =
       tells-and (tells-and (tells-and (tells-eqb _ 0) (tells-eqb _ 0)) (tells-eqb _ 0)) (tells-eqb _ 0)
   tells-aborting (suc zero) =
-      tells-and (tells-and (tells-ltb _ (2 ^ 28)) (tells-owner (endpointIn m Part.Owner e)))
+      tells-and (tells-and (tells-ltb _ (2 ^ 28)) (tells-owner (endpointAt m Part.Owner e)))
       (tells-agree (tells-eqb _ 0) (tells-eqb _ 0))
   tells-aborting (suc (suc n)) = tells-false (λ z. z)
 
-  tells-status : (n : ℕ) → Tells (statusTest n m e) (Standing m e n)
+  tells-status : (n : ℕ) → Decides (statusTest n m e) (Standing m e n)
   unfolding statusTest
   tells-status zero = tells-and (tells-eqb _ 0) (tells-eqb _ 0)
   tells-status (suc zero) = tells-true tt
@@ -87,7 +87,7 @@ linked-again (suc t) h = rw (le-leb t 255 (omega arith))
 
 -- Where the marks are both none or neither is, the part ends at the end mark.
 marked-end :
-    {c d b : ℕ} {g : ℕ → ℕ} {l part : List ℕ} → Marked c d b g l part → (c ≡ 0) ↔ (d ≡ 0) → lastOf 0 part ≡ d
+    {c d b : ℕ} {g : ℕ → ℕ} {l part : List ℕ} → FromTo c d b g l part → (c ≡ 0) ↔ (d ≡ 0) → lastOf 0 part ≡ d
 marked-end {c} {part = part} M h =
     ⊎-elim (λ z. ap (lastOf 0) (first-zero part (M .first ∙ z)) ∙ sym (h .0 z)) (M .last) (told (tells-eqb c 0))
 
@@ -108,8 +108,8 @@ pub record Same-end (w : Part → ℕ) (l : List ℕ) (x : Endpoint) : Type 0 wh
 
 module _ (m : List ℕ) (e : ℕ) where
   no-abort :
-      endpointIn m Part.Aborting e ≡ 0 → Aborting m e (endpointIn m Part.Aborting e)
-      → Same-abort (λ p. endpointIn m p e) none
+      endpointAt m Part.Aborting e ≡ 0 → Aborting m e (endpointAt m Part.Aborting e)
+      → Same-abort (λ p. endpointAt m p e) none
   no-abort z a =
       let h = subst (Aborting m e) z a in
       record {
@@ -125,29 +125,29 @@ module _ (m : List ℕ) (e : ℕ) where
   owner-small (suc t) o = omega (arith, o .0)
 
   module _ (l : List ℕ) (b : ℕ) (g : ℕ → ℕ)
-      (M : Marked (endpointIn m Part.Cursor e) (endpointIn m Part.End e) b g l
-      (between (endpointIn m Part.Cursor e) (endpointIn m Part.End e) l)) where
+      (M : FromTo (endpointAt m Part.Cursor e) (endpointAt m Part.End e) b g l
+      (between (endpointAt m Part.Cursor e) (endpointAt m Part.End e) l)) where
     some-abort :
-        (n : ℕ) → endpointIn m Part.Aborting e ≡ n → Aborting m e n
-        → Same-abort (λ p. endpointIn m p e) (abortAt n (λ p. endpointIn m p e) l)
-    unfolding abortAt
+        (n : ℕ) → endpointAt m Part.Aborting e ≡ n → Aborting m e n
+        → Same-abort (λ p. endpointAt m p e) (abortBy n (λ p. endpointAt m p e) l)
+    unfolding abortBy
     some-abort zero z a = no-abort z (subst (Aborting m e) (sym z) a)
     some-abort (suc zero) z a =
         record {
           stands = sym z;
-          under = within-same (2 ^ 28 - 1) (endpointIn m Part.Aborted e) (omega (arith, a .0 .0));
-          owned = linked-again (endpointIn m Part.Owner e) (owner-small (endpointIn m Part.Owner e) (a .0 .1));
+          under = within-same (2 ^ 28 - 1) (endpointAt m Part.Aborted e) (omega (arith, a .0 .0));
+          owned = linked-again (endpointAt m Part.Owner e) (owner-small (endpointAt m Part.Owner e) (a .0 .1));
           starts = M .first;
           ends = marked-end M (a .1);
         }
     some-abort (suc (suc n)) z a = absurd a
 
     end-read :
-        (x : Endpoint) → statusCode (x .status) ≡ endpointIn m Part.Status e
-        → Same-abort (λ p. endpointIn m p e) (x .abort) → x .waiters ≡ l → Same-end (λ p. endpointIn m p e) l x
+        (x : Endpoint) → statusCode (x .status) ≡ endpointAt m Part.Status e
+        → Same-abort (λ p. endpointAt m p e) (x .abort) → x .waiters ≡ l → Same-end (λ p. endpointAt m p e) l x
     end-read x st a q = record { words = go; queue = q }
       where
-        go : (p : Part) → endpointWord x p ≡ endpointIn m p e
+        go : (p : Part) → endpointWord x p ≡ endpointAt m p e
         go Part.Status = st
         go Part.Aborting = a .stands
         go Part.Aborted = a .under
@@ -156,27 +156,27 @@ module _ (m : List ℕ) (e : ℕ) where
         go Part.End = a .ends
 
     end-at :
-        (n : ℕ) → endpointIn m Part.Status e ≡ n → Standing m e n → Aborting m e (endpointIn m Part.Aborting e)
-        → Chain m (256 + e) 0 l 0 → Same-end (λ p. endpointIn m p e) l (endpointAt n (λ p. endpointIn m p e) l)
+        (n : ℕ) → endpointAt m Part.Status e ≡ n → Standing m e n → Aborting m e (endpointAt m Part.Aborting e)
+        → Chain m (256 + e) 0 l 0 → Same-end (λ p. endpointAt m p e) l (endpointBy n (λ p. endpointAt m p e) l)
     end-at zero z t a c =
         end-read missingEndpoint (sym z) (no-abort (t .1) a)
         (sym (first-zero l (sym (chain-first m (256 + e) 0 l c) ∙ t .0)))
     end-at (suc zero) z t a c =
-        end-read (endpointAt 1 (λ p. endpointIn m p e) l) (sym z) (some-abort (endpointIn m Part.Aborting e) refl a)
+        end-read (endpointBy 1 (λ p. endpointAt m p e) l) (sym z) (some-abort (endpointAt m Part.Aborting e) refl a)
         refl
     end-at (suc (suc zero)) z t a c =
-        end-read (endpointAt 2 (λ p. endpointIn m p e) l) (sym z) (no-abort t a) refl
+        end-read (endpointBy 2 (λ p. endpointAt m p e) l) (sym z) (no-abort t a) refl
     end-at (suc (suc (suc n))) z t a c = absurd t
 
     -- Where the tests pass, the words are those of the endpoint read off them, and its queue is the one walked.
     pub end-words :
-        statusTest (endpointIn m Part.Status e) m e ≡ true → abortTest (endpointIn m Part.Aborting e) m e ≡ true
+        statusTest (endpointAt m Part.Status e) m e ≡ true → abortTest (endpointAt m Part.Aborting e) m e ≡ true
         → Chain m (256 + e) 0 l 0
-        → Same-end (λ p. endpointIn m p e) l (endpointFrom (λ p. endpointIn m p e) l)
+        → Same-end (λ p. endpointAt m p e) l (endpointFrom (λ p. endpointAt m p e) l)
     unfolding endpointFrom
     end-words st a =
-        end-at (endpointIn m Part.Status e) refl (tells-status m e (endpointIn m Part.Status e) .holds st)
-        (tells-aborting m e (endpointIn m Part.Aborting e) .holds a)
+        end-at (endpointAt m Part.Status e) refl (tells-status m e (endpointAt m Part.Status e) .holds st)
+        (tells-aborting m e (endpointAt m Part.Aborting e) .holds a)
 
 -- What is left of the tests
 
@@ -188,13 +188,13 @@ module _ (m : List ℕ) (s : State) (R : Reads m s) (e : ℕ) (h : e ≤ 63) whe
   X : NeatEndpoint (s .endpoints e)
   X = R .neat .endpoints e
 
-  here : (p : Part) → endpointIn m p e ≡ endpointWord (s .endpoints e) p
+  here : (p : Part) → endpointAt m p e ≡ endpointWord (s .endpoints e) p
   here p = R .slots (ofEndpoint p e) h
 
-  has-status : Standing m e (endpointIn m Part.Status e)
+  has-status : Standing m e (endpointAt m Part.Status e)
   has-status = rw (here Part.Status) (go (s .endpoints e .status) refl)
     where
-      no-abort-there : (s .endpoints e .status ≡ live → ⊥) → endpointIn m Part.Aborting e ≡ 0
+      no-abort-there : (s .endpoints e .status ≡ live → ⊥) → endpointAt m Part.Aborting e ≡ 0
       no-abort-there n = here Part.Aborting ∙ ap abortCode (X .no-abort n)
 
       go : (z : Status) → s .endpoints e .status ≡ z → Standing m e (statusCode z)
@@ -241,11 +241,11 @@ module _ (m : List ℕ) (s : State) (R : Reads m s) (e : ℕ) (h : e ≤ 63) whe
     rw (here Part.Cursor, here Part.End) (both-none (pendingOf (s .endpoints e .abort))),
   )
 
-  pub tells-paired : Tells (abortTest (endpointIn m Part.Aborting e) m e) (Paired s e)
+  pub tells-paired : Decides (abortTest (endpointAt m Part.Aborting e) m e) (Paired s e)
   tells-paired =
       rw (here Part.Aborting) (tells-map (from-aborting (s .endpoints e .abort) refl)
       (λ P. to-aborting P (s .endpoints e .abort) refl)
       (tells-aborting m e (abortCode (s .endpoints e .abort))))
 
-  pub status-passes : statusTest (endpointIn m Part.Status e) m e ≡ true
-  status-passes = tells-status m e (endpointIn m Part.Status e) .back has-status
+  pub status-passes : statusTest (endpointAt m Part.Status e) m e ≡ true
+  status-passes = tells-status m e (endpointAt m Part.Status e) .back has-status

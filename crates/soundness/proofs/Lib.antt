@@ -1,6 +1,6 @@
 pub mod Every
 pub mod Tests
-pub mod Walks
+pub mod Following
 pub mod Cursors
 pub mod Reading
 pub mod Blocks

@@ -15,11 +15,11 @@ use Rattle.summary.specs.Levels.{wordOf, topOf}
 use Rattle.layout.specs.declared.Field.{Field}
 use Rattle.layout.specs.Addresses.{ofThread, ofLine, summary, top, running, unused, at, word}
 use Rattle.layout.specs.Words.{linkOf, firstOf, lineCode}
-use Rattle.layout.specs.Decode.{lineOf}
+use Rattle.layout.specs.Decode.{lineBy}
 use Rattle.layout.proofs.Codes.{line-small}
-use Rattle.layout.proofs.Tests.{Tells, tells-true, tells-false, tells-map, tells-and, tells-or, tells-eqb, tells-leb}
+use Rattle.layout.proofs.Tests.{Decides, tells-true, tells-false, tells-map, tells-and, tells-or, tells-eqb, tells-leb}
 use Rattle.layout.proofs.Tests.{tells-below}
-use Rattle.soundness.specs.Checks.{threadIn, lineFrom, lineTest, occupiedAt, summaryTest, runningFrom, runningTest}
+use Rattle.soundness.specs.Checks.{threadAt, lineFrom, lineTest, occupiedAt, summaryTest, runningFrom, runningTest}
 use Rattle.soundness.specs.Checks.{unusedTest}
 use Rattle.soundness.proofs.Tests.{tells-itself}
 use Rattle.soundness.proofs.Reading.{Reads, level-joined, same-occupied, same-word, same-top, tells-seat}
@@ -29,16 +29,16 @@ use Rattle.soundness.proofs.Reading.{Reads, level-joined, same-occupied
 abbrev Awaited : List ℕ → ℕ → ℕ → Type 0
 Awaited m l zero = Unit {0}
 Awaited m l (suc zero) = Unit {0}
-Awaited m l (suc (suc t)) = (t ≤ 255) × (threadIn m Field.Place t ≡ 130 + l)
+Awaited m l (suc (suc t)) = (t ≤ 255) × (threadAt m Field.Place t ≡ 130 + l)
 
-tells-from : (m : List ℕ) (l w : ℕ) → Tells (lineFrom w m l) (Awaited m l w)
+tells-from : (m : List ℕ) (l w : ℕ) → Decides (lineFrom w m l) (Awaited m l w)
 unfolding lineFrom
 tells-from m l zero = tells-true tt
 tells-from m l (suc zero) = tells-true tt
 tells-from m l (suc (suc t)) = tells-and (tells-leb t 255) (tells-eqb _ (130 + l))
 
-line-again : (m : List ℕ) (l w : ℕ) → Awaited m l w → lineCode (lineOf w) ≡ w
-unfolding lineOf
+line-again : (m : List ℕ) (l w : ℕ) → Awaited m l w → lineCode (lineBy w) ≡ w
+unfolding lineBy
 line-again m l zero h = refl
 line-again m l (suc zero) h = refl
 line-again m l (suc (suc t)) h = rw (le-leb t 255 (h .0))
@@ -46,7 +46,7 @@ line-again m l (suc (suc t)) h = rw (le-leb t 255 (h .0))
 -- Where the test passes, the word is that of the line read off it.
 pub line-word :
     (m : List ℕ) (l : ℕ) → lineTest m l ≡ true
-    → lineCode (lineOf (word m (at (ofLine l)))) ≡ word m (at (ofLine l))
+    → lineCode (lineBy (word m (at (ofLine l)))) ≡ word m (at (ofLine l))
 unfolding lineTest
 line-word m l h = line-again m l (word m (at (ofLine l))) (tells-from m l (word m (at (ofLine l))) .holds h)
 
@@ -54,20 +54,20 @@ line-word m l h = line-again m l (word m (at (ofLine l))) (tells-from m l (word 
 abbrev pub Fires : State → ℕ → Type 0
 Fires s l = (t : ℕ) → s .lines l ≡ awaited t → s .threads t .place ≡ waiting l
 
-pub tells-line : (m : List ℕ) (s : State) (R : Reads m s) (l : ℕ) → l ≤ 31 → Tells (lineTest m l) (Fires s l)
+pub tells-line : (m : List ℕ) (s : State) (R : Reads m s) (l : ℕ) → l ≤ 31 → Decides (lineTest m l) (Fires s l)
 unfolding lineTest
 tells-line m s R l h = rw (R .slots (ofLine l) h) (go (s .lines l) refl)
   where
     none-there : {x : Line} → s .lines l ≡ x → lineCode x ≤ 1 → Fires s l
     none-there {x} i k t e = absurd (omega (arith, ap lineCode (sym i ∙ e)))
 
-    go : (x : Line) → s .lines l ≡ x → Tells (lineFrom (lineCode x) m l) (Fires s l)
+    go : (x : Line) → s .lines l ≡ x → Decides (lineFrom (lineCode x) m l) (Fires s l)
     go quiet i = tells-map (λ _. none-there i (omega arith)) (λ _. tt) (tells-from m l 0)
     go pending i = tells-map (λ _. none-there i (omega arith)) (λ _. tt) (tells-from m l 1)
     go (awaited u) i =
         let small = R .neat .line-small l u i in
         let seat = tells-seat m s R u (waiting l) small h in
-        let code = tells-eqb (threadIn m Field.Place u) (130 + l) in
+        let code = tells-eqb (threadAt m Field.Place u) (130 + l) in
         tells-map
         (λ k t e.
         let v : t ≡ u = (let z : awaited t ≡ awaited u = sym e ∙ i in cc) in
@@ -78,12 +78,12 @@ tells-line m s R l h = rw (R .slots (ofLine l) h) (go (s .lines l) refl)
 
 pub tells-summary :
     (m : List ℕ)
-    → Tells (summaryTest m)
+    → Decides (summaryTest m)
     (((w : ℕ) → w < 8 → word m (at (summary w)) ≡ wordOf (occupiedAt m) w) × (word m (at top) ≡ topOf (occupiedAt m)))
 unfolding summaryTest
 tells-summary m = tells-and (tells-below 8 _ _ (λ w h. tells-eqb _ _)) (tells-eqb _ _)
 
-pub tells-unused : (m : List ℕ) (i : ℕ) → Tells (unusedTest m i) (word m (at (unused i)) ≡ 0)
+pub tells-unused : (m : List ℕ) (i : ℕ) → Decides (unusedTest m i) (word m (at (unused i)) ≡ 0)
 unfolding unusedTest
 tells-unused m i = tells-eqb _ 0
 
@@ -96,33 +96,33 @@ runs-in-range m h = go (word m (at running)) h
     go : (w : ℕ) → runningFrom w m ≡ true → w ≤ 256
     go zero i = omega arith
     go (suc t) i =
-        let r : Tells (runningFrom (suc t) m) (((t ≤ 255) × (threadIn m Field.Place t ≡ 1)) × _)
+        let r : Decides (runningFrom (suc t) m) (((t ≤ 255) × (threadAt m Field.Place t ≡ 1)) × _)
         = tells-and (tells-and (tells-leb t 255) (tells-eqb _ 1)) tells-itself in
         omega (arith, r .holds i .0 .0)
 
 -- Nobody ready is above the running thread; none is ready if none runs: by levels.
-abbrev pub Highest : State → Option ℕ → Type 0
-Highest s none = (p : ℕ) → p < 256 → s .levels p ≡ []
-Highest s (some t) =
+abbrev pub NoneAbove : State → Option ℕ → Type 0
+NoneAbove s none = (p : ℕ) → p < 256 → s .levels p ≡ []
+NoneAbove s (some t) =
     (s .threads t .place ≡ able) × ((p : ℕ) → p < 256 → (p ≤ s .threads t .priority) ⊎ (s .levels p ≡ []))
 
 module _ (m : List ℕ) (s : State) (R : Reads m s) where
-  tells-empty : (p : ℕ) → p < 256 → Tells (not (occupiedAt m p)) (s .levels p ≡ [])
+  tells-empty : (p : ℕ) → p < 256 → Decides (not (occupiedAt m p)) (s .levels p ≡ [])
   tells-empty p h = rw (same-occupied m s (level-joined m s R) p (omega arith)) (go (s .levels p))
     where
-      go : (l : List ℕ) → Tells (not (occupied l)) (l ≡ [])
+      go : (l : List ℕ) → Decides (not (occupied l)) (l ≡ [])
       go [] = tells-true refl
       go (t ∷ l) = tells-false (λ e. omega (arith, ap firstOf e))
 
-  pub tells-running : Tells (runningTest m) (Highest s (s .runs))
+  pub tells-running : Decides (runningTest m) (NoneAbove s (s .runs))
   unfolding runningTest runningFrom
   tells-running = rw (R .slots running tt) (go (s .runs) refl)
     where
-      go : (o : Option ℕ) → s .runs ≡ o → Tells (runningFrom (linkOf o) m) (Highest s o)
+      go : (o : Option ℕ) → s .runs ≡ o → Decides (runningFrom (linkOf o) m) (NoneAbove s o)
       go none i = tells-below 256 _ _ tells-empty
       go (some t) i =
           let small = R .neat .runs-small t i in
-          let low : (p : ℕ) → Tells (leb p (threadIn m Field.Priority t)) (p ≤ s .threads t .priority)
+          let low : (p : ℕ) → Decides (leb p (threadAt m Field.Priority t)) (p ≤ s .threads t .priority)
           = λ p. rw (R .slots (ofThread Field.Priority t) small) (tells-leb p (s .threads t .priority)) in
           tells-map (λ r. (r .0 .1, r .1)) (λ r. ((small, r .0), r .1))
           (tells-and (tells-and (tells-leb t 255) (tells-seat m s R t able small tt))

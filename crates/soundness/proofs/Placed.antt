@@ -15,11 +15,11 @@ use Rattle.layout.specs.Tests.{member}
 use Rattle.layout.proofs.Codes.{PlaceSmall}
 use Rattle.layout.proofs.Standing.{each-queue}
 use Rattle.layout.proofs.Neat.{seat-small}
-use Rattle.layout.proofs.Tests.{Tells, tells-false, tells-map, tells-and, tells-or, tells-not, tells-agree, tells-eqb}
+use Rattle.layout.proofs.Tests.{Decides, tells-false, tells-map, tells-and, tells-or, tells-not, tells-agree, tells-eqb}
 use Rattle.layout.proofs.Tests.{tells-leb, tells-member}
 use Rattle.soundness.specs.Checks.{met, metBelow, queuedTest, placedTest}
 use Rattle.soundness.proofs.Tests.{tells-ltb}
-use Rattle.soundness.proofs.Walks.{met-along}
+use Rattle.soundness.proofs.Following.{met-along}
 use Rattle.soundness.proofs.Reading.{Reads, tells-seat, tells-runs}
 
 -- The thread stands in a queue; its place says that it does.
@@ -46,11 +46,11 @@ module _ (m : List ℕ) (s : State) (R : Reads m s) (t : ℕ) (h : t ≤ 255) wh
       (omega arith))
 
   tells-below :
-      (n : ℕ) → n ≤ 320 → Tells (metBelow n m t) ((q : ℕ) × (q < n) × Mem t (queuesOf s q))
+      (n : ℕ) → n ≤ 320 → Decides (metBelow n m t) ((q : ℕ) × (q < n) × Mem t (queuesOf s q))
   unfolding metBelow
   tells-below zero k = tells-false (λ r. omega (arith, r .1))
   tells-below (suc n) k =
-      let here : Tells (member t (met m n)) (Mem t (queuesOf s n))
+      let here : Decides (member t (met m n)) (Mem t (queuesOf s n))
       = rw (met-there n (omega arith)) (tells-member t (queuesOf s n)) in
       tells-map (⊎-elim (λ i. (n, omega arith, i)) (λ r. (r .0, omega (arith, r .1), r .2))) last
       (tells-or here (tells-below n (omega arith)))
@@ -63,7 +63,7 @@ module _ (m : List ℕ) (s : State) (R : Reads m s) (t : ℕ) (h : t ≤ 255) wh
           go (same e _) = inl (subst (λ (q : ℕ). Mem t (queuesOf s q)) e (r .2))
           go (other o _) = inr (r .0, omega (arith, r .1, o), r .2)
 
-  pub tells-belongs : Tells (queuedTest m t) (Belongs s t)
+  pub tells-belongs : Decides (queuedTest m t) (Belongs s t)
   unfolding queuedTest
   tells-belongs =
       tells-map (⊎-elim inl (λ r. inr (from r))) (⊎-elim inl (λ r. inr (to r)))
@@ -81,7 +81,7 @@ module _ (m : List ℕ) (s : State) (R : Reads m s) (t : ℕ) (h : t ≤ 255) wh
           (λ i. (omega (arith, ap placeCode i), omega (arith, ap placeCode i, seat-small s (R .neat) t i))) (r .1)
 
   pub tells-placed :
-      Tells (placedTest m t)
+      Decides (placedTest m t)
       ((InQueue s t ↔ Belongs s t)
       × (InQueue s t ⊎ ((word m (linkAt (next t)) ≡ 0) × (word m (linkAt (prev t)) ≡ 0))))
   unfolding placedTest

@@ -19,14 +19,14 @@ use Rattle.layout.specs.Shows.{Chain}
 use Rattle.layout.proofs.Chains.{chain-first}
 use Rattle.layout.proofs.Codes.{PlaceSmall}
 use Rattle.layout.proofs.Standing.{queues-level, queues-endpoint}
-use Rattle.layout.proofs.Neat.{Neat}
-use Rattle.layout.proofs.Tests.{Tells, tells-and, tells-not, tells-eqb, tells-place, tells-some}
-use Rattle.soundness.specs.Checks.{threadIn, readyTest, levelTest, occupiedAt}
+use Rattle.layout.proofs.Neat.{NeatState}
+use Rattle.layout.proofs.Tests.{Decides, tells-and, tells-not, tells-eqb, tells-place, tells-some}
+use Rattle.soundness.specs.Checks.{threadAt, readyTest, levelTest, occupiedAt}
 use Rattle.soundness.proofs.Tests.{every, tells-every}
-use Rattle.soundness.proofs.Walks.{level-split, walk-along}
+use Rattle.soundness.proofs.Following.{level-split, walk-along}
 
 pub record Reads (m : List ℕ) (s : State) : Type 0 where
-  pub neat : Neat s
+  pub neat : NeatState s
   pub slots : (a : Slot) → ValidSlot a → word m (at a) ≡ content s a
   pub chains : (q : ℕ) → q ≤ 319 → Chain m q 0 (queuesOf s q) 0
 
@@ -64,16 +64,16 @@ module _ (m : List ℕ) (s : State) (R : Reads m s) where
 
   pub tells-seat :
       (t : ℕ) (q : Place) → t ≤ 255 → PlaceSmall q
-      → Tells (eqb (threadIn m Field.Place t) (placeCode q)) (s .threads t .place ≡ q)
+      → Decides (eqb (threadAt m Field.Place t) (placeCode q)) (s .threads t .place ≡ q)
   tells-seat t q h g =
       rw (R .slots (ofThread Field.Place t) h) (tells-place (s .threads t .place) q (R .neat .threads t .place-small) g)
 
-  pub tells-runs : (t : ℕ) → Tells (eqb (word m (at running)) (suc t)) (s .runs ≡ some t)
+  pub tells-runs : (t : ℕ) → Decides (eqb (word m (at running)) (suc t)) (s .runs ≡ some t)
   tells-runs t = rw (R .slots running tt) (tells-some (s .runs) t)
 
   pub tells-ready :
       (p t : ℕ) → t ≤ 255
-      → Tells (readyTest m p t)
+      → Decides (readyTest m p t)
       (((s .threads t .place ≡ able) × (s .threads t .priority ≡ p)) × (s .runs ≡ some t → ⊥))
   unfolding readyTest
   tells-ready p t h =
@@ -84,7 +84,7 @@ module _ (m : List ℕ) (s : State) (R : Reads m s) where
 
   pub tells-level :
       (p : ℕ) → p ≤ 255
-      → Tells (levelTest m p)
+      → Decides (levelTest m p)
       ((t : ℕ) → Mem t (s .levels p)
       → ((s .threads t .place ≡ able) × (s .threads t .priority ≡ p)) × (s .runs ≡ some t → ⊥))
   unfolding levelTest

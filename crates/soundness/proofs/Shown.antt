@@ -11,12 +11,12 @@ use Rattle.layout.specs.Addresses.{Slot, ofThread, ofEndpoint, ofLine, summary,
 use Rattle.layout.specs.Addresses.{word, afterAt}
 use Rattle.layout.specs.Words.{threadWord, lineCode, content, queuesOf}
 use Rattle.layout.specs.Shows.{Chain}
-use Rattle.layout.specs.Decode.{threadFrom, endpointFrom, lineOf, queueFrom, decode}
+use Rattle.layout.specs.Decode.{threadFrom, endpointFrom, lineBy, queueFrom, decode}
 use Rattle.layout.proofs.Standing.{Queue, level, endpoint, queue?, queues-level, queues-endpoint}
 use Rattle.layout.proofs.Decode.{decode-neat}
-use Rattle.soundness.specs.Checks.{endpointIn, threadIn, readyTest, levelTest}
+use Rattle.soundness.specs.Checks.{endpointAt, threadAt, readyTest, levelTest}
 use Rattle.soundness.proofs.Tests.{every}
-use Rattle.soundness.proofs.Walks.{level-split, walk-found}
+use Rattle.soundness.proofs.Following.{level-split, walk-found}
 use Rattle.soundness.proofs.Reading.{Reads, same-word, same-top}
 use Rattle.soundness.proofs.Blocks.{block-words}
 use Rattle.soundness.proofs.Ends.{Same-end, end-words, linked-again}
@@ -27,7 +27,7 @@ use Rattle.soundness.proofs.Tried.{Tried}
 -- The entries of the decoded state.
 
 module _ (m : List ℕ) where
-  thread-at : (t : ℕ) → t ≤ 255 → decode m .threads t ≡ threadFrom (λ f. threadIn m f t)
+  thread-at : (t : ℕ) → t ≤ 255 → decode m .threads t ≡ threadFrom (λ f. threadAt m f t)
   unfolding decode
   thread-at t h = rw (le-leb t 255 h)
 
@@ -36,11 +36,11 @@ module _ (m : List ℕ) where
   level-at p h = rw (le-leb p 255 h)
 
   end-at : (e : ℕ) → e ≤ 63
-      → decode m .endpoints e ≡ endpointFrom (λ p. endpointIn m p e) (queueFrom m (256 + e))
+      → decode m .endpoints e ≡ endpointFrom (λ p. endpointAt m p e) (queueFrom m (256 + e))
   unfolding decode
   end-at e h = rw (le-leb e 63 h)
 
-  line-at : (l : ℕ) → l ≤ 31 → decode m .lines l ≡ lineOf (word m (at (ofLine l)))
+  line-at : (l : ℕ) → l ≤ 31 → decode m .lines l ≡ lineBy (word m (at (ofLine l)))
   unfolding decode
   line-at l h = rw (le-leb l 31 h)
 
@@ -54,7 +54,7 @@ module _ (m : List ℕ) (T : Tried m) where
           (sym (level-split m p 257 (word m (afterAt p 0)) 0) ∙ (unfold levelTest in i)) .0
 
   end-same : (e : ℕ) → e ≤ 63
-      → Same-end (λ p. endpointIn m p e) (queueFrom m (256 + e)) (decode m .endpoints e)
+      → Same-end (λ p. endpointAt m p e) (queueFrom m (256 + e)) (decode m .endpoints e)
   end-same e h =
       let r = T .ends e (omega arith) in
       let f = end-found m e (r .1) in

@@ -17,16 +17,16 @@ use Rattle.layout.proofs.Blocks.{beyond-absent}
 use Rattle.layout.proofs.Ends.{none-some}
 use Rattle.layout.proofs.Standing.{Queue, level, endpoint, queue?, queues-level, queues-endpoint, each-queue}
 use Rattle.layout.proofs.Standing.{queue-small, queue-distinct, queue-apart}
-use Rattle.layout.proofs.Neat.{Neat, nobody}
+use Rattle.layout.proofs.Neat.{NeatState, nobody}
 use Rattle.layout.proofs.Neat.{seated, seat-small}
 use Rattle.soundness.proofs.Tests.{told}
-use Rattle.soundness.proofs.Walks.{chain-distinct}
+use Rattle.soundness.proofs.Following.{chain-distinct}
 use Rattle.soundness.proofs.Cursors.{part-in}
 use Rattle.soundness.proofs.Reading.{Reads, level-joined, end-joined}
 use Rattle.soundness.proofs.Waiters.{Alike}
-use Rattle.soundness.proofs.Lines.{Highest}
+use Rattle.soundness.proofs.Lines.{NoneAbove}
 use Rattle.soundness.proofs.Placed.{InQueue, Belongs, tells-belongs}
-use Rattle.soundness.proofs.Tried.{Left}
+use Rattle.soundness.proofs.Tried.{Untried}
 
 -- A thread is in one place.
 one-place : {x p q : Place} → x ≡ p → x ≡ q → (placeCode p ≡ placeCode q → ⊥) → ⊥
@@ -50,8 +50,8 @@ queued-in m s R t e (inr i) =
 
 -- From what is left of the tests to Sound
 
-module _ (m : List ℕ) (s : State) (R : Reads m s) (L : Left m s) where
-  N : Neat s
+module _ (m : List ℕ) (s : State) (R : Reads m s) (L : Untried m s) where
+  N : NeatState s
   N = R .neat
 
   -- A level or an endpoint in which somebody stands is in range, and so is one with an abort or a line with a waiter.
@@ -128,7 +128,7 @@ module _ (m : List ℕ) (s : State) (R : Reads m s) (L : Left m s) where
   queues : Queues s
   queues =
       record {
-        running = λ t i. subst (Highest s) i (L .running) .0;
+        running = λ t i. subst (NoneAbove s) i (L .running) .0;
         ready = λ t p. (
           ready-there t p,
           λ r. subst (λ (n : ℕ). Mem t (s .levels n)) (r .1) (in-level t (r .0)),
@@ -153,11 +153,11 @@ module _ (m : List ℕ) (s : State) (R : Reads m s) (L : Left m s) where
             let k = in-level u r in
             let p = s .threads u .priority in
             ⊎-elim (λ h. h) (λ z. absurd (subst (Mem u) z k))
-            (subst (Highest s) i (L .running) .1 p (level-in u p k));
+            (subst (NoneAbove s) i (L .running) .1 p (level-in u p k));
         none-ready = λ i u r.
             let k = in-level u r in
             let p = s .threads u .priority in
-            subst (Mem u) (subst (Highest s) i (L .running) p (level-in u p k)) k;
+            subst (Mem u) (subst (NoneAbove s) i (L .running) p (level-in u p k)) k;
       }
 
   sends : (e t : ℕ) → Mem t (pendingOf (s .endpoints e .abort)) → s .threads t .place ≡ sending e
@@ -238,7 +238,7 @@ module _ (m : List ℕ) (s : State) (R : Reads m s) (S : Sound s) (K : Linked m 
                 S .queues .one-kind e u t (pending-sends e u (s .endpoints e .abort) refl k) p),
           )
 
-  highest : (o : Option ℕ) → s .runs ≡ o → Highest s o
+  highest : (o : Option ℕ) → s .runs ≡ o → NoneAbove s o
   highest none i = λ p h. nobody (s .levels p) (λ t k. S .chosen .none-ready i t (S .queues .ready t p .0 k .0))
   highest (some t) i = (S .queues .running t i, λ p h. go p (s .levels p) refl)
     where
@@ -269,7 +269,7 @@ module _ (m : List ℕ) (s : State) (R : Reads m s) (S : Sound s) (K : Linked m 
         rw (queues-endpoint s e) (S .queues .queued t e .1 r),
       )
 
-  pub sound-left : Left m s
+  pub sound-left : Untried m s
   sound-left =
       record {
         threads = λ t h. (λ l. S .queues .on-line t l .1, λ e. S .owners .each-other e t .1);

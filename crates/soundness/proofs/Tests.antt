@@ -8,22 +8,22 @@ use lib.Dec.{ltb}
 use borrow.Author.Tests.{ltb-true, lt-ltb}
 use Rattle.machine.specs.Lists.{pick, Mem}
 use Rattle.machine.proofs.Lists.{clash}
-use Rattle.layout.proofs.Tests.{Tells, tells-true, tells-map, tells-and}
+use Rattle.layout.proofs.Tests.{Decides, tells-true, tells-map, tells-and}
 
-pub tells-ltb : (m n : ℕ) → Tells (ltb m n) (m < n)
+pub tells-ltb : (m n : ℕ) → Decides (ltb m n) (m < n)
 tells-ltb m n = record { holds = ltb-true m n; back = lt-ltb m n }
 
 -- A test tells that it is true.
-pub tells-itself : {b : Bool} → Tells b (b ≡ true)
+pub tells-itself : {b : Bool} → Decides b (b ≡ true)
 tells-itself = record { holds = λ e. e; back = λ e. e }
 
 -- The test of one fact, then of another where that holds and of a third where it does not.
 pub tells-pick :
-    {c a b : Bool} {C A B : Type 0} → Tells c C → Tells a A → Tells b B
-    → Tells (pick c a b) ((C → A) × ((C → ⊥) → B))
+    {c a b : Bool} {C A B : Type 0} → Decides c C → Decides a A → Decides b B
+    → Decides (pick c a b) ((C → A) × ((C → ⊥) → B))
 tells-pick {c} {a} {b} {C} {A} {B} t f g = go c refl
   where
-    go : (d : Bool) → c ≡ d → Tells (pick c a b) ((C → A) × ((C → ⊥) → B))
+    go : (d : Bool) → c ≡ d → Decides (pick c a b) ((C → A) × ((C → ⊥) → B))
     go true e =
         rw e (tells-map (λ p. (λ _. p, λ n. absurd (n (t .holds e)))) (λ p. p .0 (t .holds e)) f)
     go false e =
@@ -35,15 +35,15 @@ every f [] = true
 every f (t ∷ l) = f t && every f l
 
 pub tells-every :
-    (f : ℕ → Bool) (P : ℕ → Type 0) (l : List ℕ) → ((t : ℕ) → Mem t l → Tells (f t) (P t))
-    → Tells (every f l) ((t : ℕ) → Mem t l → P t)
+    (f : ℕ → Bool) (P : ℕ → Type 0) (l : List ℕ) → ((t : ℕ) → Mem t l → Decides (f t) (P t))
+    → Decides (every f l) ((t : ℕ) → Mem t l → P t)
 tells-every f P [] h = tells-true (λ t k. absurd k)
 tells-every f P (u ∷ l) h =
     tells-map (λ p t. ⊎-elim (λ e. subst P (sym e) (p .0)) (p .1 t)) (λ p. (p u (inl refl), λ t k. p t (inr k)))
     (tells-and (h u (inl refl)) (tells-every f P l (λ t k. h t (inr k))))
 
 -- A fact that is told holds, or it does not.
-pub told : {b : Bool} {P : Type 0} → Tells b P → P ⊎ (P → ⊥)
+pub told : {b : Bool} {P : Type 0} → Decides b P → P ⊎ (P → ⊥)
 told {b} {P} t = go b refl
   where
     go : (c : Bool) → b ≡ c → P ⊎ (P → ⊥)

@@ -10,16 +10,16 @@ use Rattle.machine.specs.Lists.{Mem}
 use Rattle.machine.specs.State.{State, able}
 use Rattle.layout.specs.declared.Part.{Part}
 use Rattle.layout.specs.Addresses.{next, prev, linkAt, word}
-use Rattle.layout.proofs.Tests.{Tells, tells-map, tells-and, tells-below}
-use Rattle.soundness.specs.Checks.{endpointIn, blockTest, levelTest, statusTest, abortTest, waitersTest}
+use Rattle.layout.proofs.Tests.{Decides, tells-map, tells-and, tells-below}
+use Rattle.soundness.specs.Checks.{endpointAt, blockTest, levelTest, statusTest, abortTest, waitersTest}
 use Rattle.soundness.specs.Checks.{endpointTest, lineTest, summaryTest, runningTest, unusedTest, placedTest}
 use Rattle.soundness.specs.Checks.{goodTest}
 use Rattle.soundness.proofs.Tests.{tells-itself}
 use Rattle.soundness.proofs.Reading.{Reads, tells-level}
-use Rattle.soundness.proofs.Blocks.{Waits, Owes, tells-block}
+use Rattle.soundness.proofs.Blocks.{NamesWaiter, NamesOwner, tells-block}
 use Rattle.soundness.proofs.Ends.{Paired, tells-paired, status-passes}
 use Rattle.soundness.proofs.Waiters.{Alike, NoneOutside, tells-waiters}
-use Rattle.soundness.proofs.Lines.{Fires, tells-line, Highest, tells-running, summary-passes, unused-passes}
+use Rattle.soundness.proofs.Lines.{Fires, tells-line, NoneAbove, tells-running, summary-passes, unused-passes}
 use Rattle.soundness.proofs.Placed.{InQueue, Belongs, tells-placed}
 
 -- Each test passes.
@@ -28,7 +28,7 @@ pub record Tried (m : List ℕ) : Type 0 where
   pub levels : (p : ℕ) → p < 256 → levelTest m p ≡ true
   pub ends :
       (e : ℕ) → e < 64
-      → ((statusTest (endpointIn m Part.Status e) m e ≡ true) × (abortTest (endpointIn m Part.Aborting e) m e ≡ true))
+      → ((statusTest (endpointAt m Part.Status e) m e ≡ true) × (abortTest (endpointAt m Part.Aborting e) m e ≡ true))
       × (waitersTest m e ≡ true)
   pub lines : (l : ℕ) → l < 32 → lineTest m l ≡ true
   pub summary : summaryTest m ≡ true
@@ -36,7 +36,7 @@ pub record Tried (m : List ℕ) : Type 0 where
   pub unused : (i : ℕ) → i < 470 → unusedTest m i ≡ true
   pub placed : (t : ℕ) → t < 256 → placedTest m t ≡ true
 
-pub tells-tried : (m : List ℕ) → Tells (goodTest m) (Tried m)
+pub tells-tried : (m : List ℕ) → Decides (goodTest m) (Tried m)
 unfolding goodTest endpointTest
 tells-tried m =
     tells-map
@@ -60,22 +60,22 @@ tells-tried m =
     (tells-below 470 _ _ (λ i h. tells-itself))) (tells-below 256 _ _ (λ t h. tells-itself)))
 
 -- What is left of the tests.
-pub record Left (m : List ℕ) (s : State) : Type 0 where
-  pub threads : (t : ℕ) → t < 256 → Waits s t × Owes s t
+pub record Untried (m : List ℕ) (s : State) : Type 0 where
+  pub threads : (t : ℕ) → t < 256 → NamesWaiter s t × NamesOwner s t
   pub levels :
       (p : ℕ) → p < 256 → (t : ℕ) → Mem t (s .levels p)
       → ((s .threads t .place ≡ able) × (s .threads t .priority ≡ p)) × (s .runs ≡ some t → ⊥)
   pub paired : (e : ℕ) → e < 64 → Paired s e
   pub waiters : (e : ℕ) → e < 64 → Alike s e × NoneOutside s e
   pub lines : (l : ℕ) → l < 32 → Fires s l
-  pub running : Highest s (s .runs)
+  pub running : NoneAbove s (s .runs)
   pub placed :
       (t : ℕ) → t < 256
       → (InQueue s t ↔ Belongs s t)
       × (InQueue s t ⊎ ((word m (linkAt (next t)) ≡ 0) × (word m (linkAt (prev t)) ≡ 0)))
 
 module _ (m : List ℕ) (s : State) (R : Reads m s) where
-  pub left-of : Tried m → Left m s
+  pub left-of : Tried m → Untried m s
   left-of T =
       record {
         threads = λ t h. tells-block m s R t (omega arith) .holds (T .blocks t h);
@@ -87,7 +87,7 @@ module _ (m : List ℕ) (s : State) (R : Reads m s) where
         placed = λ t h. tells-placed m s R t (omega arith) .holds (T .placed t h);
       }
 
-  pub tried-of : Left m s → Tried m
+  pub tried-of : Untried m s → Tried m
   tried-of L =
       record {
         blocks = λ t h. tells-block m s R t (omega arith) .back (L .threads t h);

@@ -19,12 +19,13 @@ use Rattle.layout.specs.Words.{firstOf, lastOf, placeCode, abortCode, badgeCode
 use Rattle.layout.specs.Shows.{Chain}
 use Rattle.layout.specs.Decode.{between, queueFrom}
 use Rattle.layout.proofs.Chains.{chain-first, first-zero}
-use Rattle.layout.proofs.Walks.{between-back}
-use Rattle.layout.proofs.Tests.{Tells, tells-map, tells-and, tells-or, tells-eqb}
-use Rattle.soundness.specs.Checks.{threadIn, endpointIn, ahead, waitersFrom, kindOf, bannedOf, waitersTest}
+use Rattle.layout.proofs.Following.{between-back}
+use Rattle.layout.proofs.Tests.{Decides, tells-map, tells-and, tells-or, tells-eqb}
+use Rattle.soundness.specs.declared.Phase.{Phase}
+use Rattle.soundness.specs.Checks.{threadAt, endpointAt, waitersFrom, kindOf, bannedOf, waitersTest}
 use Rattle.soundness.proofs.Tests.{tells-itself, every, tells-every, told}
-use Rattle.soundness.proofs.Walks.{phased, waiters-split, walk-found, walk-along, chain-distinct}
-use Rattle.soundness.proofs.Cursors.{Marked, tells-marked}
+use Rattle.soundness.proofs.Following.{phased, waiters-split, walk-found, walk-along, chain-distinct}
+use Rattle.soundness.proofs.Cursors.{FromTo, tells-marked}
 use Rattle.soundness.proofs.Reading.{Reads, end-joined, tells-seat}
 
 -- The place that all in the queue must have, and the badge that may not stand outside the marks.
@@ -38,33 +39,33 @@ bannedIn m e = bannedOf m e (kindIn m e)
 -- What the walk tests of the threads met.
 abbrev threadsTest : List ℕ → ℕ → List ℕ → Bool
 threadsTest m e l =
-    every (λ t. eqb (threadIn m Field.Place t) (kindIn m e)) l
-    && phased ahead (endpointIn m Part.Cursor e) (endpointIn m Part.End e) (bannedIn m e) (threadIn m Field.Badge) l
+    every (λ t. eqb (threadAt m Field.Place t) (kindIn m e)) l
+    && phased Phase.Ahead (endpointAt m Part.Cursor e) (endpointAt m Part.End e) (bannedIn m e) (threadAt m Field.Badge) l
 
 -- The kind, the threads that are all of it, and the marks.
 abbrev Kind : List ℕ → ℕ → Type 0
-Kind m e = (kindIn m e ≡ 2 + e) ⊎ ((kindIn m e ≡ 66 + e) × (endpointIn m Part.Cursor e ≡ 0))
+Kind m e = (kindIn m e ≡ 2 + e) ⊎ ((kindIn m e ≡ 66 + e) × (endpointAt m Part.Cursor e ≡ 0))
 
 abbrev AllOf : List ℕ → ℕ → List ℕ → Type 0
-AllOf m e l = (t : ℕ) → Mem t l → threadIn m Field.Place t ≡ kindIn m e
+AllOf m e l = (t : ℕ) → Mem t l → threadAt m Field.Place t ≡ kindIn m e
 
 abbrev pub Marks-in : List ℕ → ℕ → List ℕ → Type 0
 Marks-in m e l =
-    Marked (endpointIn m Part.Cursor e) (endpointIn m Part.End e) (bannedIn m e) (threadIn m Field.Badge) l
-    (between (endpointIn m Part.Cursor e) (endpointIn m Part.End e) l)
+    FromTo (endpointAt m Part.Cursor e) (endpointAt m Part.End e) (bannedIn m e) (threadAt m Field.Badge) l
+    (between (endpointAt m Part.Cursor e) (endpointAt m Part.End e) l)
 
 module _ (m : List ℕ) (e : ℕ) where
-  tells-threads : (l : List ℕ) → Distinct l → Tells (threadsTest m e l) (AllOf m e l × Marks-in m e l)
+  tells-threads : (l : List ℕ) → Distinct l → Decides (threadsTest m e l) (AllOf m e l × Marks-in m e l)
   tells-threads l d =
-      tells-and (tells-every _ _ l (λ t k. tells-eqb (threadIn m Field.Place t) (kindIn m e)))
-      (tells-marked (endpointIn m Part.Cursor e) (endpointIn m Part.End e) (bannedIn m e) (threadIn m Field.Badge) l d)
+      tells-and (tells-every _ _ l (λ t k. tells-eqb (threadAt m Field.Place t) (kindIn m e)))
+      (tells-marked (endpointAt m Part.Cursor e) (endpointAt m Part.End e) (bannedIn m e) (threadAt m Field.Badge) l d)
 
   tells-kind :
-      Tells
+      Decides
       (waitersTest m e)
       (Kind m e
-      × (waitersFrom 257 (word m (afterAt (256 + e) 0)) ahead m (256 + e) (kindIn m e) (endpointIn m Part.Cursor e)
-      (endpointIn m Part.End e) (bannedIn m e) 0 ≡ true))
+      × (waitersFrom 257 (word m (afterAt (256 + e) 0)) Phase.Ahead m (256 + e) (kindIn m e) (endpointAt m Part.Cursor e)
+      (endpointAt m Part.End e) (bannedIn m e) 0 ≡ true))
   unfolding waitersTest
   tells-kind =
       tells-and (tells-or (tells-eqb _ (2 + e)) (tells-and (tells-eqb _ (66 + e)) (tells-eqb _ 0)))
@@ -76,9 +77,9 @@ module _ (m : List ℕ) (e : ℕ) where
       → Chain m (256 + e) 0 (queueFrom m (256 + e)) 0 × Marks-in m e (queueFrom m (256 + e))
   end-found h =
       let r = walk-found m (256 + e) (threadsTest m e)
-      (sym (waiters-split m (256 + e) (kindIn m e) (endpointIn m Part.Cursor e) (endpointIn m Part.End e)
+      (sym (waiters-split m (256 + e) (kindIn m e) (endpointAt m Part.Cursor e) (endpointAt m Part.End e)
       (bannedIn m e) 257
-      (word m (afterAt (256 + e) 0)) ahead 0) ∙ tells-kind .holds h .1) in
+      (word m (afterAt (256 + e) 0)) Phase.Ahead 0) ∙ tells-kind .holds h .1) in
       let apart = chain-distinct m (256 + e) (queueFrom m (256 + e)) (r .0) in
       (r .0, tells-threads (queueFrom m (256 + e)) apart .holds (r .1) .1)
 
@@ -98,26 +99,26 @@ NoneOutside s e =
     → Mem t (s .endpoints e .waiters) → s .threads t .badge ≡ a .badge → Mem t (pendingOf (s .endpoints e .abort))
 
 banned-hit :
-    (m : List ℕ) (e : ℕ) → endpointIn m Part.Aborting e ≡ 1 → kindIn m e ≡ 2 + e
-    → bannedIn m e ≡ endpointIn m Part.Aborted e
+    (m : List ℕ) (e : ℕ) → endpointAt m Part.Aborting e ≡ 1 → kindIn m e ≡ 2 + e
+    → bannedIn m e ≡ endpointAt m Part.Aborted e
 unfolding bannedOf
-banned-hit m e a k = rw (eq-eqb (endpointIn m Part.Aborting e) 1 a, eq-eqb (kindIn m e) (2 + e) k)
+banned-hit m e a k = rw (eq-eqb (endpointAt m Part.Aborting e) 1 a, eq-eqb (kindIn m e) (2 + e) k)
 
 banned-miss :
-    (m : List ℕ) (e : ℕ) → ((endpointIn m Part.Aborting e ≡ 1) × (kindIn m e ≡ 2 + e) → ⊥) → bannedIn m e ≡ 2 ^ 28
+    (m : List ℕ) (e : ℕ) → ((endpointAt m Part.Aborting e ≡ 1) × (kindIn m e ≡ 2 + e) → ⊥) → bannedIn m e ≡ 2 ^ 28
 unfolding bannedOf
-banned-miss m e n = go (told (tells-eqb (endpointIn m Part.Aborting e) 1)) (told (tells-eqb (kindIn m e) (2 + e)))
+banned-miss m e n = go (told (tells-eqb (endpointAt m Part.Aborting e) 1)) (told (tells-eqb (kindIn m e) (2 + e)))
   where
-    go : (endpointIn m Part.Aborting e ≡ 1) ⊎ (endpointIn m Part.Aborting e ≡ 1 → ⊥)
+    go : (endpointAt m Part.Aborting e ≡ 1) ⊎ (endpointAt m Part.Aborting e ≡ 1 → ⊥)
         → (kindIn m e ≡ 2 + e) ⊎ (kindIn m e ≡ 2 + e → ⊥)
-        → pick (eqb (endpointIn m Part.Aborting e) 1 && eqb (kindIn m e) (2 + e)) (endpointIn m Part.Aborted e) (2 ^ 28)
+        → pick (eqb (endpointAt m Part.Aborting e) 1 && eqb (kindIn m e) (2 + e)) (endpointAt m Part.Aborted e) (2 ^ 28)
         ≡ 2 ^ 28
     go (inl a) (inl k) = absurd (n (a, k))
-    go (inl a) (inr k) = rw (eq-eqb (endpointIn m Part.Aborting e) 1 a, ne-eqb (kindIn m e) (2 + e) k)
-    go (inr a) k = rw (ne-eqb (endpointIn m Part.Aborting e) 1 a)
+    go (inl a) (inr k) = rw (eq-eqb (endpointAt m Part.Aborting e) 1 a, ne-eqb (kindIn m e) (2 + e) k)
+    go (inr a) k = rw (ne-eqb (endpointAt m Part.Aborting e) 1 a)
 
 kind-first :
-    (m : List ℕ) (e code : ℕ) (l : List ℕ) → ((t : ℕ) → Mem t l → (t ≤ 255) × (threadIn m Field.Place t ≡ code))
+    (m : List ℕ) (e code : ℕ) (l : List ℕ) → ((t : ℕ) → Mem t l → (t ≤ 255) × (threadAt m Field.Place t ≡ code))
     → (l ≡ [] → 2 + e ≡ code) → kindOf (firstOf l) m e ≡ code
 unfolding kindOf
 kind-first m e code [] f g = g refl
@@ -140,37 +141,37 @@ module _ (m : List ℕ) (s : State) (R : Reads m s) (e : ℕ) (h : e ≤ 63) whe
   apart : Distinct l
   apart = chain-distinct m (256 + e) l (end-joined m s R e h)
 
-  pending-there : between (endpointIn m Part.Cursor e) (endpointIn m Part.End e) l ≡ pend
+  pending-there : between (endpointAt m Part.Cursor e) (endpointAt m Part.End e) l ≡ pend
   pending-there =
       rw (R .slots (ofEndpoint Part.Cursor e) h, R .slots (ofEndpoint Part.End e) h)
       (between-back l pend (R .neat .endpoints e .neat .part) apart)
 
-  tells-walk : Tells (waitersTest m e) (Kind m e × (AllOf m e l × Marks-in m e l))
+  tells-walk : Decides (waitersTest m e) (Kind m e × (AllOf m e l × Marks-in m e l))
   tells-walk =
       tells-map (λ r. (r .0, tells-threads m e l apart .holds (sym walked ∙ r .1)))
       (λ r. (r .0, walked ∙ tells-threads m e l apart .back (r .1))) (tells-kind m e)
     where
-      walked : waitersFrom 257 (word m (afterAt (256 + e) 0)) ahead m (256 + e) (kindIn m e)
-          (endpointIn m Part.Cursor e)
-          (endpointIn m Part.End e) (bannedIn m e) 0 ≡ threadsTest m e l
+      walked : waitersFrom 257 (word m (afterAt (256 + e) 0)) Phase.Ahead m (256 + e) (kindIn m e)
+          (endpointAt m Part.Cursor e)
+          (endpointAt m Part.End e) (bannedIn m e) 0 ≡ threadsTest m e l
       walked =
-          waiters-split m (256 + e) (kindIn m e) (endpointIn m Part.Cursor e) (endpointIn m Part.End e)
+          waiters-split m (256 + e) (kindIn m e) (endpointAt m Part.Cursor e) (endpointAt m Part.End e)
           (bannedIn m e) 257
-          (word m (afterAt (256 + e) 0)) ahead 0
+          (word m (afterAt (256 + e) 0)) Phase.Ahead 0
           ∙ walk-along m (256 + e) l (end-joined m s R e h) small (threadsTest m e)
 
-  at-place : (t : ℕ) (q : Place) → t ≤ 255 → s .threads t .place ≡ q → threadIn m Field.Place t ≡ placeCode q
+  at-place : (t : ℕ) (q : Place) → t ≤ 255 → s .threads t .place ≡ q → threadAt m Field.Place t ≡ placeCode q
   at-place t q k i = R .slots (ofThread Field.Place t) k ∙ ap placeCode i
 
   sends : AllOf m e l → kindIn m e ≡ 2 + e → (t : ℕ) → Mem t l → s .threads t .place ≡ sending e
   sends A k t i =
       tells-seat m s R t (sending e) (small t i) h .holds
-      (tells-eqb (threadIn m Field.Place t) (2 + e) .back (A t i ∙ k))
+      (tells-eqb (threadAt m Field.Place t) (2 + e) .back (A t i ∙ k))
 
   receives : AllOf m e l → kindIn m e ≡ 66 + e → (t : ℕ) → Mem t l → s .threads t .place ≡ receiving e
   receives A k t i =
       tells-seat m s R t (receiving e) (small t i) h .holds
-      (tells-eqb (threadIn m Field.Place t) (66 + e) .back (A t i ∙ k))
+      (tells-eqb (threadAt m Field.Place t) (66 + e) .back (A t i ∙ k))
 
   -- From the test
 
@@ -189,20 +190,20 @@ module _ (m : List ℕ) (s : State) (R : Reads m s) (e : ℕ) (h : e ≤ 63) whe
 
   -- To the test
 
-  kind-of : (code : ℕ) → ((t : ℕ) → Mem t l → threadIn m Field.Place t ≡ code) → (l ≡ [] → 2 + e ≡ code)
+  kind-of : (code : ℕ) → ((t : ℕ) → Mem t l → threadAt m Field.Place t ≡ code) → (l ≡ [] → 2 + e ≡ code)
       → kindIn m e ≡ code
   kind-of code f g =
       rw (chain-first m (256 + e) 0 l (end-joined m s R e h)) (kind-first m e code l (λ t i. (small t i, f t i)) g)
 
   to-kind : Alike s e → Kind m e × AllOf m e l
   to-kind (inl f) =
-      let there : (t : ℕ) → Mem t l → threadIn m Field.Place t ≡ 2 + e
+      let there : (t : ℕ) → Mem t l → threadAt m Field.Place t ≡ 2 + e
       = λ t i. at-place t (sending e) (small t i) (f t i) in
       let k = kind-of (2 + e) there (λ _. refl) in
       (inl k, λ t i. there t i ∙ sym k)
   to-kind (inr f) = go (nobody? l)
     where
-      there : (t : ℕ) → Mem t l → threadIn m Field.Place t ≡ 66 + e
+      there : (t : ℕ) → Mem t l → threadAt m Field.Place t ≡ 66 + e
       there t i = at-place t (receiving e) (small t i) (f .0 t i)
 
       go : (l ≡ []) ⊎ (l ≡ [] → ⊥) → Kind m e × AllOf m e l
@@ -214,7 +215,7 @@ module _ (m : List ℕ) (s : State) (R : Reads m s) (e : ℕ) (h : e ≤ 63) whe
           let k = kind-of (66 + e) there (λ z. absurd (n z)) in
           (inr (k, R .slots (ofEndpoint Part.Cursor e) h ∙ ap firstOf (f .1)), λ t i. there t i ∙ sym k)
 
-  badge-small : Kind m e → AllOf m e l → (t : ℕ) → Mem t l → threadIn m Field.Badge t < 2 ^ 28
+  badge-small : Kind m e → AllOf m e l → (t : ℕ) → Mem t l → threadAt m Field.Badge t < 2 ^ 28
   badge-small K A t i =
       let n : s .threads t .place ≡ absent → ⊥
       = λ z. ⊎-elim (λ k. omega (arith, at-place t absent (small t i) z, A t i))
@@ -230,11 +231,11 @@ module _ (m : List ℕ) (s : State) (R : Reads m s) (e : ℕ) (h : e ≤ 63) whe
             subst (Mem t) (sym pending-there)
             (⊎-elim (λ r. under t i b r (s .endpoints e .abort) refl)
             (λ n. absurd (omega (arith, b ∙ banned-miss m e n, badge-small K A t i)))
-            (told (tells-and (tells-eqb (endpointIn m Part.Aborting e) 1) (tells-eqb (kindIn m e) (2 + e)))));
+            (told (tells-and (tells-eqb (endpointAt m Part.Aborting e) 1) (tells-eqb (kindIn m e) (2 + e)))));
       }
     where
-      under : (t : ℕ) → Mem t l → threadIn m Field.Badge t ≡ bannedIn m e
-          → (endpointIn m Part.Aborting e ≡ 1) × (kindIn m e ≡ 2 + e) → (o : Option Abort) → s .endpoints e .abort ≡ o
+      under : (t : ℕ) → Mem t l → threadAt m Field.Badge t ≡ bannedIn m e
+          → (endpointAt m Part.Aborting e ≡ 1) × (kindIn m e ≡ 2 + e) → (o : Option Abort) → s .endpoints e .abort ≡ o
           → Mem t pend
       under t i b r none z =
           absurd (omega (arith, sym (r .0) ∙ R .slots (ofEndpoint Part.Aborting e) h ∙ ap abortCode z))
@@ -243,7 +244,7 @@ module _ (m : List ℕ) (s : State) (R : Reads m s) (e : ℕ) (h : e ≤ 63) whe
           (sym (R .slots (ofThread Field.Badge t) (small t i)) ∙ b ∙ banned-hit m e (r .0) (r .1)
           ∙ R .slots (ofEndpoint Part.Aborted e) h ∙ ap badgeCode z)
 
-  pub tells-waiters : Tells (waitersTest m e) (Alike s e × NoneOutside s e)
+  pub tells-waiters : Decides (waitersTest m e) (Alike s e × NoneOutside s e)
   tells-waiters =
       tells-map (λ r. (alike (r .0) (r .1 .0), none-outside (r .0) (r .1 .0) (r .1 .1)))
       (λ r. let k = to-kind (r .0) in (k .0, (k .1, to-marks (k .0) (k .1) (r .1)))) tells-walk

@@ -11,62 +11,63 @@ use Rattle.layout.specs.declared.Part.{Part}
 use Rattle.layout.specs.Addresses.{ofThread, ofEndpoint, ofLine, summary, top, running, unused, next, prev, head, at}
 use Rattle.layout.specs.Addresses.{linkAt, word, afterAt, beforeAt}
 use Rattle.layout.specs.Tests.{all, member, same}
+use Rattle.soundness.specs.declared.Phase.{Phase}
 
 -- The words by name.
-abbrev pub threadIn : List ℕ → Field → ℕ → ℕ
-threadIn m f t = word m (at (ofThread f t))
+abbrev pub threadAt : List ℕ → Field → ℕ → ℕ
+threadAt m f t = word m (at (ofThread f t))
 
-abbrev pub endpointIn : List ℕ → Part → ℕ → ℕ
-endpointIn m p e = word m (at (ofEndpoint p e))
+abbrev pub endpointAt : List ℕ → Part → ℕ → ℕ
+endpointAt m p e = word m (at (ofEndpoint p e))
 
 -- Blocks
 
 -- An absent thread's words are 0.
 unfoldable pub absentTest : List ℕ → ℕ → Bool
 absentTest m t =
-    eqb (threadIn m Field.Priority t) 0 && eqb (threadIn m Field.Ticks t) 0 && eqb (threadIn m Field.Outcome t) 0
-    && eqb (threadIn m Field.Badge t) 0 && eqb (threadIn m Field.Message t) 0 && eqb (threadIn m Field.Owes t) 0
-    && eqb (threadIn m Field.Note t) 0
+    eqb (threadAt m Field.Priority t) 0 && eqb (threadAt m Field.Ticks t) 0 && eqb (threadAt m Field.Outcome t) 0
+    && eqb (threadAt m Field.Badge t) 0 && eqb (threadAt m Field.Message t) 0 && eqb (threadAt m Field.Owes t) 0
+    && eqb (threadAt m Field.Note t) 0
 
 -- A present thread's numbers are in range.
 unfoldable pub numbersTest : List ℕ → ℕ → Bool
 numbersTest m t =
-    leb (threadIn m Field.Place t) 161 && leb (threadIn m Field.Priority t) 255
-    && (leb 1 (threadIn m Field.Ticks t) && leb (threadIn m Field.Ticks t) 5)
-    && leb (threadIn m Field.Outcome t) 5 && ltb (threadIn m Field.Badge t) (2 ^ 28)
-    && ltb (threadIn m Field.Message t) (2 ^ 28)
+    leb (threadAt m Field.Place t) 161 && leb (threadAt m Field.Priority t) 255
+    && (leb 1 (threadAt m Field.Ticks t) && leb (threadAt m Field.Ticks t) 5)
+    && leb (threadAt m Field.Outcome t) 5 && ltb (threadAt m Field.Badge t) (2 ^ 28)
+    && ltb (threadAt m Field.Message t) (2 ^ 28)
 
 -- A blocked thread's outcome is 0, and badge and message stand only where a thread stores them.
 unfoldable pub storedTest : List ℕ → ℕ → Bool
 storedTest m t =
-    (eqb (threadIn m Field.Place t) 1 || eqb (threadIn m Field.Outcome t) 0)
-    && (eqb (threadIn m Field.Outcome t) 2 || (leb 2 (threadIn m Field.Place t) && ltb (threadIn m Field.Place t) 66)
-    || (eqb (threadIn m Field.Badge t) 0 && eqb (threadIn m Field.Message t) 0))
+    (eqb (threadAt m Field.Place t) 1 || eqb (threadAt m Field.Outcome t) 0)
+    && (eqb (threadAt m Field.Outcome t) 2 || (leb 2 (threadAt m Field.Place t) && ltb (threadAt m Field.Place t) 66)
+    || (eqb (threadAt m Field.Badge t) 0 && eqb (threadAt m Field.Message t) 0))
 
 -- A thread on a line is the line's waiter.
 unfoldable pub waitsTest : List ℕ → ℕ → Bool
 waitsTest m t =
-    ltb (threadIn m Field.Place t) 130 || eqb (word m (at (ofLine (threadIn m Field.Place t - 130)))) (suc (suc t))
+    ltb (threadAt m Field.Place t) 130 || eqb (word m (at (ofLine (threadAt m Field.Place t - 130)))) (suc (suc t))
 
 -- What a thread owes: nothing, an abort that names it as owner, or a note of a badge in range.
 unfoldable pub owesTest : ℕ → List ℕ → ℕ → Bool
-owesTest zero m t = eqb (threadIn m Field.Note t) 0
+owesTest zero m t = eqb (threadAt m Field.Note t) 0
 owesTest (suc w) m t =
-    pick (ltb w 64) (eqb (threadIn m Field.Note t) 0 && eqb (endpointIn m Part.Owner w) (suc t))
-    (ltb w 128 && ltb (threadIn m Field.Note t) (2 ^ 28))
+    pick (ltb w 64) (eqb (threadAt m Field.Note t) 0 && eqb (endpointAt m Part.Owner w) (suc t))
+    (ltb w 128 && ltb (threadAt m Field.Note t) (2 ^ 28))
 
 unfoldable pub presentTest : List ℕ → ℕ → Bool
-presentTest m t = numbersTest m t && storedTest m t && waitsTest m t && owesTest (threadIn m Field.Owes t) m t
+presentTest m t = numbersTest m t && storedTest m t && waitsTest m t && owesTest (threadAt m Field.Owes t) m t
 
 unfoldable pub blockTest : List ℕ → ℕ → Bool
-blockTest m t = pick (eqb (threadIn m Field.Place t) 0) (absentTest m t) (presentTest m t)
+blockTest m t = pick (eqb (threadAt m Field.Place t) 0) (absentTest m t) (presentTest m t)
 
 -- Queues of the levels
 
 -- A thread ready at level p.
 unfoldable pub readyTest : List ℕ → ℕ → ℕ → Bool
 readyTest m p t =
-    eqb (threadIn m Field.Place t) 1 && eqb (threadIn m Field.Priority t) p && not (eqb (word m (at running)) (suc t))
+    eqb (threadAt m Field.Place t) 1 && eqb (threadAt m Field.Priority t) p && not (eqb (word m (at running)) (suc t))
 
 -- The queue of level p from link x on, n - 1 threads at most: each is linked back to the one before it and ready at p.
 unfoldable pub levelFrom : ℕ → ℕ → List ℕ → ℕ → ℕ → Bool
@@ -81,34 +82,28 @@ levelTest m p = levelFrom 257 (word m (afterAt p 0)) m p 0
 
 -- Queues of the endpoints
 
--- Where a walk through an abort's queue is: before its cursor, from there to its end mark, or past that.
-pub data Phase : Type 0 where
-  ahead : Phase
-  inside : Phase
-  past : Phase
+-- The phase of a walk through an abort's queue at link y, and behind it.
+unfoldable pub phaseAt : Phase → ℕ → ℕ → Phase
+phaseAt Phase.Ahead c y = pick (eqb y c) Phase.Inside Phase.Ahead
+phaseAt Phase.Inside c y = Phase.Inside
+phaseAt Phase.Past c y = Phase.Past
 
--- The phase at link y, and behind it.
-unfoldable pub enter : Phase → ℕ → ℕ → Phase
-enter ahead c y = pick (eqb y c) inside ahead
-enter inside c y = inside
-enter past c y = past
-
-unfoldable pub leave : Phase → ℕ → ℕ → Phase
-leave ahead d y = ahead
-leave inside d y = pick (eqb y d) past inside
-leave past d y = past
+unfoldable pub phaseBehind : Phase → ℕ → ℕ → Phase
+phaseBehind Phase.Ahead d y = Phase.Ahead
+phaseBehind Phase.Inside d y = pick (eqb y d) Phase.Past Phase.Inside
+phaseBehind Phase.Past d y = Phase.Past
 
 -- No sender under the aborted badge stands outside; b is 2 ^ 28 where there is none.
 unfoldable pub allowed : Phase → ℕ → ℕ → Bool
-allowed ahead b w = not (eqb w b)
-allowed inside b w = true
-allowed past b w = not (eqb w b)
+allowed Phase.Ahead b w = not (eqb w b)
+allowed Phase.Inside b w = true
+allowed Phase.Past b w = not (eqb w b)
 
 -- At the end of the queue both marks have been met, or there are none.
 unfoldable pub complete : Phase → ℕ → Bool
-complete ahead c = eqb c 0
-complete inside c = false
-complete past c = true
+complete Phase.Ahead c = eqb c 0
+complete Phase.Inside c = false
+complete Phase.Past c = true
 
 -- The queue q of an endpoint from link x on, whose threads have place k: with the phase behind x, the marks c and d,
 -- and the badge b that may not stand outside them.
@@ -116,51 +111,51 @@ unfoldable pub waitersFrom : ℕ → ℕ → Phase → List ℕ → ℕ → ℕ 
 waitersFrom zero y f m q k c d b x = false
 waitersFrom (suc n) zero f m q k c d b x = eqb (word m (beforeAt q 0)) x && complete f c
 waitersFrom (suc n) (suc t) f m q k c d b x =
-    (leb t 255 && eqb (word m (beforeAt q (suc t))) x && eqb (threadIn m Field.Place t) k
-    && allowed (enter f c (suc t)) b (threadIn m Field.Badge t))
-    && waitersFrom n (word m (afterAt q (suc t))) (leave (enter f c (suc t)) d (suc t)) m q k c d b (suc t)
+    (leb t 255 && eqb (word m (beforeAt q (suc t))) x && eqb (threadAt m Field.Place t) k
+    && allowed (phaseAt f c (suc t)) b (threadAt m Field.Badge t))
+    && waitersFrom n (word m (afterAt q (suc t))) (phaseBehind (phaseAt f c (suc t)) d (suc t)) m q k c d b (suc t)
 
 -- The place that all in the queue of endpoint e must have: that of its first, to send or to receive there.
 unfoldable pub kindOf : ℕ → List ℕ → ℕ → ℕ
 kindOf zero m e = 2 + e
-kindOf (suc t) m e = pick (leb t 255) (threadIn m Field.Place t) 0
+kindOf (suc t) m e = pick (leb t 255) (threadAt m Field.Place t) 0
 
 unfoldable pub bannedOf : List ℕ → ℕ → ℕ → ℕ
-bannedOf m e k = pick (eqb (endpointIn m Part.Aborting e) 1 && eqb k (2 + e)) (endpointIn m Part.Aborted e) (2 ^ 28)
+bannedOf m e k = pick (eqb (endpointAt m Part.Aborting e) 1 && eqb k (2 + e)) (endpointAt m Part.Aborted e) (2 ^ 28)
 
 unfoldable pub waitersTest : List ℕ → ℕ → Bool
 waitersTest m e =
     (eqb (kindOf (word m (linkAt (head (256 + e)))) m e) (2 + e)
-    || (eqb (kindOf (word m (linkAt (head (256 + e)))) m e) (66 + e) && eqb (endpointIn m Part.Cursor e) 0))
-    && waitersFrom 257 (word m (afterAt (256 + e) 0)) ahead m (256 + e)
-    (kindOf (word m (linkAt (head (256 + e)))) m e) (endpointIn m Part.Cursor e) (endpointIn m Part.End e)
+    || (eqb (kindOf (word m (linkAt (head (256 + e)))) m e) (66 + e) && eqb (endpointAt m Part.Cursor e) 0))
+    && waitersFrom 257 (word m (afterAt (256 + e) 0)) Phase.Ahead m (256 + e)
+    (kindOf (word m (linkAt (head (256 + e)))) m e) (endpointAt m Part.Cursor e) (endpointAt m Part.End e)
     (bannedOf m e (kindOf (word m (linkAt (head (256 + e)))) m e)) 0
 
 -- An owner owes: it names the endpoint.
 unfoldable pub ownerTest : ℕ → List ℕ → ℕ → Bool
 ownerTest zero m e = true
-ownerTest (suc t) m e = leb t 255 && eqb (threadIn m Field.Owes t) (suc e)
+ownerTest (suc t) m e = leb t 255 && eqb (threadAt m Field.Owes t) (suc e)
 
 -- No abort, or one of a badge in range.
 unfoldable pub abortTest : ℕ → List ℕ → ℕ → Bool
 abortTest zero m e =
-    eqb (endpointIn m Part.Aborted e) 0 && eqb (endpointIn m Part.Owner e) 0 && eqb (endpointIn m Part.Cursor e) 0
-    && eqb (endpointIn m Part.End e) 0
+    eqb (endpointAt m Part.Aborted e) 0 && eqb (endpointAt m Part.Owner e) 0 && eqb (endpointAt m Part.Cursor e) 0
+    && eqb (endpointAt m Part.End e) 0
 abortTest (suc zero) m e =
-    ltb (endpointIn m Part.Aborted e) (2 ^ 28) && ownerTest (endpointIn m Part.Owner e) m e
-    && same (eqb (endpointIn m Part.Cursor e) 0) (eqb (endpointIn m Part.End e) 0)
+    ltb (endpointAt m Part.Aborted e) (2 ^ 28) && ownerTest (endpointAt m Part.Owner e) m e
+    && same (eqb (endpointAt m Part.Cursor e) 0) (eqb (endpointAt m Part.End e) 0)
 abortTest (suc (suc n)) m e = false
 
 -- An absent endpoint is empty; an absent or closing one has no abort.
 unfoldable pub statusTest : ℕ → List ℕ → ℕ → Bool
-statusTest zero m e = eqb (word m (linkAt (head (256 + e)))) 0 && eqb (endpointIn m Part.Aborting e) 0
+statusTest zero m e = eqb (word m (linkAt (head (256 + e)))) 0 && eqb (endpointAt m Part.Aborting e) 0
 statusTest (suc zero) m e = true
-statusTest (suc (suc zero)) m e = eqb (endpointIn m Part.Aborting e) 0
+statusTest (suc (suc zero)) m e = eqb (endpointAt m Part.Aborting e) 0
 statusTest (suc (suc (suc n))) m e = false
 
 unfoldable pub endpointTest : List ℕ → ℕ → Bool
 endpointTest m e =
-    statusTest (endpointIn m Part.Status e) m e && abortTest (endpointIn m Part.Aborting e) m e && waitersTest m e
+    statusTest (endpointAt m Part.Status e) m e && abortTest (endpointAt m Part.Aborting e) m e && waitersTest m e
 
 -- Lines, summary, running thread, unused words
 
@@ -168,7 +163,7 @@ endpointTest m e =
 unfoldable pub lineFrom : ℕ → List ℕ → ℕ → Bool
 lineFrom zero m l = true
 lineFrom (suc zero) m l = true
-lineFrom (suc (suc t)) m l = leb t 255 && eqb (threadIn m Field.Place t) (130 + l)
+lineFrom (suc (suc t)) m l = leb t 255 && eqb (threadAt m Field.Place t) (130 + l)
 
 unfoldable pub lineTest : List ℕ → ℕ → Bool
 lineTest m l = lineFrom (word m (at (ofLine l))) m l
@@ -185,8 +180,8 @@ summaryTest m =
 unfoldable pub runningFrom : ℕ → List ℕ → Bool
 runningFrom zero m = all 256 (λ p. not (occupiedAt m p))
 runningFrom (suc t) m =
-    leb t 255 && eqb (threadIn m Field.Place t) 1
-    && all 256 (λ p. leb p (threadIn m Field.Priority t) || not (occupiedAt m p))
+    leb t 255 && eqb (threadAt m Field.Place t) 1
+    && all 256 (λ p. leb p (threadAt m Field.Priority t) || not (occupiedAt m p))
 
 unfoldable pub runningTest : List ℕ → Bool
 runningTest m = runningFrom (word m (at running)) m
@@ -213,8 +208,8 @@ metBelow (suc q) m t = member t (met m q) || metBelow q m t
 -- A thread that is ready, sends or receives is in a queue.
 unfoldable pub queuedTest : List ℕ → ℕ → Bool
 queuedTest m t =
-    (eqb (threadIn m Field.Place t) 1 && not (eqb (word m (at running)) (suc t)))
-    || (leb 2 (threadIn m Field.Place t) && ltb (threadIn m Field.Place t) 130)
+    (eqb (threadAt m Field.Place t) 1 && not (eqb (word m (at running)) (suc t)))
+    || (leb 2 (threadAt m Field.Place t) && ltb (threadAt m Field.Place t) 130)
 
 -- It was met exactly if it is in a queue; whoever was not met has links 0.
 unfoldable pub placedTest : List ℕ → ℕ → Bool

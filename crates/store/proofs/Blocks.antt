@@ -14,8 +14,8 @@ use Rattle.layout.specs.Shows.{Shows}
 use Rattle.layout.proofs.Addresses.{same-field}
 use Rattle.words.specs.Access.{Address}
 use Rattle.store.specs.Steps.{Does}
-use Rattle.store.specs.Store.{IsThread, prioritising, ticking, Places, Owes}
-use Rattle.store.proofs.Rows.{Row, change, IsRow, row-store, row-start, row-shows}
+use Rattle.store.specs.Store.{IsThread, prioritising, ticking, SetsPlace, SetsDebt}
+use Rattle.store.proofs.Rows.{RowChanged, change, IsRow, row-store, row-start, row-shows}
 
 -- The slots that are not of thread t.
 abbrev OffBlock : ℕ → Slot → Type 0
@@ -31,7 +31,7 @@ abbrev blockRow : ℕ → Field → Slot
 blockRow t f = ofThread f t
 
 abbrev Block : ℕ → List ℕ → List ℕ → (Field → ℕ) → Type 0
-Block t m n w = Row (blockRow t) (OffBlock t) m n w
+Block t m n w = RowChanged (blockRow t) (OffBlock t) m n w
 
 -- A word for each field, where eight are right.
 fields :
@@ -116,7 +116,7 @@ module _ (t : ℕ) {m n₁ : List ℕ} {i₁ : ℕ} where
   module _ {n₂ : List ℕ} {i₂ : ℕ} where
     pub owes-does :
         (code b : ℕ) → Address i₁ (at (ofThread Field.Owes t)) → n₁ ≡ set m i₁ code
-        → Address i₂ (at (ofThread Field.Note t)) → n₂ ≡ set n₁ i₂ b → Owes m t code b n₂
+        → Address i₂ (at (ofThread Field.Note t)) → n₂ ≡ set n₁ i₂ b → SetsDebt m t code b n₂
     owes-does code b a₁ e₁ a₂ e₂ =
         record {
           does = λ d k j.
@@ -134,7 +134,7 @@ module _ (t : ℕ) {m n₁ : List ℕ} {i₁ : ℕ} where
           (code o b x : ℕ) → Address i₁ (at (ofThread Field.Place t)) → n₁ ≡ set m i₁ code
           → Address i₂ (at (ofThread Field.Outcome t)) → n₂ ≡ set n₁ i₂ o
           → Address i₃ (at (ofThread Field.Badge t)) → n₃ ≡ set n₂ i₃ b
-          → Address i₄ (at (ofThread Field.Message t)) → n₄ ≡ set n₃ i₄ x → Places m t code o b x n₄
+          → Address i₄ (at (ofThread Field.Message t)) → n₄ ≡ set n₃ i₄ x → SetsPlace m t code o b x n₄
       place-does code o b x a₁ e₁ a₂ e₂ a₃ e₃ a₄ e₄ =
           record {
             does = λ p k.

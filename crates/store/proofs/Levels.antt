@@ -10,14 +10,14 @@ use Rattle.machine.specs.Lists.{put}
 use Rattle.machine.specs.State.{State}
 use Rattle.machine.proofs.Lists.{Same, same, other, same?, put-other}
 use Rattle.summary.specs.declared.Summary.{Summary}
-use Rattle.summary.specs.Levels.{wordOf, summaryOf, Marks}
+use Rattle.summary.specs.Levels.{wordOf, summaryOf, SetsBit}
 use Rattle.summary.proofs.Words.{words-at, words-are, summary-is, summary-words, summary-top, word-agree}
 use Rattle.layout.specs.Addresses.{summary, top, at}
 use Rattle.layout.specs.Addresses.{word}
 use Rattle.layout.specs.Words.{occupiedIn}
 use Rattle.layout.specs.Shows.{Shows}
 use Rattle.words.specs.Access.{Address}
-use Rattle.store.specs.Marks.{SummaryWords, Loads, Writes, MarksIn}
+use Rattle.store.specs.Levels.{SummaryWords, LoadsSummary, WritesLevel, SetsLevel}
 use Rattle.store.proofs.Words.{Stored, stored}
 
 -- The summary's words of a memory that shows a state are those of its occupied levels.
@@ -45,7 +45,7 @@ read-more m row w i v R h a e =
 
 pub loads :
     (m row : List ℕ) (w i v : ℕ) → ReadTo m row w → 8 ≤ w → Address i (at top) → v ≡ word m i
-    → Loads m (record { words = row; top = v })
+    → LoadsSummary m (record { words = row; top = v })
 loads m row w i v R h a e = record { loaded = is; shown = λ s M. is (occupiedIn s) (shown-words m s M) }
   where
     is : (f : ℕ → Bool) → SummaryWords m f → _≡_ {A = Summary} (record { words = row; top = v }) (summaryOf f)
@@ -61,7 +61,7 @@ no-top w e = let z : _≡_ {A = ℕ} 0 1 = cc in omega arith
 pub writes :
     (m n₁ n₂ : List ℕ) (sm : Summary) (p i₁ i₂ : ℕ) → length m ≡ 4096 → p < 256
     → Address i₁ (at (summary (p / 32))) → n₁ ≡ set m i₁ (getD (sm .words) (p / 32) 0)
-    → Address i₂ (at top) → n₂ ≡ set n₁ i₂ (sm .top) → Writes m sm p n₂
+    → Address i₂ (at top) → n₂ ≡ set n₁ i₂ (sm .top) → WritesLevel m sm p n₂
 writes m n₁ n₂ sm p i₁ i₂ size small a₁ e₁ a₂ e₂ =
     let A : Stored m n₁ (summary (p / 32)) (getD (sm .words) (p / 32) 0) =
     stored m n₁ (summary (p / 32)) i₁ (getD (sm .words) (p / 32) 0) size (omega arith) a₁ e₁ in
@@ -79,7 +79,7 @@ writes m n₁ n₂ sm p i₁ i₂ size small a₁ e₁ a₂ e₂ =
     same-word w e = cc
 
 -- A mark, from the summary that was loaded and the two stores of the marked one.
-module _ (m n : List ℕ) (sm r : Summary) (p : ℕ) (x : Bool) (small : p < 256) (W : Writes m r p n) where
+module _ (m n : List ℕ) (sm r : Summary) (p : ℕ) (x : Bool) (small : p < 256) (W : WritesLevel m r p n) where
   marked-words :
       (f : ℕ → Bool) → SummaryWords m f → r ≡ summaryOf (put f p x) → SummaryWords n (put f p x)
   marked-words f S e =
@@ -98,7 +98,7 @@ module _ (m n : List ℕ) (sm r : Summary) (p : ℕ) (x : Bool) (small : p < 256
           W .others w h d ∙ S .words w h
           ∙ word-agree f (put f p x) w (λ k b. sym (put-other f p (32 * w + k) x (λ j. d (omega arith))))
 
-  pub marks-in : Loads m sm → Marks sm p x r → MarksIn m p x n
+  pub marks-in : LoadsSummary m sm → SetsBit sm p x r → SetsLevel m p x n
   marks-in L K =
       record {
         size = W .size;

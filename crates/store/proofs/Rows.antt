@@ -15,7 +15,7 @@ use Rattle.layout.proofs.Stores.{slot-same, slot-other, slot-link, linked-keep,
 use Rattle.words.specs.Access.{Address}
 
 -- n is m but for one row, whose words are w; the slots that are not of the row are Off it.
-pub record Row {F : Type 0} (row : F → Slot) (Off : Slot → Type 0) (m n : List ℕ) (w : F → ℕ) : Type 0 where
+pub record RowChanged {F : Type 0} (row : F → Slot) (Off : Slot → Type 0) (m n : List ℕ) (w : F → ℕ) : Type 0 where
   pub size : length n ≡ 4096
   pub here : (f : F) → word n (at (row f)) ≡ w f
   pub slots : (a : Slot) → ValidSlot a → Off a → word n (at a) ≡ word m (at a)
@@ -33,8 +33,8 @@ pub record IsRow {F : Type 0} (row : F → Slot) (Off : Slot → Type 0) (key : 
 
 module _ {F : Type 0} (row : F → Slot) (Off : Slot → Type 0) (key : F → ℕ) (R : IsRow row Off key) where
   row-set :
-      (m n : List ℕ) (w : F → ℕ) (f : F) (v : ℕ) → Row row Off m n w
-      → Row row Off m (set n (at (row f)) v) (change key f v w)
+      (m n : List ℕ) (w : F → ℕ) (f : F) (v : ℕ) → RowChanged row Off m n w
+      → RowChanged row Off m (set n (at (row f)) v) (change key f v w)
   row-set m n w f v B =
       record {
         size = length-set n (at (row f)) v ∙ B .size;
@@ -50,19 +50,19 @@ module _ {F : Type 0} (row : F → Slot) (Off : Slot → Type 0) (key : F → �
 
   pub row-store :
       (m n n′ : List ℕ) (w : F → ℕ) (f : F) (i v : ℕ) → Address i (at (row f)) → n′ ≡ set n i v
-      → Row row Off m n w → Row row Off m n′ (change key f v w)
+      → RowChanged row Off m n w → RowChanged row Off m n′ (change key f v w)
   row-store m n n′ w f i v a e B =
       let k : n′ ≡ set n (at (row f)) v = e ∙ ap (λ j. set n j v) (a .is) in
-      subst (λ l. Row row Off m l (change key f v w)) (sym k) (row-set m n w f v B)
+      subst (λ l. RowChanged row Off m l (change key f v w)) (sym k) (row-set m n w f v B)
 
-  pub row-start : (m : List ℕ) (s : State) → Shows m s → Row row Off m m (λ f. content s (row f))
+  pub row-start : (m : List ℕ) (s : State) → Shows m s → RowChanged row Off m m (λ f. content s (row f))
   row-start m s M =
       record { size = M .size; here = λ f. M .slots (row f) (R .valid f); slots = λ a h o. refl; links = λ k h. refl }
 
 -- The row's memory shows a state with the same queues, if each slot has that state's word.
 pub row-shows :
     {F : Type 0} (row : F → Slot) (Off : Slot → Type 0) (m n : List ℕ) (w : F → ℕ) (s z : State) → Shows m s
-    → Row row Off m n w → ((a : Slot) → ValidSlot a → word n (at a) ≡ content z a)
+    → RowChanged row Off m n w → ((a : Slot) → ValidSlot a → word n (at a) ≡ content z a)
     → ((q : ℕ) → q ≤ 319 → queuesOf z q ≡ queuesOf s q) → Shows n z
 row-shows row Off m n w s z M B slots queues =
     record {

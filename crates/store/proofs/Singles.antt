@@ -10,11 +10,11 @@ use Rattle.machine.proofs.Lists.{Same, same, other, same?, put-same, put-other}
 use Rattle.layout.specs.Addresses.{Slot, ofThread, ofEndpoint, ofLine, summary, top, running, unused, at}
 use Rattle.layout.specs.Words.{lineCode, content, queuesOf}
 use Rattle.words.specs.Access.{Address}
-use Rattle.store.specs.Store.{Runs, Lines}
+use Rattle.store.specs.Store.{SetsRunning, SetsLine}
 use Rattle.store.proofs.Words.{stored-shows}
 
 pub line-does :
-    (l : ℕ) {m n : List ℕ} {i : ℕ} (code : ℕ) → Address i (at (ofLine l)) → n ≡ set m i code → Lines m l code n
+    (l : ℕ) {m n : List ℕ} {i : ℕ} (code : ℕ) → Address i (at (ofLine l)) → n ≡ set m i code → SetsLine m l code n
 unfolding queuesOf
 line-does l {m} {n} {i} code a e =
     record {
@@ -41,7 +41,7 @@ line-does l {m} {n} {i} code a e =
     rest s x (unused j) d = refl
 
 pub running-does :
-    {m n : List ℕ} {i : ℕ} (code : ℕ) → Address i (at running) → n ≡ set m i code → Runs m code n
+    {m n : List ℕ} {i : ℕ} (code : ℕ) → Address i (at running) → n ≡ set m i code → SetsRunning m code n
 unfolding queuesOf
 running-does {m} {n} {i} code a e =
     record {

@@ -18,8 +18,8 @@ use Rattle.layout.specs.Words.{queuesOf}
 use Rattle.layout.specs.Shows.{Shows}
 use Rattle.layout.proofs.Addresses.{same-part}
 use Rattle.words.specs.Access.{Address}
-use Rattle.store.specs.Store.{Stands, Aborts, Owners, Looks}
-use Rattle.store.proofs.Rows.{Row, change, IsRow, row-store, row-start, row-shows}
+use Rattle.store.specs.Store.{SetsStatus, SetsAbort, SetsOwner, SetsPending}
+use Rattle.store.proofs.Rows.{RowChanged, change, IsRow, row-store, row-start, row-shows}
 
 -- The slots that are not of endpoint e.
 abbrev OffSite : ℕ → Slot → Type 0
@@ -35,7 +35,7 @@ abbrev siteRow : ℕ → Part → Slot
 siteRow e p = ofEndpoint p e
 
 abbrev Site : ℕ → List ℕ → List ℕ → (Part → ℕ) → Type 0
-Site e m n w = Row (siteRow e) (OffSite e) m n w
+Site e m n w = RowChanged (siteRow e) (OffSite e) m n w
 
 -- A word for each part, where six are right.
 pub parts :
@@ -107,7 +107,7 @@ module _ (e : ℕ) (small : e ≤ 63) where
 -- The steps on an endpoint, from the stores that they are.
 
 module _ (e : ℕ) {m n₁ : List ℕ} {i₁ : ℕ} where
-  pub status-does : (code : ℕ) → Address i₁ (at (ofEndpoint Part.Status e)) → n₁ ≡ set m i₁ code → Stands m e code n₁
+  pub status-does : (code : ℕ) → Address i₁ (at (ofEndpoint Part.Status e)) → n₁ ≡ set m i₁ code → SetsStatus m e code n₁
   status-does code a₁ e₁ =
       record {
         does = λ x k.
@@ -119,7 +119,7 @@ module _ (e : ℕ) {m n₁ : List ℕ} {i₁ : ℕ} where
             };
       }
 
-  pub owner-does : (code : ℕ) → Address i₁ (at (ofEndpoint Part.Owner e)) → n₁ ≡ set m i₁ code → Owners m e code n₁
+  pub owner-does : (code : ℕ) → Address i₁ (at (ofEndpoint Part.Owner e)) → n₁ ≡ set m i₁ code → SetsOwner m e code n₁
   owner-does code a₁ e₁ =
       record {
         does = λ o k.
@@ -138,7 +138,7 @@ module _ (e : ℕ) {m n₁ : List ℕ} {i₁ : ℕ} where
         → Address i₂ (at (ofEndpoint Part.Aborted e)) → n₂ ≡ set n₁ i₂ badge
         → Address i₃ (at (ofEndpoint Part.Owner e)) → n₃ ≡ set n₂ i₃ own
         → Address i₄ (at (ofEndpoint Part.Cursor e)) → n₄ ≡ set n₃ i₄ first
-        → Address i₅ (at (ofEndpoint Part.End e)) → n₅ ≡ set n₄ i₅ last → Aborts m e here badge own first last n₅
+        → Address i₅ (at (ofEndpoint Part.End e)) → n₅ ≡ set n₄ i₅ last → SetsAbort m e here badge own first last n₅
     abort-does here badge own first last a₁ e₁ a₂ e₂ a₃ e₃ a₄ e₄ a₅ e₅ =
         record {
           none = λ h₁ h₂ h₃ h₄ h₅.
@@ -168,7 +168,7 @@ module _ (e : ℕ) {m n₁ : List ℕ} {i₁ : ℕ} where
 -- The two stores of the marks.
 pub looks :
     (e : ℕ) {m n o : List ℕ} {i j : ℕ} (first last : ℕ) → Address i (at (ofEndpoint Part.Cursor e)) → n ≡ set m i first
-    → Address j (at (ofEndpoint Part.End e)) → o ≡ set n j last → Looks m e first last o
+    → Address j (at (ofEndpoint Part.End e)) → o ≡ set n j last → SetsPending m e first last o
 looks e {m} {n} {o} {i} {j} first last a b c d =
     record {
       does = λ l f g.

@@ -2,4 +2,4 @@
 pub mod Steps
 pub mod Store
 pub mod Readings
-pub mod Marks
+pub mod Levels

@@ -55,23 +55,23 @@ standing e x s =
     (record { status = x; waiters = s .endpoints e .waiters; abort = s .endpoints e .abort }) s
 
 -- A place, debt, status, line or thread enters the code as its number; the step is done for whatever has that number.
-pub record Places (m : List ℕ) (t code o b x : ℕ) (m′ : List ℕ) : Type 0 where
+pub record SetsPlace (m : List ℕ) (t code o b x : ℕ) (m′ : List ℕ) : Type 0 where
   pub does : (p : Place) → placeCode p ≡ code → Does m m′ (IsThread t) (placing t p o b x)
 
-pub record Owes (m : List ℕ) (t code badge : ℕ) (m′ : List ℕ) : Type 0 where
+pub record SetsDebt (m : List ℕ) (t code badge : ℕ) (m′ : List ℕ) : Type 0 where
   pub does : (d : Debt) → debtCode d ≡ code → noteCode d ≡ badge → Does m m′ (IsThread t) (owing t d)
 
-pub record Runs (m : List ℕ) (link : ℕ) (m′ : List ℕ) : Type 0 where
+pub record SetsRunning (m : List ℕ) (link : ℕ) (m′ : List ℕ) : Type 0 where
   pub does : (r : Option ℕ) → linkOf r ≡ link → Does m m′ Any (setRuns r)
 
-pub record Lines (m : List ℕ) (l code : ℕ) (m′ : List ℕ) : Type 0 where
+pub record SetsLine (m : List ℕ) (l code : ℕ) (m′ : List ℕ) : Type 0 where
   pub does : (x : Line) → lineCode x ≡ code → Does m m′ (IsLine l) (setLine l x)
 
-pub record Stands (m : List ℕ) (e code : ℕ) (m′ : List ℕ) : Type 0 where
+pub record SetsStatus (m : List ℕ) (e code : ℕ) (m′ : List ℕ) : Type 0 where
   pub does : (x : Status) → statusCode x ≡ code → Does m m′ (IsEndpoint e) (standing e x)
 
 -- An abort that stands, or none: its badge, its owner's link, and the links of the first and the last pending.
-pub record Aborts (m : List ℕ) (e here badge owner cursor end : ℕ) (m′ : List ℕ) : Type 0 where
+pub record SetsAbort (m : List ℕ) (e here badge owner cursor end : ℕ) (m′ : List ℕ) : Type 0 where
   pub none : here ≡ 0 → badge ≡ 0 → owner ≡ 0 → cursor ≡ 0 → end ≡ 0
       → Does m m′ (IsEndpoint e) (setAbort e Option.none)
   pub some : (a : Abort) → here ≡ 1 → badge ≡ a .badge → owner ≡ linkOf (a .owner) → cursor ≡ firstOf (a .pending)
@@ -82,7 +82,7 @@ abbrev pub HasAbort : ℕ → State → Type 0
 HasAbort e s = (e ≤ 63) × ((a : Abort) × (s .endpoints e .abort ≡ Option.some a))
 
 -- The owner of an abort that stands.
-pub record Owners (m : List ℕ) (e link : ℕ) (m′ : List ℕ) : Type 0 where
+pub record SetsOwner (m : List ℕ) (e link : ℕ) (m′ : List ℕ) : Type 0 where
   pub does : (o : Option ℕ) → linkOf o ≡ link → Does m m′ (HasAbort e) (owned e o)
 
 -- The abort at endpoint e has the waiters of a list to look at.
@@ -94,5 +94,5 @@ abbrev pub lookingAt : ℕ → List ℕ → State → State
 lookingAt e l s = setAbort e (withPending l (s .endpoints e .abort)) s
 
 -- Cursor and end mark enter the code as links; the abort looks at whatever list they are the first and the last of.
-pub record Looks (m : List ℕ) (e cursor end : ℕ) (m′ : List ℕ) : Type 0 where
+pub record SetsPending (m : List ℕ) (e cursor end : ℕ) (m′ : List ℕ) : Type 0 where
   pub does : (l : List ℕ) → firstOf l ≡ cursor → lastOf 0 l ≡ end → Does m m′ (HasAbort e) (lookingAt e l)

@@ -7,9 +7,9 @@ ghost use lib.ListN.{length};
 ghost use Rattle.store.specs.Steps.{Shown, Does, Tells};
 ghost use Rattle.store.specs.Store.{IsThread, IsEndpoint, IsLine, Any, HasAbort};
 ghost use Rattle.store.specs.Store.{prioritising, ticking, creating, clearing};
-ghost use Rattle.store.specs.Store.{Places, Owes, Runs, Lines, Stands, Aborts, Owners, Looks};
+ghost use Rattle.store.specs.Store.{SetsPlace, SetsDebt, SetsRunning, SetsLine, SetsStatus, SetsAbort, SetsOwner, SetsPending};
 ghost use Rattle.store.specs.Readings.{threadIn, endpointIn, lineIn, runningIn};
-ghost use Rattle.store.specs.Marks.{Loads, MarksIn, Writes};
+ghost use Rattle.store.specs.Levels.{LoadsSummary, SetsLevel, WritesLevel};
 use layout::Field;
 use layout::Part;
 use summary::Summary;
@@ -49,7 +49,7 @@ pub fn running(tables: &[u32]) -> u32
 // Thread t is at a place, with the outcome, badge and message that it has there.
 pub fn set_place(tables: &mut [u32], t: usize, place: u32, outcome: u32, badge: u32, message: u32)
     requires { ⌜ Shown (now tables) (IsThread t) ⌝ }
-    ensures { λ _. ⌜ Places (now (tables .entry)) t place outcome badge message (now (tables .exit)) ⌝ }
+    ensures { λ _. ⌜ SetsPlace (now (tables .entry)) t place outcome badge message (now (tables .exit)) ⌝ }
 {
     words::put(tables, words::thread_at(Field::Place, t), place);
     words::put(tables, words::thread_at(Field::Outcome, t), outcome);
@@ -76,7 +76,7 @@ pub fn set_ticks(tables: &mut [u32], t: usize, n: u32)
 // What thread t has to do with aborts, and the badge of its note.
 pub fn set_owes(tables: &mut [u32], t: usize, code: u32, badge: u32)
     requires { ⌜ Shown (now tables) (IsThread t) ⌝ }
-    ensures { λ _. ⌜ Owes (now (tables .entry)) t code badge (now (tables .exit)) ⌝ }
+    ensures { λ _. ⌜ SetsDebt (now (tables .entry)) t code badge (now (tables .exit)) ⌝ }
 {
     words::put(tables, words::thread_at(Field::Owes, t), code);
     words::put(tables, words::thread_at(Field::Note, t), badge);
@@ -107,7 +107,7 @@ pub fn clear_thread(tables: &mut [u32], t: usize)
 // The thread of a link runs, none for 0.
 pub fn set_running(tables: &mut [u32], link: u32)
     requires { ⌜ Shown (now tables) Any ⌝ }
-    ensures { λ _. ⌜ Runs (now (tables .entry)) link (now (tables .exit)) ⌝ }
+    ensures { λ _. ⌜ SetsRunning (now (tables .entry)) link (now (tables .exit)) ⌝ }
 {
     words::put(tables, words::running_at(), link);
 }
@@ -115,7 +115,7 @@ pub fn set_running(tables: &mut [u32], link: u32)
 // Line l is quiet, pending or awaited.
 pub fn set_line(tables: &mut [u32], l: usize, code: u32)
     requires { ⌜ Shown (now tables) (IsLine l) ⌝ }
-    ensures { λ _. ⌜ Lines (now (tables .entry)) l code (now (tables .exit)) ⌝ }
+    ensures { λ _. ⌜ SetsLine (now (tables .entry)) l code (now (tables .exit)) ⌝ }
 {
     words::put(tables, words::line_at(l), code);
 }
@@ -123,7 +123,7 @@ pub fn set_line(tables: &mut [u32], l: usize, code: u32)
 // Endpoint e is missing, live or closing.
 pub fn set_status(tables: &mut [u32], e: usize, code: u32)
     requires { ⌜ Shown (now tables) (IsEndpoint e) ⌝ }
-    ensures { λ _. ⌜ Stands (now (tables .entry)) e code (now (tables .exit)) ⌝ }
+    ensures { λ _. ⌜ SetsStatus (now (tables .entry)) e code (now (tables .exit)) ⌝ }
 {
     words::put(tables, words::endpoint_at(Part::Status, e), code);
 }
@@ -139,7 +139,7 @@ pub fn set_abort(
     end: u32,
 )
     requires { ⌜ Shown (now tables) (IsEndpoint e) ⌝ }
-    ensures { λ _. ⌜ Aborts (now (tables .entry)) e here badge owner cursor end (now (tables .exit)) ⌝ }
+    ensures { λ _. ⌜ SetsAbort (now (tables .entry)) e here badge owner cursor end (now (tables .exit)) ⌝ }
 {
     words::put(tables, words::endpoint_at(Part::Aborting, e), here);
     words::put(tables, words::endpoint_at(Part::Aborted, e), badge);
@@ -151,7 +151,7 @@ pub fn set_abort(
 // The owner of the abort that stands at endpoint e, none for link 0.
 pub fn set_owner(tables: &mut [u32], e: usize, link: u32)
     requires { ⌜ Shown (now tables) (HasAbort e) ⌝ }
-    ensures { λ _. ⌜ Owners (now (tables .entry)) e link (now (tables .exit)) ⌝ }
+    ensures { λ _. ⌜ SetsOwner (now (tables .entry)) e link (now (tables .exit)) ⌝ }
 {
     words::put(tables, words::endpoint_at(Part::Owner, e), link);
 }
@@ -159,7 +159,7 @@ pub fn set_owner(tables: &mut [u32], e: usize, link: u32)
 // The abort at endpoint e looks at the waiters from a cursor to an end mark, both 0 for none.
 pub fn set_marks(tables: &mut [u32], e: usize, cursor: u32, end: u32)
     requires { ⌜ Shown (now tables) (IsEndpoint e) ⌝ }
-    ensures { λ _. ⌜ Looks (now (tables .entry)) e cursor end (now (tables .exit)) ⌝ }
+    ensures { λ _. ⌜ SetsPending (now (tables .entry)) e cursor end (now (tables .exit)) ⌝ }
 {
     words::put(tables, words::endpoint_at(Part::Cursor, e), cursor);
     words::put(tables, words::endpoint_at(Part::End, e), end);
@@ -168,7 +168,7 @@ pub fn set_marks(tables: &mut [u32], e: usize, cursor: u32, end: u32)
 // The summary that stands in the tables.
 pub fn load_summary(tables: &[u32]) -> Summary
     requires { ⌜ length (now tables) ≡ 4096 ⌝ }
-    ensures { λ r. ⌜ Loads (now (tables .entry)) r ⌝ }
+    ensures { λ r. ⌜ LoadsSummary (now (tables .entry)) r ⌝ }
 {
     let mut row = [0u32; 8];
     let mut w = 0;
@@ -186,7 +186,7 @@ pub fn load_summary(tables: &[u32]) -> Summary
 // The word of level p and the top word become those of the summary.
 fn store_mark(tables: &mut [u32], sm: Summary, p: u32)
     requires { ⌜ (length (now tables) ≡ 4096) × (p < 256) ⌝ }
-    ensures { λ _. ⌜ Writes (now (tables .entry)) sm p (now (tables .exit)) ⌝ }
+    ensures { λ _. ⌜ WritesLevel (now (tables .entry)) sm p (now (tables .exit)) ⌝ }
 {
     let w = (p / 32) as usize;
     let word = sm.words[w];
@@ -197,7 +197,7 @@ fn store_mark(tables: &mut [u32], sm: Summary, p: u32)
 // Level p is occupied in the summary.
 pub fn mark_occupied(tables: &mut [u32], p: u32)
     requires { ⌜ (length (now tables) ≡ 4096) × (p < 256) ⌝ }
-    ensures { λ _. ⌜ MarksIn (now (tables .entry)) p true (now (tables .exit)) ⌝ }
+    ensures { λ _. ⌜ SetsLevel (now (tables .entry)) p true (now (tables .exit)) ⌝ }
 {
     let sm = load_summary(tables);
     store_mark(tables, sm.occupied(p), p);
@@ -206,7 +206,7 @@ pub fn mark_occupied(tables: &mut [u32], p: u32)
 // Level p is empty in the summary.
 pub fn mark_empty(tables: &mut [u32], p: u32)
     requires { ⌜ (length (now tables) ≡ 4096) × (p < 256) ⌝ }
-    ensures { λ _. ⌜ MarksIn (now (tables .entry)) p false (now (tables .exit)) ⌝ }
+    ensures { λ _. ⌜ SetsLevel (now (tables .entry)) p false (now (tables .exit)) ⌝ }
 {
     let sm = load_summary(tables);
     store_mark(tables, sm.emptied(p), p);

@@ -10,7 +10,7 @@ use lib.Seq.{getD-set-same, getD-set-other}
 use Rattle.machine.specs.Lists.{put}
 use Rattle.machine.proofs.Lists.{Same, same, other, same?, clash, put-same, put-other}
 use Rattle.summary.specs.declared.Summary.{Summary}
-use Rattle.summary.specs.Levels.{bits, wordOf, topOf, wordsOf, summaryOf, IsSummary, Marks}
+use Rattle.summary.specs.Levels.{bits, wordOf, topOf, levelWords, summaryOf, IsSummary, SetsBit}
 use Rattle.summary.proofs.Masks.{bits-agree, set-bit, clear-bit, one-shifted}
 use Rattle.summary.proofs.Words.{busy, busy-true, busy-false, word-zero, word-agree}
 use Rattle.summary.proofs.Words.{words-length, words-at, words-are, summary-is}
@@ -53,21 +53,21 @@ module _ (f : ℕ → Bool) (p : ℕ) where
 
   -- The list of the words changes at word p div 32 alone.
   pub words-put :
-      (x : Bool) (v : ℕ) → p < 256 → v ≡ wordOf (put f p x) (p / 32) → set (wordsOf f) (p / 32) v ≡ wordsOf (put f p x)
+      (x : Bool) (v : ℕ) → p < 256 → v ≡ wordOf (put f p x) (p / 32) → set (levelWords f) (p / 32) v ≡ levelWords (put f p x)
   words-put x v h e =
-      words-are (put f p x) (set (wordsOf f) (p / 32) v)
-      (length-set (wordsOf f) (p / 32) v ∙ words-length f)
+      words-are (put f p x) (set (levelWords f) (p / 32) v)
+      (length-set (levelWords f) (p / 32) v ∙ words-length f)
       (λ w l. go w l (same? w (p / 32)))
     where
-      inside : p / 32 < length (wordsOf f)
+      inside : p / 32 < length (levelWords f)
       inside = rw (words-length f) (omega arith)
 
-      go : (w : ℕ) → w < 8 → Same w (p / 32) → getD (set (wordsOf f) (p / 32) v) w 0 ≡ wordOf (put f p x) w
+      go : (w : ℕ) → w < 8 → Same w (p / 32) → getD (set (levelWords f) (p / 32) v) w 0 ≡ wordOf (put f p x) w
       go w l (same q _) =
-          ap (λ (j : ℕ). getD (set (wordsOf f) (p / 32) v) j 0) q
-          ∙ getD-set-same (wordsOf f) (p / 32) v 0 inside ∙ e ∙ sym (ap (wordOf (put f p x)) q)
+          ap (λ (j : ℕ). getD (set (levelWords f) (p / 32) v) j 0) q
+          ∙ getD-set-same (levelWords f) (p / 32) v 0 inside ∙ e ∙ sym (ap (wordOf (put f p x)) q)
       go w l (other d _) =
-          getD-set-other (wordsOf f) (p / 32) w v 0 d ∙ words-at f w l ∙ sym (word-put-other x w d)
+          getD-set-other (levelWords f) (p / 32) w v 0 d ∙ words-at f w l ∙ sym (word-put-other x w d)
 
   -- The top word changes at bit p div 32, to whether the level's word is then not 0.
   top-put : (x b : Bool) → busy (put f p x) (p / 32) ≡ b → topOf (put f p x) ≡ bits 8 (put (busy f) (p / 32) b)
@@ -172,11 +172,11 @@ module _ (f : ℕ → Bool) (p : ℕ) (h : p < 256) where
 -- A change of every summary that is right for those of sets marks the level.
 marks :
     (s : Summary) (p : ℕ) (x : Bool) (r : Summary → Summary)
-    → ((f : ℕ → Bool) → s ≡ summaryOf f → r (summaryOf f) ≡ summaryOf (put f p x)) → Marks s p x (r s)
+    → ((f : ℕ → Bool) → s ≡ summaryOf f → r (summaryOf f) ≡ summaryOf (put f p x)) → SetsBit s p x (r s)
 marks s p x r g = record { marked = λ f e. ap r e ∙ g f e }
 
 module _ (s : Summary) (p : ℕ) (h : p < 256) where
-  pub marks-occupied : Marks s p true (changed s p (setWord s p) (bitOr (s .top) (one (p / 32))))
+  pub marks-occupied : SetsBit s p true (changed s p (setWord s p) (bitOr (s .top) (one (p / 32))))
   marks-occupied =
       marks s p true (λ t. changed t p (setWord t p) (bitOr (t .top) (one (p / 32))))
       (λ f e.
@@ -186,7 +186,7 @@ module _ (s : Summary) (p : ℕ) (h : p < 256) where
 
   -- The level's word becomes 0.
   pub marks-emptied :
-      clearWord s p ≡ 0 → Marks s p false (changed s p (clearWord s p) (bitAnd (s .top) (butOne (p / 32))))
+      clearWord s p ≡ 0 → SetsBit s p false (changed s p (clearWord s p) (bitAnd (s .top) (butOne (p / 32))))
   marks-emptied z =
       marks s p false (λ t. changed t p (clearWord t p) (bitAnd (t .top) (butOne (p / 32))))
       (λ f e.
@@ -195,7 +195,7 @@ module _ (s : Summary) (p : ℕ) (h : p < 256) where
       (clear-top f p h (sym (ap (λ (t : Summary). clearWord t p) e) ∙ z)))
 
   -- Another level of the word is occupied.
-  pub marks-kept : (clearWord s p ≡ 0 → ⊥) → Marks s p false (changed s p (clearWord s p) (s .top))
+  pub marks-kept : (clearWord s p ≡ 0 → ⊥) → SetsBit s p false (changed s p (clearWord s p) (s .top))
   marks-kept d =
       marks s p false (λ t. changed t p (clearWord t p) (t .top))
       (λ f e.
@@ -203,5 +203,5 @@ module _ (s : Summary) (p : ℕ) (h : p < 256) where
       (keep-top f p h (λ z. d (ap (λ (t : Summary). clearWord t p) e ∙ z))))
 
 -- A summary that is marked is a summary again.
-pub marked-summary : (s : Summary) (p : ℕ) (x : Bool) (r : Summary) → Marks s p x r → IsSummary s → IsSummary r
+pub marked-summary : (s : Summary) (p : ℕ) (x : Bool) (r : Summary) → SetsBit s p x r → IsSummary s → IsSummary r
 marked-summary s p x r m h = record { levels = put (h .levels) p x; shown = m .marked (h .levels) (h .shown) }

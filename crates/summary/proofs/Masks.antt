@@ -11,7 +11,7 @@ use lib.Bits.{bitAnd, bitOr, and-block, or-block}
 use borrow.Author.Tests.{lt-ltb, le-ltb, ne-eqb}
 use Rattle.machine.specs.Lists.{pick, put}
 use Rattle.machine.proofs.Lists.{Same, same, other, same?}
-use Rattle.summary.specs.Levels.{bits, nobody}
+use Rattle.summary.specs.Levels.{bits, noLevel}
 
 -- A number below n + 1 is n or below n.
 pub last? : {k n : ℕ} → k < suc n → (k ≡ n) ⊎ (k < n)
@@ -58,17 +58,17 @@ bits-same (suc n) f g e k h =
     (λ l. bits-same n f g (parts n f g e .1) k l)
     (last? h)
 
-pub bits-nobody : (n : ℕ) → bits n nobody ≡ 0
+pub bits-nobody : (n : ℕ) → bits n noLevel ≡ 0
 unfolding bits
 bits-nobody zero = refl
 bits-nobody (suc n) = rw (bits-nobody n)
 
 -- The number is 0 exactly when nothing below n is in the set.
 pub bits-none : (n : ℕ) (f : ℕ → Bool) → ((k : ℕ) → k < n → f k ≡ false) → bits n f ≡ 0
-bits-none n f h = bits-agree n f nobody h ∙ bits-nobody n
+bits-none n f h = bits-agree n f noLevel h ∙ bits-nobody n
 
 pub bits-zero : (n : ℕ) (f : ℕ → Bool) → bits n f ≡ 0 → (k : ℕ) → k < n → f k ≡ false
-bits-zero n f e = bits-same n f nobody (e ∙ sym (bits-nobody n))
+bits-zero n f e = bits-same n f noLevel (e ∙ sym (bits-nobody n))
 
 -- the operations
 

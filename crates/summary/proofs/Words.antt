@@ -10,7 +10,7 @@ use lib.ListN.{length, getD}
 use lib.Seq.{ext-getD}
 use borrow.Author.Tests.{eq-eqb, ne-eqb, eqb-true, eqb-false, not-true, not-false}
 use Rattle.summary.specs.declared.Summary.{Summary}
-use Rattle.summary.specs.Levels.{wordOf, topOf, wordsOf, summaryOf}
+use Rattle.summary.specs.Levels.{wordOf, topOf, levelWords, summaryOf}
 use Rattle.summary.proofs.Masks.{bits-lt, bits-agree, bits-same, bits-none, bits-zero}
 
 -- Whether word w of the set is not 0.
@@ -54,12 +54,12 @@ top-zero f = (
 
 -- the list of the words
 
-pub words-length : (f : ℕ → Bool) → length (wordsOf f) ≡ 8
-unfolding wordsOf
+pub words-length : (f : ℕ → Bool) → length (levelWords f) ≡ 8
+unfolding levelWords
 words-length f = refl
 
-pub words-at : (f : ℕ → Bool) (w : ℕ) → w < 8 → getD (wordsOf f) w 0 ≡ wordOf f w
-unfolding wordsOf
+pub words-at : (f : ℕ → Bool) (w : ℕ) → w < 8 → getD (levelWords f) w 0 ≡ wordOf f w
+unfolding levelWords
 words-at f zero h = refl
 words-at f (suc zero) h = refl
 words-at f (suc (suc zero)) h = refl
@@ -71,16 +71,16 @@ words-at f (suc (suc (suc (suc (suc (suc (suc zero))))))) h = refl
 words-at f (suc (suc (suc (suc (suc (suc (suc (suc w)))))))) h = absurd (omega arith)
 
 -- A list of eight that has the set's words at each place is the list of the set's words.
-pub words-are : (f : ℕ → Bool) (l : List ℕ) → length l ≡ 8 → ((w : ℕ) → w < 8 → getD l w 0 ≡ wordOf f w) → l ≡ wordsOf f
+pub words-are : (f : ℕ → Bool) (l : List ℕ) → length l ≡ 8 → ((w : ℕ) → w < 8 → getD l w 0 ≡ wordOf f w) → l ≡ levelWords f
 words-are f l e h =
-    ext-getD 0 l (wordsOf f) (e ∙ sym (words-length f)) (λ w b. h w (rw e at b) ∙ sym (words-at f w (rw e at b)))
+    ext-getD 0 l (levelWords f) (e ∙ sym (words-length f)) (λ w b. h w (rw e at b) ∙ sym (words-at f w (rw e at b)))
 
 -- A summary is that of a set if its words and its top word are.
-pub summary-is : (s : Summary) (f : ℕ → Bool) → s .words ≡ wordsOf f → s .top ≡ topOf f → s ≡ summaryOf f
+pub summary-is : (s : Summary) (f : ℕ → Bool) → s .words ≡ levelWords f → s .top ≡ topOf f → s ≡ summaryOf f
 unfolding summaryOf
 summary-is s f p q = λ i. record { words = p i; top = q i }
 
-pub summary-words : (f : ℕ → Bool) → summaryOf f .words ≡ wordsOf f
+pub summary-words : (f : ℕ → Bool) → summaryOf f .words ≡ levelWords f
 unfolding summaryOf
 summary-words f = refl
 
@@ -102,7 +102,7 @@ top-agree f g h = bits-agree 8 (busy f) (busy g) (λ w l. ap (λ (x : ℕ). not 
 pub summary-agree : (f g : ℕ → Bool) → ((p : ℕ) → p < 256 → f p ≡ g p) → summaryOf f ≡ summaryOf g
 summary-agree f g h =
     summary-is (summaryOf f) g
-    (summary-words f ∙ words-are g (wordsOf f) (words-length f) (λ w l. words-at f w l ∙ words w l))
+    (summary-words f ∙ words-are g (levelWords f) (words-length f) (λ w l. words-at f w l ∙ words w l))
     (summary-top f ∙ top-agree f g words)
   where
     words : (w : ℕ) → w < 8 → wordOf f w ≡ wordOf g w
@@ -115,7 +115,7 @@ word-same f g w e = bits-same 32 (λ k. f (32 * w + k)) (λ k. g (32 * w + k)) e
 
 pub summary-word : (f g : ℕ → Bool) → summaryOf f ≡ summaryOf g → (w : ℕ) → w < 8 → wordOf f w ≡ wordOf g w
 summary-word f g e w h =
-    let l : wordsOf f ≡ wordsOf g = sym (summary-words f) ∙ ap (λ (s : Summary). s .words) e ∙ summary-words g in
+    let l : levelWords f ≡ levelWords g = sym (summary-words f) ∙ ap (λ (s : Summary). s .words) e ∙ summary-words g in
     sym (words-at f w h) ∙ ap (λ (x : List ℕ). getD x w 0) l ∙ words-at g w h
 
 pub summary-same : (f g : ℕ → Bool) → summaryOf f ≡ summaryOf g → (p : ℕ) → p < 256 → f p ≡ g p

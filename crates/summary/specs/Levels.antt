@@ -25,16 +25,16 @@ unfoldable pub topOf : (ℕ → Bool) → ℕ
 topOf occupied = bits 8 (λ w. not (eqb (wordOf occupied w) 0))
 
 -- The words 0 to 7 of the set.
-unfoldable pub wordsOf : (ℕ → Bool) → List ℕ
-wordsOf f = wordOf f 0 ∷ wordOf f 1 ∷ wordOf f 2 ∷ wordOf f 3 ∷ wordOf f 4 ∷ wordOf f 5 ∷ wordOf f 6 ∷ wordOf f 7 ∷ []
+unfoldable pub levelWords : (ℕ → Bool) → List ℕ
+levelWords f = wordOf f 0 ∷ wordOf f 1 ∷ wordOf f 2 ∷ wordOf f 3 ∷ wordOf f 4 ∷ wordOf f 5 ∷ wordOf f 6 ∷ wordOf f 7 ∷ []
 
 -- The summary of the set.
 unfoldable pub summaryOf : (ℕ → Bool) → Summary
-summaryOf f = record { words = wordsOf f; top = topOf f }
+summaryOf f = record { words = levelWords f; top = topOf f }
 
 -- The set of no level.
-abbrev pub nobody : ℕ → Bool
-nobody p = false
+abbrev pub noLevel : ℕ → Bool
+noLevel p = false
 
 -- The highest of the levels below n that are in the set.
 unfoldable pub highestIn : ℕ → (ℕ → Bool) → Option ℕ
@@ -53,7 +53,7 @@ pub record IsSummary (s : Summary) : Type 0 where
 
 -- r is s with level p occupied (x is true) or empty (x is false): of whatever set s is the summary, r is the summary
 -- of the set with p put in or left out.
-pub record Marks (s : Summary) (p : ℕ) (x : Bool) (r : Summary) : Type 0 where
+pub record SetsBit (s : Summary) (p : ℕ) (x : Bool) (r : Summary) : Type 0 where
   pub marked : (f : ℕ → Bool) → s ≡ summaryOf f → r ≡ summaryOf (put f p x)
 
 -- l is the highest level of whatever set s is the summary of.

@@ -3,7 +3,7 @@
 ghost use mathlib.Core.Path.{_≡_};
 ghost use mathlib.Core.Bool.{true, false};
 ghost use Prim.Native.Nat.{_<_};
-ghost use Rattle.summary.specs.Levels.{summaryOf, nobody, IsSummary, Marks, Finds};
+ghost use Rattle.summary.specs.Levels.{summaryOf, noLevel, IsSummary, SetsBit, Finds};
 
 pub struct Summary {
     pub words: [u32; 8],
@@ -19,7 +19,7 @@ pub enum Level {
 impl Summary {
     // No level is occupied.
     pub fn new() -> Self
-        ensures { λ r. ⌜ r ≡ summaryOf nobody ⌝ }
+        ensures { λ r. ⌜ r ≡ summaryOf noLevel ⌝ }
     {
         Summary {
             words: [0; 8],
@@ -30,7 +30,7 @@ impl Summary {
     // The summary with level p occupied. Its word is then not 0, so the word's bit is set too.
     pub fn occupied(mut self, p: u32) -> Self
         requires { ⌜ p < 256 ⌝ }
-        ensures { λ r. ⌜ Marks self p true r ⌝ }
+        ensures { λ r. ⌜ SetsBit self p true r ⌝ }
     {
         let w = (p / 32) as usize;
         self.words[w] |= 1u32 << (p % 32);
@@ -41,7 +41,7 @@ impl Summary {
     // The summary with level p empty. The word's bit goes with the last level of the word.
     pub fn emptied(mut self, p: u32) -> Self
         requires { ⌜ p < 256 ⌝ }
-        ensures { λ r. ⌜ Marks self p false r ⌝ }
+        ensures { λ r. ⌜ SetsBit self p false r ⌝ }
     {
         let w = (p / 32) as usize;
         let word = self.words[w] & !(1u32 << (p % 32));

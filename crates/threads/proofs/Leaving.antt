@@ -21,9 +21,9 @@ use Rattle.layout.specs.Words.{placeCode}
 use Rattle.layout.specs.Shows.{Shows}
 use Rattle.layout.proofs.Addresses.{below?}
 use Rattle.store.specs.Steps.{Shown, Does}
-use Rattle.store.specs.Store.{IsThread, IsLine, Runs, Lines}
+use Rattle.store.specs.Store.{IsThread, IsLine, SetsRunning, SetsLine}
 use Rattle.store.specs.Readings.{threadIn}
-use Rattle.queues.specs.Queues.{Stands, Waits}
+use Rattle.queues.specs.Queues.{InLevel, InEndpoint}
 use Rattle.debts.specs.Debts.{Says}
 use Rattle.endings.proofs.Ends.{shown-for}
 use Rattle.endings.proofs.Conditions.{present-thread, ready-stands, queued-waits}
@@ -38,14 +38,14 @@ module _ {m : List ℕ} {t : ℕ} {b : Bool} (R : Says m (IsThread t) b (readyIn
   runs : (s : State) → Shows m s → Able t s → b ≡ false → isRunning t (s .runs) ≡ true
   runs s M h z = able-runs t s (h .place) (sym (R .says s M (h .thread)) ∙ z)
 
-  stands-there : (s : State) → Shows m s → Able t s → b ≡ true → Stands t s
+  stands-there : (s : State) → Shows m s → Able t s → b ≡ true → InLevel t s
   stands-there s M h z = h .stands (not-running (s .runs) (idle s M h z))
 
-  pub stands-asked : b ≡ true → Shown m (Able t) → Shown m (Stands t)
+  pub stands-asked : b ≡ true → Shown m (Able t) → Shown m (InLevel t)
   stands-asked z S =
       record { state = S .state; shows = S .shows; holds = stands-there (S .state) (S .shows) (S .holds) z }
 
-  pub left-level : {n : List ℕ} → b ≡ true → Does m n (Stands t) (unqueue t) → Does m n (Able t) (leavingReady t)
+  pub left-level : {n : List ℕ} → b ≡ true → Does m n (InLevel t) (unqueue t) → Does m n (Able t) (leavingReady t)
   unfolding leaveReady
   left-level {n} z D =
       record {
@@ -53,7 +53,7 @@ module _ {m : List ℕ} {t : ℕ} {b : Bool} (R : Says m (IsThread t) b (readyIn
             subst (λ (x : Bool). Shows n (leaveReady x t s)) (sym (idle s M h z)) (D .shows s M (stands-there s M h z));
       }
 
-  pub left-running : {n : List ℕ} → b ≡ false → Runs m 0 n → Does m n (Able t) (leavingReady t)
+  pub left-running : {n : List ℕ} → b ≡ false → SetsRunning m 0 n → Does m n (Able t) (leavingReady t)
   unfolding leaveReady
   left-running {n} z D =
       record {
@@ -135,11 +135,11 @@ module _ {m : List ℕ} {t code : ℕ} where
   pub blocked-least : (code ≡ 1 → ⊥) → Shown m (Goes t code) → 2 ≤ code
   blocked-least b S = at-least (S .holds) b
 
-  pub sending-asked : (code ≡ 1 → ⊥) → code < 66 → Shown m (Goes t code) → Shown m (Waits t (code - 2))
+  pub sending-asked : (code ≡ 1 → ⊥) → code < 66 → Shown m (Goes t code) → Shown m (InEndpoint t (code - 2))
   sending-asked b c S = shown-for S (λ s G. can-leave G (sending (code - 2)) (at-sending G b c))
 
   pub leave-sending :
-      {n : List ℕ} → (code ≡ 1 → ⊥) → code < 66 → Does m n (Waits t (code - 2)) (leaveEndpoint t (code - 2))
+      {n : List ℕ} → (code ≡ 1 → ⊥) → code < 66 → Does m n (InEndpoint t (code - 2)) (leaveEndpoint t (code - 2))
       → Does m n (Goes t code) (leaving t)
   unfolding leave
   leave-sending {n} b c D =
@@ -150,11 +150,11 @@ module _ {m : List ℕ} {t code : ℕ} where
             (D .shows s M (can-leave G (sending (code - 2)) p));
       }
 
-  pub receiving-asked : 66 ≤ code → code < 130 → Shown m (Goes t code) → Shown m (Waits t (code - 66))
+  pub receiving-asked : 66 ≤ code → code < 130 → Shown m (Goes t code) → Shown m (InEndpoint t (code - 66))
   receiving-asked b c S = shown-for S (λ s G. can-leave G (receiving (code - 66)) (at-receiving G b c))
 
   pub leave-receiving :
-      {n : List ℕ} → 66 ≤ code → code < 130 → Does m n (Waits t (code - 66)) (leaveEndpoint t (code - 66))
+      {n : List ℕ} → 66 ≤ code → code < 130 → Does m n (InEndpoint t (code - 66)) (leaveEndpoint t (code - 66))
       → Does m n (Goes t code) (leaving t)
   unfolding leave
   leave-receiving {n} b c D =
@@ -168,7 +168,7 @@ module _ {m : List ℕ} {t code : ℕ} where
   pub line-asked : 130 ≤ code → Shown m (Goes t code) → Shown m (IsLine (code - 130))
   line-asked b S = shown-for S (λ s G. can-leave G (waiting (code - 130)) (at-line G b))
 
-  pub leave-line : {n : List ℕ} → 130 ≤ code → Lines m (code - 130) 0 n → Does m n (Goes t code) (leaving t)
+  pub leave-line : {n : List ℕ} → 130 ≤ code → SetsLine m (code - 130) 0 n → Does m n (Goes t code) (leaving t)
   unfolding leave
   leave-line {n} b L =
       record {

@@ -17,14 +17,14 @@ use Rattle.layout.specs.Shows.{Shows}
 use Rattle.store.specs.Steps.{Shown, Does, Tells}
 use Rattle.store.specs.Store.{IsThread, prioritising}
 use Rattle.store.specs.Readings.{threadIn}
-use Rattle.queues.specs.Queues.{Loose, Stands, Chooses}
+use Rattle.queues.specs.Queues.{Loose, InLevel, Chooses}
 use Rattle.queues.proofs.Joining.{shown-next, and-then}
 use Rattle.debts.specs.Debts.{Says}
 use Rattle.endings.specs.Results.{Asked, Performs}
 use Rattle.endings.proofs.Ends.{refused, performs-as, performs-for, performs-after, shown-for}
 use Rattle.endings.proofs.Conditions.{present-thread, ready-stands, moved-loose, mid-chooses}
 use Rattle.threads.specs.Threads.{InRange, readyIn, Changes, changing}
-use Rattle.threads.proofs.Runner.{Apart, mid-apart, apart-chooses, apart-thread, apart-enqueue, apart-unqueue}
+use Rattle.threads.proofs.Runner.{RunnerApart, mid-apart, apart-chooses, apart-thread, apart-enqueue, apart-unqueue}
 use Rattle.threads.proofs.Places.{code-absent, code-present, ready-is}
 
 -- Changing the priority.
@@ -40,14 +40,14 @@ module _ {m : List ℕ} {t : ℕ} (p : ℕ) {b : Bool} (R : Says m (IsThread t) 
   said s M h = R .says s M (thread-small s h)
 
   module _ (z : b ≡ true) where
-    stands : (s : State) → Shows m s → Changes t p s → Stands t s
+    stands : (s : State) → Shows m s → Changes t p s → InLevel t s
     stands s M h = ready-stands (sound-mid (h .sound)) (ready-is t s (sym (said s M h) ∙ z))
 
-    pub unqueue-asked : Shown m (Changes t p) → Shown m (Stands t)
+    pub unqueue-asked : Shown m (Changes t p) → Shown m (InLevel t)
     unqueue-asked S =
         record { state = S .state; shows = S .shows; holds = stands (S .state) (S .shows) (S .holds) }
 
-    module _ {n : List ℕ} (D : Does m n (Stands t) (unqueue t)) where
+    module _ {n : List ℕ} (D : Does m n (InLevel t) (unqueue t)) where
       leaves : Does m n (Changes t p) (unqueue t)
       leaves = record { shows = λ s M h. D .shows s M (stands s M h) }
 
@@ -85,7 +85,7 @@ module _ {m : List ℕ} {t : ℕ} (p : ℕ) {b : Bool} (R : Says m (IsThread t) 
 -- Whoever runs is in no queue after it.
 
 apart-moved :
-    (t p : ℕ) (s : State) (b : Bool) → readyIn t s ≡ b → p ≤ 255 → Apart s → Apart (moveReady b t p s)
+    (t p : ℕ) (s : State) (b : Bool) → readyIn t s ≡ b → p ≤ 255 → RunnerApart s → RunnerApart (moveReady b t p s)
 unfolding moveReady unqueue
 apart-moved t p s true e h A =
     apart-enqueue t (ready-is t s e .1) (apart-thread t (withPriority p (s .threads t)) h (apart-unqueue t A))

@@ -20,16 +20,16 @@ use Rattle.queues.specs.Queues.{Chooses}
 use Rattle.endings.proofs.Conditions.{free-of, present-level, running-thread}
 
 -- u, in range, stands in no queue.
-pub record Outside (s : State) (u : ℕ) : Type 0 where
+pub record InNoQueue (s : State) (u : ℕ) : Type 0 where
   pub thread : u ≤ 255
   pub priority : s .threads u .priority ≤ 255
   pub level : (p : ℕ) → Mem u (s .levels p) → ⊥
   pub waiter : (e : ℕ) → Mem u (s .endpoints e .waiters) → ⊥
 
-abbrev pub Apart : State → Type 0
-Apart s = (u : ℕ) → s .runs ≡ some u → Outside s u
+abbrev pub RunnerApart : State → Type 0
+RunnerApart s = (u : ℕ) → s .runs ≡ some u → InNoQueue s u
 
-pub apart-chooses : {s : State} → Apart s → Chooses s
+pub apart-chooses : {s : State} → RunnerApart s → Chooses s
 apart-chooses {s} A =
     record {
       running = λ u r.
@@ -37,7 +37,7 @@ apart-chooses {s} A =
           record { thread = O .thread; level = O .priority; free = free-of s u (O .level) (O .waiter) };
     }
 
-pub mid-apart : {s : State} → Mid s → Apart s
+pub mid-apart : {s : State} → Mid s → RunnerApart s
 mid-apart M u r =
     record {
       thread = running-thread M r;
@@ -47,15 +47,15 @@ mid-apart M u r =
     }
 
 -- Nobody runs.
-pub apart-none : {s : State} → s .runs ≡ none → Apart s
+pub apart-none : {s : State} → s .runs ≡ none → RunnerApart s
 apart-none e u r = absurd (none-some e r)
 
-pub stood-apart : (t : ℕ) (s : State) → Apart (standDown t s)
+pub stood-apart : (t : ℕ) (s : State) → RunnerApart (standDown t s)
 unfolding standDown enqueue
 stood-apart t s u r = absurd (none-some refl r)
 
 -- An entry with a priority in range.
-pub apart-thread : {s : State} (t : ℕ) (x : Thread) → x .priority ≤ 255 → Apart s → Apart (setThread t x s)
+pub apart-thread : {s : State} (t : ℕ) (x : Thread) → x .priority ≤ 255 → RunnerApart s → RunnerApart (setThread t x s)
 apart-thread {s} t x h A u r =
     let O = A u r in
     record {
@@ -68,7 +68,7 @@ apart-thread {s} t x h A u r =
     }
 
 -- Another joins a level, and somebody leaves a queue.
-pub apart-enqueue : {s : State} (t : ℕ) → (s .runs ≡ some t → ⊥) → Apart s → Apart (enqueue t s)
+pub apart-enqueue : {s : State} (t : ℕ) → (s .runs ≡ some t → ⊥) → RunnerApart s → RunnerApart (enqueue t s)
 unfolding enqueue
 apart-enqueue {s} t n A u r =
     let O = A u r in
@@ -82,7 +82,7 @@ apart-enqueue {s} t n A u r =
       waiter = O .waiter;
     }
 
-pub apart-unqueue : {s : State} (t : ℕ) → Apart s → Apart (unqueue t s)
+pub apart-unqueue : {s : State} (t : ℕ) → RunnerApart s → RunnerApart (unqueue t s)
 unfolding unqueue
 apart-unqueue {s} t A u r =
     let O = A u r in
@@ -96,7 +96,7 @@ apart-unqueue {s} t A u r =
       waiter = O .waiter;
     }
 
-apart-endpoint : {s : State} (t e : ℕ) → Apart s → Apart (leaveEndpoint t e s)
+apart-endpoint : {s : State} (t e : ℕ) → RunnerApart s → RunnerApart (leaveEndpoint t e s)
 unfolding leaveEndpoint
 apart-endpoint {s} t e A u r =
     let O = A u r in
@@ -114,12 +114,12 @@ apart-endpoint {s} t e A u r =
           (λ m. O .waiter e (mem-without t u (s .endpoints e .waiters) m .0)) (λ k _. O .waiter k);
     }
 
-apart-ready : {s : State} (t : ℕ) (b : Bool) → Apart s → Apart (leaveReady b t s)
+apart-ready : {s : State} (t : ℕ) (b : Bool) → RunnerApart s → RunnerApart (leaveReady b t s)
 unfolding leaveReady
 apart-ready t true A = apart-none refl
 apart-ready t false A = apart-unqueue t A
 
-pub apart-leave : {s : State} (t : ℕ) (x : Place) → Apart s → Apart (leave x t s)
+pub apart-leave : {s : State} (t : ℕ) (x : Place) → RunnerApart s → RunnerApart (leave x t s)
 unfolding leave
 apart-leave t absent A = A
 apart-leave {s} t able A = apart-ready t (isRunning t (s .runs)) A

@@ -21,7 +21,7 @@ use Rattle.store.specs.Steps.{Shown, Does, Tells}
 use Rattle.store.specs.Store.{IsThread, Any, ticking}
 use Rattle.store.specs.Readings.{runningIn}
 use Rattle.blocks.specs.declared.Block.{Block}
-use Rattle.blocks.specs.Blocks.{refilled, tickedBlock, Loads, IsBlock, Stores}
+use Rattle.blocks.specs.Blocks.{refilled, tickedBlock, LoadsBlock, IsBlock, SetsBlock}
 use Rattle.blocks.proofs.Moves.{ticks-told, ticked-block, ticked-thread}
 use Rattle.queues.specs.Queues.{Loose, Chooses}
 use Rattle.queues.proofs.Joining.{shown-next, and-then}
@@ -31,7 +31,7 @@ use Rattle.endings.specs.Results.{Asked, Calling, Performs}
 use Rattle.endings.proofs.Ends.{performs-after, does-for, shown-for}
 use Rattle.endings.proofs.Conditions.{running-thread, running-loose, running-debtor, present-level}
 use Rattle.threads.specs.Threads.{tickingFor}
-use Rattle.threads.proofs.Runner.{Apart, mid-apart, apart-chooses, apart-thread, stood-apart}
+use Rattle.threads.proofs.Runner.{RunnerApart, mid-apart, apart-chooses, apart-thread, stood-apart}
 
 -- The running thread t.
 abbrev Caller : ℕ → State → Type 0
@@ -66,14 +66,14 @@ least (suc zero) k z = absurd (z refl)
 least (suc (suc r)) k z = omega arith
 
 -- A tick taken, by the thread's block b: the number 1 is that of the last.
-module _ {m : List ℕ} {t : ℕ} {b r : Block} (L : Loads m t b) (e : r ≡ tickedBlock b) where
+module _ {m : List ℕ} {t : ℕ} {b r : Block} (L : LoadsBlock m t b) (e : r ≡ tickedBlock b) where
   told : (s : State) → Shows m s → Caller t s → b .ticks ≡ s .threads t .ticks
   told s M h = ticks-told L .tells s M (caller-small s h)
 
   pub store-asked : Shown m (Caller t) → Shown m (IsThread t) × IsBlock r
   store-asked S = ticked-block L e (caller-asked S)
 
-  module _ {n : List ℕ} (D : Stores m t r n) where
+  module _ {n : List ℕ} (D : SetsBlock m t r n) where
     taken : Does m n (Caller t) (ticking t (refilled (b .ticks - 1)))
     taken = does-for (ticked-thread L e D) caller-small
 
@@ -136,12 +136,12 @@ module _ {m : List ℕ} {link : ℕ} (L : Tells m Any link runningIn) where
 
 -- Whoever runs is in no queue after a tick.
 
-apart-ticks : {t : ℕ} (s : State) → s .threads t .priority ≤ 255 → (n : ℕ) → Apart s → Apart (leaveTicks n t s)
+apart-ticks : {t : ℕ} (s : State) → s .threads t .priority ≤ 255 → (n : ℕ) → RunnerApart s → RunnerApart (leaveTicks n t s)
 unfolding leaveTicks
 apart-ticks {t} s h zero A = stood-apart t (ticking t 5 s)
 apart-ticks {t} s h (suc n) A = apart-thread t (withTicks (suc n) (s .threads t)) h A
 
-apart-tick : {s : State} → Mid s → (x : Option ℕ) → s .runs ≡ x → Apart (tickFor x s)
+apart-tick : {s : State} → Mid s → (x : Option ℕ) → s .runs ≡ x → RunnerApart (tickFor x s)
 unfolding tickFor
 apart-tick M none r = mid-apart M
 apart-tick {s} M (some t) r =

@@ -8,7 +8,7 @@ use Rattle.machine.specs.Machine.{isAble, isRunning, leaveReady, leave, moveRea
 use Rattle.machine.specs.Sound.{Sound, Present}
 use Rattle.layout.specs.declared.Field.{Field}
 use Rattle.store.specs.Readings.{threadIn}
-use Rattle.queues.specs.Queues.{Stands, Waits}
+use Rattle.queues.specs.Queues.{InLevel, InEndpoint}
 
 -- The numbers of create and set priority: a thread and a priority.
 abbrev pub InRange : ℕ → ℕ → Type 0
@@ -22,7 +22,7 @@ readyIn t s = isAble (s .threads t .place) && not (isRunning t (s .runs))
 pub record Able (t : ℕ) (s : State) : Type 0 where
   pub thread : t ≤ 255
   pub place : s .threads t .place ≡ able
-  pub stands : (s .runs ≡ some t → ⊥) → Stands t s
+  pub stands : (s .runs ≡ some t → ⊥) → InLevel t s
 
 abbrev pub leavingReady : ℕ → State → State
 leavingReady t s = leaveReady (isRunning t (s .runs)) t s
@@ -31,8 +31,8 @@ leavingReady t s = leaveReady (isRunning t (s .runs)) t s
 abbrev pub CanLeave : Place → ℕ → State → Type 0
 CanLeave absent t s = ⊥
 CanLeave able t s = Able t s
-CanLeave (sending e) t s = Waits t e s
-CanLeave (receiving e) t s = Waits t e s
+CanLeave (sending e) t s = InEndpoint t e s
+CanLeave (receiving e) t s = InEndpoint t e s
 CanLeave (waiting l) t s = l ≤ 31
 
 -- t is at the place of a number, and can leave it.

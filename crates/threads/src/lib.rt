@@ -34,7 +34,7 @@ pub fn create_thread(tables: &mut [u32], t: usize, p: u32) -> Answer
 {
     let place = store::thread(tables, Field::Place, t);
     if place != 0 {
-        return endings::plain(22);
+        return machine::plain(22);
     }
     store::new_thread(tables, t, p);
     queues::enqueue(tables, t);
@@ -81,7 +81,7 @@ pub fn destroy_thread(tables: &mut [u32], t: usize) -> Answer
 {
     let place = store::thread(tables, Field::Place, t);
     if place == 0 {
-        return endings::plain(21);
+        return machine::plain(21);
     }
     debts::drop_debt(tables, t); // the abort that it owned stands without an owner
     leave(tables, t, place);
@@ -111,7 +111,7 @@ pub fn set_priority(tables: &mut [u32], t: usize, p: u32) -> Answer
 {
     let place = store::thread(tables, Field::Place, t);
     if place == 0 {
-        return endings::plain(21);
+        return machine::plain(21);
     }
     let old = store::thread(tables, Field::Priority, t);
     if old == p {

@@ -11,7 +11,7 @@ use Rattle.machine.specs.Results.{plain, done, blocked}
 use Rattle.machine.specs.Machine.{waitAt, wait}
 use Rattle.layout.specs.Words.{lineCode}
 use Rattle.store.specs.Steps.{Shown, Does, Tells}
-use Rattle.store.specs.Store.{IsThread, IsLine, Lines}
+use Rattle.store.specs.Store.{IsThread, IsLine, SetsLine}
 use Rattle.store.specs.Readings.{lineIn}
 use Rattle.queues.specs.Queues.{Chooses}
 use Rattle.debts.specs.Debts.{Debtor}
@@ -41,26 +41,26 @@ pub line-asked : {m : List ℕ} {t l : ℕ} → Shown m (Dropped t (l ≤ 31)) �
 line-asked S = record { state = S .state; shows = S .shows; holds = S .holds .calling .numbers }
 
 module _ {n o : List ℕ} {t l : ℕ} where
-  lined : {code : ℕ} (x : Line) → lineCode x ≡ code → Lines n l code o → Does n o (Dropped t (l ≤ 31)) (setLine l x)
+  lined : {code : ℕ} (x : Line) → lineCode x ≡ code → SetsLine n l code o → Does n o (Dropped t (l ≤ 31)) (setLine l x)
   lined x k W = record { shows = λ s M h. W .does x k .shows s M (h .calling .numbers) }
 
-  pub taken-asked : {code : ℕ} → Lines n l code o → Shown n (Dropped t (l ≤ 31)) → Shown o Chooses
+  pub taken-asked : {code : ℕ} → SetsLine n l code o → Shown n (Dropped t (l ≤ 31)) → Shown o Chooses
   taken-asked {code} W S =
       let v = line-of code in
       shown-next (lined (v .0) (v .1) W) (λ s M h. line-chooses l (v .0) (dropped-mid h)) S
 
   taken :
-      {p : List ℕ} {a : Answer} → Lines n l 0 o → Performs o p a Chooses done
+      {p : List ℕ} {a : Answer} → SetsLine n l 0 o → Performs o p a Chooses done
       → Performs n p a (Dropped t (l ≤ 31)) (λ s. done (setLine l quiet s))
   taken W D = performs-after (lined quiet refl W) (λ s M h. line-chooses l quiet (dropped-mid h)) D
 
-  pub waiter-asked : {code : ℕ} → Lines n l code o → Shown n (Dropped t (l ≤ 31)) → Shown o (IsThread t)
+  pub waiter-asked : {code : ℕ} → SetsLine n l code o → Shown n (Dropped t (l ≤ 31)) → Shown o (IsThread t)
   waiter-asked {code} W S =
       let v = line-of code in
       shown-next (lined (v .0) (v .1) W) (λ s M h. calling-thread (h .calling)) S
 
   awaits :
-      {p : List ℕ} {a : Answer} → Lines n l (2 + t) o → Suspends o t (130 + l) 0 0 a p
+      {p : List ℕ} {a : Answer} → SetsLine n l (2 + t) o → Suspends o t (130 + l) 0 0 a p
       → Performs n p a (Dropped t (l ≤ 31)) (λ s. blocked (block t (waiting l) 0 0 (setLine l (awaited t) s)))
   awaits W D =
       performs-after (lined (awaited t) (omega arith) W) (λ s M h. calling-thread (h .calling))
@@ -69,7 +69,7 @@ module _ {n o : List ℕ} {t l : ℕ} where
 module _ {m n o p : List ℕ} {t l r : ℕ} {a : Answer} (T : Tells m (IsLine l) r (lineIn l))
     (E : Does m n (Debtor t) (dropDebt t)) where
   pub waited-pending :
-      r ≡ 1 → Lines n l 0 o → Performs o p a Chooses done → Performs m p a (Calling t (l ≤ 31)) (wait t l)
+      r ≡ 1 → SetsLine n l 0 o → Performs o p a Chooses done → Performs m p a (Calling t (l ≤ 31)) (wait t l)
   unfolding wait waitAt
   waited-pending z W D =
       performs-as (dropped-first E (taken W D)) (λ s M h. go s (s .lines l) (T .tells s M (h .numbers)))
@@ -80,7 +80,7 @@ module _ {m n o p : List ℕ} {t l r : ℕ} {a : Answer} (T : Tells m (IsLine l)
       go s (awaited u) j = absurd (omega arith)
 
   pub waited-quiet :
-      r ≤ 1 → (r ≡ 1 → ⊥) → Lines n l (2 + t) o → Suspends o t (130 + l) 0 0 a p
+      r ≤ 1 → (r ≡ 1 → ⊥) → SetsLine n l (2 + t) o → Suspends o t (130 + l) 0 0 a p
       → Performs m p a (Calling t (l ≤ 31)) (wait t l)
   unfolding wait waitAt
   waited-quiet z y W D =

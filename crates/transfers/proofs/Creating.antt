@@ -17,7 +17,7 @@ use Rattle.machine.proofs.Preserved.Debts.{live-present}
 use Rattle.layout.specs.declared.Part.{Part}
 use Rattle.layout.specs.Words.{statusCode}
 use Rattle.store.specs.Steps.{Shown, Does, Tells}
-use Rattle.store.specs.Store.{IsEndpoint, standing, Stands}
+use Rattle.store.specs.Store.{IsEndpoint, standing, SetsStatus}
 use Rattle.store.specs.Readings.{endpointIn}
 use Rattle.queues.specs.Queues.{Loose, Chooses}
 use Rattle.endings.specs.Results.{Asked, Performs}
@@ -57,7 +57,7 @@ module _ {m : List ℕ} {e r : ℕ} (T : Tells m (IsEndpoint e) r (endpointIn Pa
       go s live j = refl
       go s closing j = refl
 
-  module _ {n : List ℕ} (W : Stands m e 1 n) where
+  module _ {n : List ℕ} (W : SetsStatus m e 1 n) where
     made : Does m n (Asked (e ≤ 63)) (standing e live)
     made = does-for (W .does live refl) (λ s h. h .numbers)
 

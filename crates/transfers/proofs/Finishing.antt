@@ -11,7 +11,7 @@ use Rattle.machine.proofs.Preserved.Ready.{none-some}
 use Rattle.layout.specs.Words.{placeCode}
 use Rattle.store.specs.Steps.{Shown}
 use Rattle.store.specs.Store.{IsThread}
-use Rattle.queues.specs.Queues.{Chooses, Blocks}
+use Rattle.queues.specs.Queues.{Chooses, BlocksAt}
 use Rattle.queues.proofs.Joining.{shown-next}
 use Rattle.endings.specs.Results.{Accepts}
 use Rattle.endings.proofs.Ends.{answered, performs-after}
@@ -28,7 +28,7 @@ blocked-chooses : (t : ℕ) (p : Place) (b x : ℕ) (s : State) → Chooses (blo
 unfolding block
 blocked-chooses t p b x s = record { running = λ u r. absurd (none-some refl r) }
 
-module _ {m n : List ℕ} {t code b x : ℕ} (B : Blocks m t code b x n) where
+module _ {m n : List ℕ} {t code b x : ℕ} (B : BlocksAt m t code b x n) where
   pub blocked-asked : Shown m (IsThread t) → Shown n Chooses
   blocked-asked S =
       let v = place-of code in

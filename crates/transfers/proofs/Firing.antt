@@ -14,7 +14,7 @@ use Rattle.machine.proofs.Preserved.Waking.{mid-wakeLine}
 use Rattle.layout.specs.Words.{lineCode, queuesOf}
 use Rattle.layout.specs.Shows.{Shows}
 use Rattle.store.specs.Steps.{Shown, Does, Tells}
-use Rattle.store.specs.Store.{IsLine, Lines}
+use Rattle.store.specs.Store.{IsLine, SetsLine}
 use Rattle.store.specs.Readings.{lineIn}
 use Rattle.queues.specs.Queues.{Loose, Chooses}
 use Rattle.endings.specs.Results.{Asked, Performs}
@@ -45,7 +45,7 @@ line-chooses {s} l x M =
     }
 
 module _ {m : List ℕ} {l r : ℕ} (T : Tells m (IsLine l) r (lineIn l)) where
-  pub fired-quiet : {n : List ℕ} → r ≡ 0 → Lines m l 1 n → Does m n (Asked (l ≤ 31)) (firing l)
+  pub fired-quiet : {n : List ℕ} → r ≡ 0 → SetsLine m l 1 n → Does m n (Asked (l ≤ 31)) (firing l)
   unfolding fire
   fired-quiet {n} z W =
       record { shows = λ s M h. go s M h (s .lines l) (T .tells s M (h .numbers)) }
@@ -78,7 +78,7 @@ module _ {m : List ℕ} {l r : ℕ} (T : Tells m (IsLine l) r (lineIn l)) where
     waiter-loose s x M h = line-loose s l quiet x (awaited-loose (sound-mid (h .sound)) (waiter-is s M h))
 
     pub waiter-asked :
-        {n : List ℕ} {code : ℕ} → Lines m l code n → Shown m (Asked (l ≤ 31)) → Shown n (Loose (r - 2))
+        {n : List ℕ} {code : ℕ} → SetsLine m l code n → Shown m (Asked (l ≤ 31)) → Shown n (Loose (r - 2))
     waiter-asked {code = code} W S =
         let v = line-of code in
         record {
@@ -88,7 +88,7 @@ module _ {m : List ℕ} {l r : ℕ} (T : Tells m (IsLine l) r (lineIn l)) where
         }
 
     pub fired-awaited :
-        {n o : List ℕ} → Lines m l 0 n → Does n o (Loose (r - 2)) (wake (r - 2) 5 0 0)
+        {n o : List ℕ} → SetsLine m l 0 n → Does n o (Loose (r - 2)) (wake (r - 2) 5 0 0)
         → Does m o (Asked (l ≤ 31)) (firing l)
     unfolding fire
     fired-awaited {o = o} W D =

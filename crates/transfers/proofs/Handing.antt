@@ -19,7 +19,7 @@ use Rattle.layout.specs.Shows.{Shows}
 use Rattle.store.specs.Steps.{Shown, Does, Tells}
 use Rattle.store.specs.Store.{IsEndpoint}
 use Rattle.store.specs.Readings.{endpointIn}
-use Rattle.queues.specs.Queues.{Chooses, Comes, Waits}
+use Rattle.queues.specs.Queues.{Chooses, ToEndpoint, InEndpoint}
 use Rattle.debts.specs.Debts.{Says, Debtor, underIn, FirstAt, firstReceiver}
 use Rattle.endings.specs.Results.{Calling, Performs}
 use Rattle.endings.proofs.Ends.{refused, performs-as, performs-after}
@@ -40,7 +40,7 @@ module _ {m : List ℕ} {t e b x r : ℕ} (F : FirstAt m e (66 + e) r) where
   link-is s M h = F .receives refl .tells s M (mid-alike (dropped-mid h) (h .calling .numbers .0))
 
   pub queued-send :
-      {n o : List ℕ} {a : Answer} → r ≡ 0 → Does m n (Comes t e) (joinEndpoint t e) → Suspends n t (2 + e) b x a o
+      {n o : List ℕ} {a : Answer} → r ≡ 0 → Does m n (ToEndpoint t e) (joinEndpoint t e) → Suspends n t (2 + e) b x a o
       → Performs m o a (Dropped t (Sent e b x)) (handing t e b x)
   unfolding sendTo
   queued-send z J H =
@@ -53,14 +53,14 @@ module _ {m : List ℕ} {t e b x r : ℕ} (F : FirstAt m e (66 + e) r) where
     receiver : (s : State) → Shows m s → Dropped t (Sent e b x) s → Queued s (r - 1) e
     receiver s M h = first-queued (dropped-mid h) isReceiving e (link-is s M h) z
 
-    waits : (s : State) → Shows m s → Dropped t (Sent e b x) s → Waits (r - 1) e s
+    waits : (s : State) → Shows m s → Dropped t (Sent e b x) s → InEndpoint (r - 1) e s
     waits s M h = queued-waits (dropped-mid h) (receiver s M h) (h .calling .numbers .0)
 
-    pub receiver-asked : Shown m (Dropped t (Sent e b x)) → Shown m (Waits (r - 1) e)
+    pub receiver-asked : Shown m (Dropped t (Sent e b x)) → Shown m (InEndpoint (r - 1) e)
     receiver-asked S =
         record { state = S .state; shows = S .shows; holds = waits (S .state) (S .shows) (S .holds) }
 
-    module _ {n : List ℕ} (W : Does m n (Waits (r - 1) e) (wakeFrom e (r - 1) 2 b x)) where
+    module _ {n : List ℕ} (W : Does m n (InEndpoint (r - 1) e) (wakeFrom e (r - 1) 2 b x)) where
       wakes : Does m n (Dropped t (Sent e b x)) (wakeFrom e (r - 1) 2 b x)
       wakes = record { shows = λ s M h. W .shows s M (waits s M h) }
 

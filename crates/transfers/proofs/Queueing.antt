@@ -11,7 +11,7 @@ use Rattle.machine.specs.Results.{blocked}
 use Rattle.layout.specs.Words.{placeCode, statusCode}
 use Rattle.store.specs.Steps.{Shown, Does}
 use Rattle.store.specs.Store.{IsThread}
-use Rattle.queues.specs.Queues.{Comes}
+use Rattle.queues.specs.Queues.{ToEndpoint}
 use Rattle.debts.specs.Debts.{Alike}
 use Rattle.endings.specs.Results.{Performs}
 use Rattle.endings.proofs.Ends.{performs-after, shown-for}
@@ -42,13 +42,13 @@ module _ {t e : ℕ} {N : Type 0} (n : N → e ≤ 63) where
   pub alike-asked : {m : List ℕ} → Shown m (Dropped t N) → Shown m (Alike e)
   alike-asked S = shown-for S (λ s h. mid-alike (dropped-mid h) (n (h .calling .numbers)))
 
-  comes : (s : State) → Dropped t N s → Comes t e s
+  comes : (s : State) → Dropped t N s → ToEndpoint t e s
   comes s h = running-comes (dropped-mid h) (dropped-runs h) (n (h .calling .numbers))
 
-  pub comes-asked : {m : List ℕ} → Shown m (Dropped t N) → Shown m (Comes t e)
+  pub comes-asked : {m : List ℕ} → Shown m (Dropped t N) → Shown m (ToEndpoint t e)
   comes-asked S = shown-for S comes
 
-  module _ {m o : List ℕ} (J : Does m o (Comes t e) (joinEndpoint t e)) where
+  module _ {m o : List ℕ} (J : Does m o (ToEndpoint t e) (joinEndpoint t e)) where
     joins : Does m o (Dropped t N) (joinEndpoint t e)
     joins = record { shows = λ s M h. J .shows s M (comes s h) }
 

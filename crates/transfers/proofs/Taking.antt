@@ -8,7 +8,7 @@ use Rattle.machine.specs.declared.Answer.{Answer}
 use Rattle.machine.specs.Lists.{first}
 use Rattle.machine.specs.State.{State, Status, receiving}
 use Rattle.machine.specs.Endpoints.{isSending, senders, joinEndpoint, wakeFrom, dropDebt}
-use Rattle.machine.specs.Results.{plain}
+use Rattle.machine.specs.Results.{plain, receipt}
 use Rattle.machine.specs.Machine.{receiveFrom, receiveAt, receive}
 use Rattle.machine.proofs.Preserved.Waking.{mid-wakeFrom}
 use Rattle.layout.specs.declared.Field.{Field}
@@ -18,12 +18,12 @@ use Rattle.layout.specs.Shows.{Shows}
 use Rattle.store.specs.Steps.{Shown, Does, Tells}
 use Rattle.store.specs.Store.{IsThread, IsEndpoint}
 use Rattle.store.specs.Readings.{endpointIn, threadIn}
-use Rattle.queues.specs.Queues.{Chooses, Comes, Waits}
+use Rattle.queues.specs.Queues.{Chooses, ToEndpoint, InEndpoint}
 use Rattle.debts.specs.Debts.{Debtor, FirstAt, firstSender}
-use Rattle.endings.specs.Results.{Calling, Performs, Accepts, answerOf}
+use Rattle.endings.specs.Results.{Calling, Performs, Accepts}
 use Rattle.endings.proofs.Ends.{refused, performs-as, performs-for, shown-for}
 use Rattle.endings.proofs.Conditions.{mid-chooses, mid-alike, queued-waits, queued-present, present-thread}
-use Rattle.transfers.specs.Transfers.{Dropped, Takes, Suspends, taking, takingFrom}
+use Rattle.transfers.specs.Transfers.{Dropped, TakesFrom, Suspends, taking, takingFrom}
 use Rattle.queues.proofs.Joining.{shown-next}
 use Rattle.transfers.proofs.Callers.{dropped-mid, dropped-first}
 use Rattle.transfers.proofs.Firsts.{first-none, first-some, first-queued, kind-kept}
@@ -31,41 +31,41 @@ use Rattle.transfers.proofs.Queueing.{is-missing, is-closing, is-live, 
 
 -- From a sender u.
 module _ {u e : ℕ} where
-  sender-thread : (s : State) → Takes u e s → u ≤ 255
+  sender-thread : (s : State) → TakesFrom u e s → u ≤ 255
   sender-thread s h = present-thread (dropped-mid (h .dropped)) (queued-present (dropped-mid (h .dropped)) (h .waits))
 
-  sender-waits : (s : State) → Takes u e s → Waits u e s
+  sender-waits : (s : State) → TakesFrom u e s → InEndpoint u e s
   sender-waits s h = queued-waits (dropped-mid (h .dropped)) (h .waits) (h .dropped .calling .numbers)
 
-  chooses : (s : State) → Takes u e s → Chooses (wakeFrom e u 1 0 0 s)
+  chooses : (s : State) → TakesFrom u e s → Chooses (wakeFrom e u 1 0 0 s)
   chooses s h =
       mid-chooses
       (mid-wakeFrom s e u 1 0 0 (dropped-mid (h .dropped)) (h .waits) (omega arith) (omega arith) (omega arith)
       (λ k. (refl, refl)))
 
-  pub sender-asked : {m : List ℕ} → Shown m (Takes u e) → Shown m (IsThread u)
+  pub sender-asked : {m : List ℕ} → Shown m (TakesFrom u e) → Shown m (IsThread u)
   sender-asked S = shown-for S sender-thread
 
-  pub waits-asked : {m : List ℕ} → Shown m (Takes u e) → Shown m (Waits u e)
+  pub waits-asked : {m : List ℕ} → Shown m (TakesFrom u e) → Shown m (InEndpoint u e)
   waits-asked S = shown-for S sender-waits
 
-  module _ {m n : List ℕ} (W : Does m n (Waits u e) (wakeFrom e u 1 0 0)) where
-    wakes : Does m n (Takes u e) (wakeFrom e u 1 0 0)
+  module _ {m n : List ℕ} (W : Does m n (InEndpoint u e) (wakeFrom e u 1 0 0)) where
+    wakes : Does m n (TakesFrom u e) (wakeFrom e u 1 0 0)
     wakes = record { shows = λ s M h. W .shows s M (sender-waits s h) }
 
-    pub taken-asked : Shown m (Takes u e) → Shown n Chooses
+    pub taken-asked : Shown m (TakesFrom u e) → Shown n Chooses
     taken-asked S = shown-next wakes (λ s M h. chooses s h) S
 
     pub taken :
         {o : List ℕ} {a : Answer} {b x : ℕ} → Tells m (IsThread u) b (threadIn Field.Badge u)
         → Tells m (IsThread u) x (threadIn Field.Message u)
-        → Accepts n (answerOf 0 0 b x) a Chooses o → Performs m o a (Takes u e) (takingFrom e u)
+        → Accepts n (receipt b x) a Chooses o → Performs m o a (TakesFrom u e) (takingFrom e u)
     taken {b = b} {x = x} B X A =
         record {
           answers = λ s M h.
               A .performs [] .answers (wakeFrom e u 1 0 0 s) (wakes .shows s M h) (chooses s h)
-              ∙ ap (λ (k : ℕ). answerOf 0 0 k x) (B .tells s M (sender-thread s h))
-              ∙ ap (λ (k : ℕ). answerOf 0 0 (s .threads u .badge) k) (X .tells s M (sender-thread s h));
+              ∙ ap (λ (k : ℕ). receipt k x) (B .tells s M (sender-thread s h))
+              ∙ ap (λ (k : ℕ). receipt (s .threads u .badge) k) (X .tells s M (sender-thread s h));
           shows = λ s M h. A .performs [] .shows (wakeFrom e u 1 0 0 s) (wakes .shows s M h) (chooses s h);
         }
 
@@ -75,7 +75,7 @@ module _ {m : List ℕ} {t e r : ℕ} (F : FirstAt m e (2 + e) r) where
   link-is s M h = F .sends refl .tells s M (mid-alike (dropped-mid h) (h .calling .numbers))
 
   pub queued-receive :
-      {n o : List ℕ} {a : Answer} → r ≡ 0 → Does m n (Comes t e) (joinEndpoint t e) → Suspends n t (66 + e) 0 0 a o
+      {n o : List ℕ} {a : Answer} → r ≡ 0 → Does m n (ToEndpoint t e) (joinEndpoint t e) → Suspends n t (66 + e) 0 0 a o
       → Performs m o a (Dropped t (e ≤ 63)) (taking t e)
   unfolding receiveFrom
   queued-receive z J H =
@@ -85,15 +85,15 @@ module _ {m : List ℕ} {t e r : ℕ} (F : FirstAt m e (2 + e) r) where
       (sym (first-none (senders (s .threads) (s .endpoints e .waiters)) (link-is s M h) z)))
 
   module _ (z : r ≡ 0 → ⊥) where
-    takes : (s : State) → Shows m s → Dropped t (e ≤ 63) s → Takes (r - 1) e s
+    takes : (s : State) → Shows m s → Dropped t (e ≤ 63) s → TakesFrom (r - 1) e s
     takes s M h = record { caller = t; dropped = h; waits = first-queued (dropped-mid h) isSending e (link-is s M h) z }
 
-    pub takes-asked : Shown m (Dropped t (e ≤ 63)) → Shown m (Takes (r - 1) e)
+    pub takes-asked : Shown m (Dropped t (e ≤ 63)) → Shown m (TakesFrom (r - 1) e)
     takes-asked S =
         record { state = S .state; shows = S .shows; holds = takes (S .state) (S .shows) (S .holds) }
 
     pub taken-first :
-        {o : List ℕ} {a : Answer} → Performs m o a (Takes (r - 1) e) (takingFrom e (r - 1))
+        {o : List ℕ} {a : Answer} → Performs m o a (TakesFrom (r - 1) e) (takingFrom e (r - 1))
         → Performs m o a (Dropped t (e ≤ 63)) (taking t e)
     unfolding receiveFrom
     taken-first H =

@@ -7,12 +7,12 @@ use Rattle.machine.specs.Lists.{first}
 use Rattle.machine.specs.State.{State, Place}
 use Rattle.machine.specs.Scheduling.{block}
 use Rattle.machine.specs.Endpoints.{senders, receivers, wakeFrom, dropDebt}
-use Rattle.machine.specs.Results.{Result, accept, blocked}
+use Rattle.machine.specs.Results.{Result, accept, blocked, receipt}
 use Rattle.machine.specs.Machine.{fire, sendTo, receiveFrom}
 use Rattle.machine.specs.Sound.{Queued}
 use Rattle.layout.specs.Words.{placeCode}
 use Rattle.store.specs.Store.{IsThread}
-use Rattle.endings.specs.Results.{Calling, Performs, answerOf}
+use Rattle.endings.specs.Results.{Calling, Performs}
 
 -- The running thread t makes a call, and its ownership or note has gone.
 pub record Dropped (t : ℕ) (N : Type 0) (s : State) : Type 0 where
@@ -21,7 +21,7 @@ pub record Dropped (t : ℕ) (N : Type 0) (s : State) : Type 0 where
   pub is : s ≡ dropDebt t before
 
 -- In a call so far, u waits at endpoint e.
-pub record Takes (u e : ℕ) (s : State) : Type 0 where
+pub record TakesFrom (u e : ℕ) (s : State) : Type 0 where
   pub caller : ℕ
   pub dropped : Dropped caller (e ≤ 63) s
   pub waits : Queued s u e
@@ -46,4 +46,4 @@ taking t e s = receiveFrom (first (senders (s .threads) (s .endpoints e .waiters
 -- The message of sender u is taken.
 abbrev pub takingFrom : ℕ → ℕ → State → Result
 takingFrom e u s =
-    accept (answerOf 0 0 (s .threads u .badge) (s .threads u .message)) [] (wakeFrom e u 1 0 0 s)
+    accept (receipt (s .threads u .badge) (s .threads u .message)) [] (wakeFrom e u 1 0 0 s)

@@ -8,7 +8,7 @@ ghost use Rattle.store.specs.Store.{IsThread};
 ghost use Rattle.queues.specs.Queues.{Chooses};
 ghost use Rattle.debts.specs.Debts.{Alike};
 ghost use Rattle.endings.specs.Results.{Asked, Calling, Performs};
-ghost use Rattle.transfers.specs.Transfers.{Dropped, Takes, Suspends, firing, handing, taking};
+ghost use Rattle.transfers.specs.Transfers.{Dropped, TakesFrom, Suspends, firing, handing, taking};
 ghost use Rattle.transfers.specs.Transfers.{takingFrom};
 use layout::Field;
 use layout::Part;
@@ -20,7 +20,7 @@ fn suspend(tables: &mut [u32], t: usize, place: u32, badge: u32, message: u32) -
     ensures { λ r. ⌜ Suspends (now (tables .entry)) t place badge message r (now (tables .exit)) ⌝ }
 {
     queues::block(tables, t, place, badge, message);
-    let answer = endings::plain(1);
+    let answer = machine::plain(1);
     endings::accept(tables, answer)
 }
 
@@ -31,7 +31,7 @@ pub fn create_endpoint(tables: &mut [u32], e: usize) -> Answer
 {
     let status = store::endpoint(tables, Part::Status, e);
     if status != 0 {
-        return endings::plain(24);
+        return machine::plain(24);
     }
     store::set_status(tables, e, 1);
     endings::done(tables)
@@ -86,14 +86,14 @@ pub fn send(tables: &mut [u32], t: usize, e: usize, badge: u32, message: u32) ->
 {
     let status = store::endpoint(tables, Part::Status, e);
     if status == 0 {
-        return endings::plain(23);
+        return machine::plain(23);
     }
     if status == 2 {
-        return endings::plain(25);
+        return machine::plain(25);
     }
     let under = debts::under_abort(tables, e, badge);
     if under {
-        return endings::plain(26);
+        return machine::plain(26);
     }
     debts::drop_debt(tables, t);
     hand(tables, t, e, badge, message)
@@ -101,8 +101,8 @@ pub fn send(tables: &mut [u32], t: usize, e: usize, badge: u32, message: u32) ->
 
 // The message of sender u, who waits at endpoint e, is taken; its badge and message are read before it is woken.
 fn take_from(tables: &mut [u32], e: usize, u: usize) -> Answer
-    requires { ⌜ Shown (now tables) (Takes u e) ⌝ }
-    ensures { λ r. ⌜ Performs (now (tables .entry)) (now (tables .exit)) r (Takes u e) (takingFrom e u) ⌝ }
+    requires { ⌜ Shown (now tables) (TakesFrom u e) ⌝ }
+    ensures { λ r. ⌜ Performs (now (tables .entry)) (now (tables .exit)) r (TakesFrom u e) (takingFrom e u) ⌝ }
 {
     let badge = store::thread(tables, Field::Badge, u);
     let message = store::thread(tables, Field::Message, u);
@@ -136,10 +136,10 @@ pub fn receive(tables: &mut [u32], t: usize, e: usize) -> Answer
 {
     let status = store::endpoint(tables, Part::Status, e);
     if status == 0 {
-        return endings::plain(23);
+        return machine::plain(23);
     }
     if status == 2 {
-        return endings::plain(25);
+        return machine::plain(25);
     }
     debts::drop_debt(tables, t);
     take(tables, t, e)
@@ -152,7 +152,7 @@ pub fn wait(tables: &mut [u32], t: usize, l: usize) -> Answer
 {
     let line = store::line(tables, l);
     if 1 < line {
-        return endings::plain(27);
+        return machine::plain(27);
     }
     debts::drop_debt(tables, t);
     if line == 1 {

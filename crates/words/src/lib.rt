@@ -2,7 +2,7 @@
 // arithmetic of the layout stands here and in specs/Addresses of crate layout, and nowhere else.
 ghost use mathlib.Core.Path.{_≡_};
 ghost use Prim.Native.Nat.{_≤_, _<_};
-ghost use lib.ListN.{length, set};
+ghost use lib.ListN.{length, set, replicate};
 ghost use Rattle.layout.specs.Addresses.{column, offset, at, linkAt, word, afterAt, beforeAt, ofThread, ofEndpoint};
 ghost use Rattle.layout.specs.Addresses.{ofLine, summary, top, running, unused, next, prev, head, tail};
 ghost use Rattle.words.specs.Access.{Address};
@@ -252,4 +252,15 @@ pub fn tail(tables: &[u32], q: usize) -> usize
     ensures { λ r. ⌜ r ≡ word (now (tables .entry)) (linkAt (tail q)) ⌝ }
 {
     get(tables, tail_at(q)) as usize
+}
+
+// All words become 0.
+pub fn clear(words: &mut [u32])
+    ensures { λ _. ⌜ now (words .exit) ≡ replicate (length (now (words .entry))) 0 ⌝ }
+{
+    let mut i = 0;
+    while i < words.len() {
+        words[i] = 0;
+        i += 1;
+    }
 }

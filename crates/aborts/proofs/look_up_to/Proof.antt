@@ -1,11 +1,11 @@
 -- The loop of looks. The invariant is Left; the measure is how many looks are left.
 use borrow.Author.Needs.{needs}
-use Rattle.aborts.proofs.Looks.{Left, left-start, looks-done, looks-out, cursor-asked, looks-again}
+use Rattle.aborts.proofs.Looks.{LooksLeft, left-start, looks-done, looks-out, cursor-asked, looks-again}
 use Rattle.aborts.proofs.look_up_to.Statement.{statement}
 use Rattle.aborts.proofs.look_up_to.Tie as tie
 
 abbrev Inv-loop : tie.InvT-loop
-Inv-loop tables₀ e allowance left₀ tables left = Left tables₀ tables e allowance left
+Inv-loop tables₀ e allowance left₀ tables left = LooksLeft tables₀ tables e allowance left
 
 abbrev μ-loop : tie.MeasureT-loop
 μ-loop tables₀ e allowance left₀ tables left = left

@@ -1,6 +1,5 @@
--- `blocks::lend_to_tick` meets its contract: a walk of its MIR, by hand. The local that holds the block is lent to
--- `tick` for a lifetime that is made for the call, and taken back at its last value. All that the proof knows of `tick`
--- is that it meets its contract.
+-- A walk of its MIR, by hand. The local that holds the block is lent to `tick` for a lifetime that is made for the
+-- call, and taken back at its last value. All that the proof knows of `tick` is that it meets its contract.
 use mathlib.Core.Path.{_≡_, refl}
 use Prim.Native.Nat.{ℕ}
 use mathlib.Core.List.{[], _∷_}

@@ -1,6 +1,6 @@
--- `blocks::tick` meets its contract: a walk of its MIR, by hand. The borrow is opened, the block is copied and passed
--- to `ticked`, what comes back is stored in its place, and the borrow is closed there. All that the proof knows of
--- `ticked` is that it meets its contract.
+-- A walk of its MIR, by hand. The borrow is opened, the block is copied and passed to `ticked`, what comes back is
+-- stored in its place, and the borrow is closed there. All that the proof knows of `ticked` is that it meets its
+-- contract.
 use mathlib.Core.Path.{_≡_, refl}
 use Prim.Native.Nat.{ℕ}
 use mathlib.Core.List.{List, [], _∷_}

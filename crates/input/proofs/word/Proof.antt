@@ -1,4 +1,4 @@
--- `input::word` meets its contract: the sum of its bytes, each at its weight, and none of its steps overflows.
+-- The sum of its bytes, each at its weight, and none of its steps overflows.
 use native.Mathlib.Omega.{arith}
 use borrow.Author.Needs.{needs}
 use Rattle.input.proofs.word.Statement.{statement}

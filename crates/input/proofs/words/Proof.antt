@@ -1,4 +1,4 @@
--- `input::words` meets its contract: each turn makes one word more, and those left to make get fewer.
+-- Each turn makes one word more, and those left to make get fewer.
 use Prim.Native.Nat.{_-_, _/_}
 use mathlib.Core.Path.{_≡_, refl}
 use lib.ListN.{length}

@@ -1,4 +1,4 @@
--- `journal::abort` meets its contract: each arm is given what `number_in` answered.
+-- Each arm is given what `number_in` answered.
 use Rattle.journal.proofs.Answers.{abort-nothing, abort-one, number-is, number-wrong}
 use mathlib.Core.Path.{sym, _∙_}
 use borrow.Author.Needs.{needs}

@@ -1,4 +1,4 @@
--- `journal::answer` meets its contract: each arm is given its constructor, and `in_range` its test.
+-- Each arm is given its constructor, and `in_range` its test.
 use mathlib.Core.Path.{sym, _∙_}
 use borrow.Author.Needs.{needs}
 use Rattle.journal.proofs.answer.Statement.{statement}

@@ -1,6 +1,6 @@
--- `journal::call_at` meets its contract: with 0 words taken no call is named, else the top bits are 1.
+-- With 0 words taken no call is named, else the top bits are 1.
 use mathlib.Core.Path.{sym, ap, _∙_}
-use Rattle.journal.specs.Steps.{named}
+use Rattle.journal.specs.Steps.{asNamed}
 use Rattle.journal.proofs.Causes.{caused}
 use Rattle.journal.proofs.Causes.Cause.{wrong-word}
 use Rattle.journal.proofs.Answers.{call-begun}
@@ -15,7 +15,7 @@ returns : tie.Need-returns
 returns c =
     let a = c .before .before .before .args in
     let zero = sym (c .before .words-taken .ensures) ∙ c .if1 .taken in
-    ap named (sym (caused (a .word) (a .rest .now) (wrong-word zero)))
+    ap asNamed (sym (caused (a .word) (a .rest .now) (wrong-word zero)))
 
 call-of-requires : tie.Need-call-of-requires
 call-of-requires c κs = search needs
@@ -24,7 +24,7 @@ returns-2 : tie.Need-returns-2
 returns-2 c =
     let a = c .before .before .before .before .args in
     c .call-of .ensures
-    ∙ ap named
+    ∙ ap asNamed
     (call-begun (a .word) (a .rest .now) (λ z. c .before .if1 .left (c .before .before .words-taken .ensures ∙ z)))
 
 pub call-at-spec : {M : Type 1} → statement M

@@ -1,6 +1,6 @@
--- `journal::call_of` meets its contract: a send and an abort read on, and no other call does.
+-- A send and an abort read on, and no other call does.
 use mathlib.Core.Path.{ap, _∙_}
-use Rattle.journal.specs.Steps.{named}
+use Rattle.journal.specs.Steps.{asNamed}
 use Rattle.journal.specs.Words.{callOf, sendOf}
 use Rattle.journal.proofs.Answers.{unused-above, rest-unused}
 use borrow.Author.Needs.{needs}
@@ -36,7 +36,7 @@ returns-3 c =
     let a = c .before .before .before .args in
     let other = c .before .match .rest in
     c .short-call .ensures
-    ∙ ap named (rest-unused (a .subject) (a .argument) (a .rest .now) (a .number) (other .0 .1) (other .1))
+    ∙ ap asNamed (rest-unused (a .subject) (a .argument) (a .rest .now) (a .number) (other .0 .1) (other .1))
 
 pub call-of-spec : {M : Type 1} → statement M
 call-of-spec =

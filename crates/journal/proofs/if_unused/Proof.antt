@@ -1,4 +1,4 @@
--- `journal::if_unused` meets its contract: its test is the one that `unused` makes.
+-- Its test is the one that `unused` makes.
 use Rattle.journal.proofs.Answers.{named-name}
 use Rattle.journal.proofs.Options.{unused-not-0}
 use Rattle.journal.proofs.if_unused.Statement.{statement}

@@ -1,13 +1,13 @@
--- `journal::number_in` meets its contract: the first word, if there is one, decides.
+-- The first word, if there is one, decides.
 use mathlib.Core.Path.{sym, ap}
-use Rattle.journal.specs.Steps.{number}
+use Rattle.journal.specs.Steps.{asNumber}
 use Rattle.journal.proofs.Options.{number-missing, number-first, number-other}
 use borrow.Author.Needs.{needs}
 use Rattle.journal.proofs.number_in.Statement.{statement}
 use Rattle.journal.proofs.number_in.Tie as tie
 
 returns : tie.Need-returns
-returns c = ap number (sym (number-missing (c .before .args .top) (c .before .args .rest .now) (c .if1 .taken)))
+returns c = ap asNumber (sym (number-missing (c .before .args .top) (c .before .args .rest .now) (c .if1 .taken)))
 
 shared-slice-read-word : tie.Need-shared-slice-read-word
 shared-slice-read-word c = search needs
@@ -15,12 +15,12 @@ shared-slice-read-word c = search needs
 returns-2 : tie.Need-returns-2
 returns-2 c =
     let a = c .before .before .before .args in
-    ap number (sym (number-first (a .top) (a .rest .now) (c .before .before .if1 .left) (c .if2 .taken)))
+    ap asNumber (sym (number-first (a .top) (a .rest .now) (c .before .before .if1 .left) (c .if2 .taken)))
 
 returns-3 : tie.Need-returns-3
 returns-3 c =
     let a = c .before .before .before .args in
-    ap number (sym (number-other (a .top) (a .rest .now) (c .if2 .left)))
+    ap asNumber (sym (number-other (a .top) (a .rest .now) (c .if2 .left)))
 
 pub number-in-spec : {M : Type 1} → statement M
 number-in-spec = tie.close (tie.spec returns shared-slice-read-word returns-2 returns-3)

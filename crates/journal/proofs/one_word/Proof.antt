@@ -1,4 +1,4 @@
--- `journal::one_word` meets its contract: the word is the callee's.
+-- The word is the callee's.
 use borrow.Author.Needs.{needs}
 use Rattle.journal.proofs.one_word.Statement.{statement}
 use Rattle.journal.proofs.one_word.Tie as tie

@@ -1,5 +1,4 @@
--- `journal::read` meets its contract. A word is below 2 ^ 32, so its top byte is in the table, and at most three words
--- are taken, so the sum fits.
+-- A word is below 2 ^ 32, so its top byte is in the table, and at most three words are taken, so the sum fits.
 use mathlib.Core.Path.{sym, _∙_}
 use native.Mathlib.Omega.{arith}
 use lib.ListN.{getD}

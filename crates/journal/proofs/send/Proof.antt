@@ -1,5 +1,5 @@
--- `journal::send` meets its contract: each arm is given what `number_in` answered. A badge that was found shows that
--- the rest has a first word, so a part of it begins behind that.
+-- Each arm is given what `number_in` answered. A badge that was found shows that the rest has a first word, so a part
+-- of it begins behind that.
 use mathlib.Core.Path.{_≡_, sym, _∙_}
 use mathlib.Core.Option.{some}
 use Prim.Native.Nat.{_≤_}

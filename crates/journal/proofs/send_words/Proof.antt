@@ -1,4 +1,4 @@
--- `journal::send_words` meets its contract: the first word is the callee's.
+-- The first word is the callee's.
 use borrow.Author.Needs.{needs}
 use Rattle.journal.proofs.send_words.Statement.{statement}
 use Rattle.journal.proofs.send_words.Tie as tie

@@ -1,8 +1,8 @@
--- `journal::short_call` meets its contract: each arm knows the number, and the table of calls computes there.
+-- Each arm knows the number, and the table of calls computes there.
 use mathlib.Core.Path.{sym, ap}
 use mathlib.Core.Option.{some}
 use Rattle.machine.specs.declared.Call.the-variants.{Tick, Yield}
-use Rattle.journal.specs.Steps.{named}
+use Rattle.journal.specs.Steps.{asNamed}
 use Rattle.journal.specs.Words.{callOf, unused}
 use Rattle.journal.proofs.Answers.{unused-above, no-short}
 use borrow.Author.Needs.{needs}
@@ -87,7 +87,7 @@ returns-10 c = rw (c .match .keys10)
 returns-11 : tie.Need-returns-11
 returns-11 c =
     let a = c .before .args in
-    ap named (sym (no-short (a .subject) (a .argument) (a .number) (c .match .rest)))
+    ap asNamed (sym (no-short (a .subject) (a .argument) (a .number) (c .match .rest)))
 
 pub short-call-spec : {M : Type 1} → statement M
 short-call-spec =

@@ -1,4 +1,4 @@
--- `journal::words_of` meets its contract: each arm is given its constructor, and a call in range fits the parts.
+-- Each arm is given its constructor, and a call in range fits the parts.
 use lib.Dec.{lit<}
 use Rattle.journal.specs.Words.{wordsOf}
 use Rattle.journal.proofs.Answers.{fits-of}

@@ -1,4 +1,4 @@
--- `journal_edges::show_all` is safe and ends: the places left to show get fewer.
+-- Safe, and it ends: the places left to show get fewer.
 use lib.ListN.{length}
 use Prim.Native.Nat.{_+_, _-_, _≤_}
 use borrow.Author.Needs.{needs}

@@ -1,4 +1,4 @@
--- `journal_edges::show_tops` is safe and ends: the top bytes left to show get fewer.
+-- Safe, and it ends: the top bytes left to show get fewer.
 use Prim.Native.Nat.{_-_, _≤_}
 use borrow.Author.Needs.{needs}
 use Rattle.journal_edges.proofs.show_tops.Statement.{statement}

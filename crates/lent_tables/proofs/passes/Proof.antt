@@ -35,7 +35,7 @@ endpoints-requires c κs =
     let at-pre = at-levels .before .before .before .before .before .before in (
       at-pre .pre .0,
       at-levels .levels .kept .1 .0 ∙ cleared-length (at-pre .pre .1),
-      at-levels .levels .ensures .marks (not-false _ (at-if2 .if2 .left)),
+      at-levels .levels .ensures .meets (not-false _ (at-if2 .if2 .left)),
     )
 
 same-length-2 : tie.Need-same-length-2
@@ -72,7 +72,7 @@ places-requires c κs =
       at-pre .pre .0,
       at-endpoints .endpoints .kept .1 .0 ∙
           (at-levels .levels .kept .1 .0 ∙ cleared-length (at-pre .pre .1)),
-      at-endpoints .endpoints .ensures .marks
+      at-endpoints .endpoints .ensures .meets
           (not-false _ (at-if3 .if3 .left)),
     )
 

@@ -1,4 +1,4 @@
--- `lent_tables_edges::show_tables` is safe and ends: the tables left to show get fewer, and each is of 4,096 words.
+-- Safe, and it ends: the tables left to show get fewer, and each is of 4,096 words.
 use Prim.Native.Nat.{_-_, _≤_}
 use mathlib.Core.Path.{_≡_}
 use lib.ListN.{length}

@@ -1,4 +1,4 @@
--- `lister::add` meets its contract: the line stands at the front of the part lent for it.
+-- The line stands at the front of the part lent for it.
 use Prim.Native.Nat.{_+_, _-_}
 use mathlib.Core.Path.{refl}
 use borrow.Author.Needs.{needs}

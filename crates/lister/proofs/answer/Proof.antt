@@ -1,4 +1,4 @@
--- `lister::answer` meets its contract: the words of the bytes held are read and their call is taken.
+-- The words of the bytes held are read and their call is taken.
 use Prim.Native.Nat.{_≤_}
 use native.Mathlib.Omega.{arith}
 use mathlib.Core.Path.{_≡_, sym, ap}

@@ -1,4 +1,4 @@
--- `lister::byte` meets its contract: nothing goes on, the byte is held, or it was the last of a call.
+-- Nothing goes on, the byte is held, or it was the last of a call.
 use Prim.Native.Nat.{_+_, _≤_}
 use native.Mathlib.Omega.{arith}
 use mathlib.Core.Path.{_≡_, _∙_, sym, ap}

@@ -1,4 +1,4 @@
--- `lister::feed` meets its contract: each turn takes one byte more of the part, and its lines have room.
+-- Each turn takes one byte more of the part, and its lines have room.
 use Prim.Native.Nat.{_+_, _-_, _*_, _≤_, _<_}
 use native.Mathlib.Omega.{arith}
 use mathlib.Core.Path.{_≡_}

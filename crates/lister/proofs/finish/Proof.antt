@@ -1,4 +1,4 @@
--- `lister::finish` meets its contract: stopped, nothing held, or the line of 18.
+-- Stopped, nothing held, or the line of 18.
 use mathlib.Core.List.{[]}
 use borrow.Author.Needs.{needs}
 use Rattle.lent_tables.specs.Entries.{lent}

@@ -1,4 +1,4 @@
--- `lister::hold` meets its contract: the byte stands behind those held, and they are one more.
+-- The byte stands behind those held, and they are one more.
 use mathlib.Core.Path.{refl}
 use borrow.Author.Needs.{needs}
 use Rattle.lister.proofs.hold.Statement.{statement}

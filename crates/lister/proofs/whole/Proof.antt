@@ -1,4 +1,4 @@
--- `lister::whole` meets its contract: its tests are those of the definition.
+-- Its tests are those of the definition.
 use Prim.Native.Nat.{_^_, _/_}
 use native.Mathlib.Omega.{arith}
 use borrow.Author.Needs.{needs}

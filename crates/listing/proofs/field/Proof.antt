@@ -1,4 +1,4 @@
--- `listing::field` meets its contract: the number, and then the space.
+-- The number, and then the space.
 use mathlib.Core.Path.{refl}
 use native.Mathlib.Omega.{arith}
 use borrow.Author.Needs.{needs}

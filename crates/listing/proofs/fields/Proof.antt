@@ -1,4 +1,4 @@
--- `listing::fields` meets its contract: the four numbers, one after the other.
+-- The four numbers, one after the other.
 use native.Mathlib.Omega.{arith}
 use borrow.Author.Needs.{needs}
 use Rattle.listing.proofs.Parts.{length-answer, answer-wrote}

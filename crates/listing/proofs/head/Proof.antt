@@ -1,4 +1,4 @@
--- `listing::head` meets its contract: the copy of the header, at the front of a buffer that has room for it.
+-- The copy of the header, at the front of a buffer that has room for it.
 use native.Mathlib.Omega.{arith}
 use borrow.Author.Needs.{needs}
 use Rattle.listing.proofs.Texts.{copied}

@@ -1,4 +1,4 @@
--- `listing::line` meets its contract: the parts are written one after the other, and 96 bytes have room for them all.
+-- The parts are written one after the other, and 96 bytes have room for them all.
 use Prim.Native.Nat.{_+_, _≤_}
 use mathlib.Core.Path.{refl}
 use native.Mathlib.Omega.{arith}

@@ -1,5 +1,5 @@
--- `listing::number` meets its contract. The invariant: i is the place of the last digit left, and the digits left,
--- written to the buffer as it is, give what n's give, written to it as it was. The measure is the number left.
+-- The invariant: i is the place of the last digit left, and the digits left, written to the buffer as it is, give
+-- what n's give, written to it as it was. The measure is the number left.
 use Prim.Native.Nat.{_+_, _/_, _<_}
 use mathlib.Core.Path.{_≡_, refl, _∙_}
 use native.Mathlib.Omega.{arith}

@@ -1,4 +1,4 @@
--- `listing::who` meets its contract, by the two cases of `Runner`: one byte, or a word's digits, ten at most.
+-- By the two cases of `Runner`: one byte, or a word's digits, ten at most.
 use mathlib.Core.Path.{refl, ap}
 use native.Mathlib.Nat.{lt-trans}
 use native.Mathlib.Omega.{arith}

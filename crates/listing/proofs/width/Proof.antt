@@ -1,5 +1,4 @@
--- `listing::width` meets its contract. The invariant: k and the digits left are one more than the digits of n.
--- The measure is the number left.
+-- The invariant: k and the digits left are one more than the digits of n. The measure is the number left.
 use Prim.Native.Nat.{_+_}
 use mathlib.Core.Path.{_≡_}
 use native.Mathlib.Omega.{arith}

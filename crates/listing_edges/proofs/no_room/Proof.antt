@@ -1,4 +1,4 @@
--- `listing_edges::no_room` meets its contract: what `line` promises of a buffer of 95 bytes.
+-- What `line` promises of a buffer of 95 bytes.
 use mathlib.Core.Path.{_∙_, sym}
 use lib.Dec.{lit<}
 use borrow.Author.Needs.{needs}

@@ -9,7 +9,7 @@ use Rattle.machine.specs.Lists.{Distinct}
 use Rattle.machine.specs.State.{State}
 use Rattle.machine.specs.Endpoints.{wakeFrom}
 use Rattle.machine.specs.Results.{Look}
-use Rattle.machine.specs.Aborts.{Removal, oneMore, removeUpTo, look, Looked, after, pendingAt, lookUpTo}
+use Rattle.machine.specs.Aborts.{Removal, oneMore, removeUpTo, look, Looked, afterLook, pendingAt, lookUpTo}
 use Rattle.machine.proofs.Lists.{without-first}
 use Rattle.machine.proofs.Calls.Marks.{wake-waiters, look-next}
 
@@ -20,13 +20,13 @@ Removed s e j r =
     → j + length (r .endpoints e .waiters) ≡ length (s .endpoints e .waiters)
 
 -- A removal of up to n waiters stops when none is left or n are removed; a queue gets shorter by what it counts.
-pub record Removes (n e : ℕ) (s : State) (r : Removal) : Type 0 where
+pub record RemovesUpTo (n e : ℕ) (s : State) (r : Removal) : Type 0 where
   pub most : r .count ≤ n
   pub stop : (r .state .endpoints e .waiters ≡ []) ⊎ (r .count ≡ n)
   pub sum : Removed s e (r .count) (r .state)
 
 pub removes :
-    (n : ℕ) (l : List ℕ) (e : ℕ) (s : State) → s .endpoints e .waiters ≡ l → Removes n e s (removeUpTo n l e s)
+    (n : ℕ) (l : List ℕ) (e : ℕ) (s : State) → s .endpoints e .waiters ≡ l → RemovesUpTo n e s (removeUpTo n l e s)
 unfolding removeUpTo oneMore
 removes zero l e s h = record { most = omega arith; stop = inr refl; sum = λ d. omega arith }
 removes (suc n) [] e s h = record { most = omega arith; stop = inl h; sum = λ d. omega arith }
@@ -40,7 +40,7 @@ removes (suc n) (w ∷ l) e s h = go (removes n _ e (wakeFrom e w 4 0 0 s) refl)
         let c : Distinct (w ∷ l) = rw h at d in
         omega (arith, R (rw (rest d) (c .1)), ap length (rest d), ap length h)
 
-    go : {r : Removal} → Removes n e (wakeFrom e w 4 0 0 s) r → Removes (suc n) e s (oneMore r)
+    go : {r : Removal} → RemovesUpTo n e (wakeFrom e w 4 0 0 s) r → RemovesUpTo (suc n) e s (oneMore r)
     go {r} R =
         record {
           most = omega (arith, R .most);
@@ -53,13 +53,13 @@ abbrev pub Spent : State → ℕ → ℕ → State → Type 0
 Spent s e k r = Distinct (pendingAt e s) → k + length (pendingAt e r) ≡ length (pendingAt e s)
 
 -- Up to n looks stop when nothing is left to look at or n are made; what is pending gets shorter by the looks.
-pub record Looks (n e : ℕ) (s : State) (r : Looked) : Type 0 where
+pub record LooksUpTo (n e : ℕ) (s : State) (r : Looked) : Type 0 where
   pub most : length (r .looks) ≤ n
   pub stop : (pendingAt e (r .state) ≡ []) ⊎ (length (r .looks) ≡ n)
   pub sum : Spent s e (length (r .looks)) (r .state)
 
-pub looks : (n : ℕ) (l : List ℕ) (e : ℕ) (s : State) → pendingAt e s ≡ l → Looks n e s (lookUpTo n l e s)
-unfolding lookUpTo after
+pub looks : (n : ℕ) (l : List ℕ) (e : ℕ) (s : State) → pendingAt e s ≡ l → LooksUpTo n e s (lookUpTo n l e s)
+unfolding lookUpTo afterLook
 looks zero l e s h = record { most = omega arith; stop = inr refl; sum = λ d. omega arith }
 looks (suc n) [] e s h = record { most = omega arith; stop = inl h; sum = λ d. omega arith }
 looks (suc n) (w ∷ l) e s h = go (looks n _ e (look e w s) refl)
@@ -70,7 +70,7 @@ looks (suc n) (w ∷ l) e s h = go (looks n _ e (look e w s) refl)
         let g = look-next e w s l d h in
         omega (arith, R (rw g (c .1)), ap length g, ap length h)
 
-    go : {r : Looked} {x : Look} → Looks n e (look e w s) r → Looks (suc n) e s (after x r)
+    go : {r : Looked} {x : Look} → LooksUpTo n e (look e w s) r → LooksUpTo (suc n) e s (afterLook x r)
     go {r} R =
         record {
           most = omega (arith, R .most);

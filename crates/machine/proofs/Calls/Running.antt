@@ -17,30 +17,30 @@ use Rattle.machine.proofs.Lists.{put-same, put-other}
 use Rattle.machine.proofs.Preserved.Choosing.{Highest, highest-is}
 
 -- The chooser changes who runs and the ready queues, and nothing else: r has the threads, endpoints and lines of s.
-abbrev pub Kept : State → State → Type 0
-Kept s r = (r .threads ≡ s .threads) × (r .endpoints ≡ s .endpoints) × (r .lines ≡ s .lines)
+abbrev pub OnlyRunning : State → State → Type 0
+OnlyRunning s r = (r .threads ≡ s .threads) × (r .endpoints ≡ s .endpoints) × (r .lines ≡ s .lines)
 
-kept-head : (q : List ℕ) (p : ℕ) (s : State) → Kept s (dispatchHead q p s)
+kept-head : (q : List ℕ) (p : ℕ) (s : State) → OnlyRunning s (dispatchHead q p s)
 unfolding dispatchHead
 kept-head [] p s = (refl, refl, refl)
 kept-head (t ∷ q) p s = (refl, refl, refl)
 
-kept-at : (o : Option ℕ) (s : State) → Kept s (dispatchAt o s)
+kept-at : (o : Option ℕ) (s : State) → OnlyRunning s (dispatchAt o s)
 unfolding dispatchAt
 kept-at none s = (refl, refl, refl)
 kept-at (some p) s = kept-head (s .levels p) p s
 
-kept-displace : (b : Bool) (t : ℕ) (s : State) → Kept s (displace b t s)
+kept-displace : (b : Bool) (t : ℕ) (s : State) → OnlyRunning s (displace b t s)
 unfolding displace dispatch standDown enqueue
 kept-displace true t s = kept-at _ _
 kept-displace false t s = (refl, refl, refl)
 
-kept-for : (o : Option ℕ) (s : State) → Kept s (chooseFor o s)
+kept-for : (o : Option ℕ) (s : State) → OnlyRunning s (chooseFor o s)
 unfolding chooseFor dispatch
 kept-for none s = kept-at (highest (s .levels)) s
 kept-for (some t) s = kept-displace (above (s .threads t .priority) (highest (s .levels))) t s
 
-pub choose-keeps : (s : State) → Kept s (choose s)
+pub choose-keeps : (s : State) → OnlyRunning s (choose s)
 unfolding choose
 choose-keeps s = kept-for (s .runs) s
 

@@ -21,7 +21,7 @@ use Rattle.machine.specs.State.{State, Debt, nothing, owns, noted, Statu
 use Rattle.machine.specs.State.{pending, awaited, Endpoint, missingEndpoint, setEndpoint}
 use Rattle.machine.specs.Scheduling.{choose}
 use Rattle.machine.specs.Endpoints.{underAbort, pendingOf, withOwner, dropped, dropDebt, endAbort}
-use Rattle.machine.specs.Results.{Look, Result, plain, counted, refuse, accept}
+use Rattle.machine.specs.Results.{Look, Result, plain, counted, refuse, accept, receipt}
 use Rattle.machine.specs.Aborts.{Removal, removeUpTo, deleted, deleteFrom, deleteAt, delete, Looked, pendingAt}
 use Rattle.machine.specs.Aborts.{lookUpTo, begin, join, ended, lookedOwn, workOwn, beginAfter, finished}
 use Rattle.machine.specs.Aborts.{lookedOther, workOther, underBadge, abortFrom, dropUnless, dropOther}
@@ -35,13 +35,9 @@ use Rattle.machine.proofs.Lists.{Same, same, other, same?, clash, put-s
 use Rattle.machine.proofs.Calls.Running.{choose-keeps}
 use Rattle.machine.proofs.Calls.Loops.{Removed, removes, looks}
 
--- The answer of a receive that is done.
-abbrev pub handing : ℕ → ℕ → Answer
-handing b m = record { code = 0; count = 0; badge = b; message = m }
-
 -- The call's own abort was begun in it or before: another badge's, if one stood, wanted fewer looks than the allowance.
-abbrev pub Begun : State → ℕ → ℕ → ℕ → Type 0
-Begun s e a b =
+abbrev pub OwnBegun : State → ℕ → ℕ → ℕ → Type 0
+OwnBegun s e a b =
     (x : State.Abort) → s .endpoints e .abort ≡ some x → (x .badge ≡ b → ⊥) → Distinct (x .pending)
     → length (x .pending) < a
 
@@ -53,7 +49,7 @@ Exact s c n j r = (n ≡ 2) ↔ ((j ≡ allowanceOf c) × WorkLeft s r c)
 pub data Shape (s : State) : Call → Result → Type 0 where
   refused : {c : Call} (n : ℕ) → 19 ≤ n → n ≤ 27 → Shape s c (refuse n s)
   plainly : {c : Call} (n : ℕ) (r : State) → n ≤ 1 → numberOf c ≤ 10 → Shape s c (accept (plain n) [] r)
-  handed : {e : ℕ} (b m : ℕ) (r : State) → Shape s (Receive e) (accept (handing b m) [] r)
+  handed : {e : ℕ} (b m : ℕ) (r : State) → Shape s (Receive e) (accept (receipt b m) [] r)
   removed :
       {e a : ℕ} (n j : ℕ) (r : State) → n ≤ 2 → j ≤ a → Exact s (Delete e a) n j (choose r) → Removed s e j (choose r)
       → Shape s (Delete e a) (accept (counted n j) [] r)
@@ -199,7 +195,7 @@ delete-shape s closing t e a = deleteFrom-shape s _ e a (closed-waiters t e s)
 
 module _ (s : State) (e a b : ℕ) where
   looked-all :
-      (l : List Look) (r : State) → length l ≤ a → pendingAt e r ≡ [] → Begun s e a b
+      (l : List Look) (r : State) → length l ≤ a → pendingAt e r ≡ [] → OwnBegun s e a b
       → Shape s (Abort e a b) (accept (counted 0 (length l)) l r)
   looked-all l r i p B = looked 0 l r (lit≤ tt) i (λ d. never (λ x. idle d (x .1)))
     where
@@ -222,7 +218,7 @@ module _ (s : State) (e a b : ℕ) where
 module _ (s : State) (t e a b : ℕ) where
   ended-shape :
       (l : List ℕ) (k : List Look) (r : State) → pendingAt e r ≡ l → length k ≤ a
-      → (pendingAt e r ≡ []) ⊎ (length k ≡ a) → Begun s e a b → Shape s (Abort e a b) (ended l t e k r)
+      → (pendingAt e r ≡ []) ⊎ (length k ≡ a) → OwnBegun s e a b → Shape s (Abort e a b) (ended l t e k r)
   unfolding ended endAbort
   ended-shape [] k r h i p B =
       looked-all s e a b k _ i (ap (λ (x : Endpoint). pendingOf (x .abort)) (put-same _ e _)) B
@@ -230,7 +226,7 @@ module _ (s : State) (t e a b : ℕ) where
   ended-shape (w ∷ l) k r h i (inr p) B = looked-some s e a b k r p (λ d. pending-left s e a b l w r h)
 
   own-shape :
-      (n : ℕ) (k : List Look) (r : State) → length k + n ≡ a → Begun s e a b
+      (n : ℕ) (k : List Look) (r : State) → length k + n ≡ a → OwnBegun s e a b
       → Shape s (Abort e a b) (workOwn t e n k r)
   unfolding workOwn lookedOwn
   own-shape n k r h B =
@@ -252,7 +248,7 @@ module _ (s : State) (t e a b : ℕ) where
         work d = let c : a ≤ length (x .pending) = omega (arith, p (rw stood at d)) in not-begun x stood differs c
     after-shape (suc n) k r h m p = own-shape (suc n) k _ (omega arith) begun
       where
-        begun : Begun s e a b
+        begun : OwnBegun s e a b
         begun y f g d =
             let c : x ≡ y = cc in
             subst (λ (z : State.Abort). length (z .pending) < a) c
@@ -284,7 +280,7 @@ module _ (s : State) (t e a b : ℕ) where
       go : Same (x .badge) b → Shape s (Abort e a b) (underBadge (eqb (x .badge) b) t e a b r)
       go (same f g) = rw g (own-shape a [] (join t e r) (omega arith) begun)
         where
-          begun : Begun s e a b
+          begun : OwnBegun s e a b
           begun y k n d = let c : x ≡ y = cc in absurd (n (subst (λ (z : State.Abort). z .badge ≡ b) c f))
       go (other n g) = rw g (other-shape x h n r p)
 

@@ -17,7 +17,7 @@ use Rattle.machine.specs.Scheduling.{enqueue, unqueue, standDown, wake, 
 use Rattle.machine.specs.Endpoints.{joinEndpoint, leaveEndpoint, wakeFrom, dropped, dropDebt, noteTo, note}
 use Rattle.machine.specs.Endpoints.{endAbort}
 use Rattle.machine.specs.Results.{Result, Look}
-use Rattle.machine.specs.Aborts.{Removal, Looked, oneMore, after, lookedOwn, lookedOther, removeUpTo, deleted}
+use Rattle.machine.specs.Aborts.{Removal, Looked, oneMore, afterLook, lookedOwn, lookedOther, removeUpTo, deleted}
 use Rattle.machine.specs.Aborts.{deleteFrom, deleteAt, delete, hits, lookAt, look, lookUpTo, begin, joinAs}
 use Rattle.machine.specs.Aborts.{join, ended, workOwn, beginAfter, finished, workOther, underBadge, abortFrom}
 use Rattle.machine.specs.Aborts.{dropUnless, dropOther, abortOpen, abortAt, abortUnless, abort, pendingAt}
@@ -117,7 +117,7 @@ module _ (u : ℕ) where
   lookAt-ticks false e w s = refl
 
   looks-ticks : (n : ℕ) (l : List ℕ) (e : ℕ) (s : State) → Kept u s (lookUpTo n l e s .state)
-  unfolding lookUpTo after look
+  unfolding lookUpTo afterLook look
   looks-ticks zero l e s = refl
   looks-ticks (suc n) [] e s = refl
   looks-ticks (suc n) (w ∷ l) e s = looks-ticks n _ e (look e w s) ∙ lookAt-ticks (hits e w s) e w s

@@ -14,20 +14,21 @@ use Rattle.machine.specs.declared.Call.{Call}
 use Rattle.machine.specs.declared.Call.the-variants.{Abort}
 use Rattle.machine.specs.Calls.{inRange, isEndpoint, isAllowance, isBadge}
 use Rattle.machine.specs.Lists.{put, Mem, Rising}
-use Rattle.machine.specs.State.{State, Debt, nothing, owns, noted, Status, missing, live, closing, Endpoint}
-use Rattle.machine.specs.State.{Line, setThread, withDebt}
+use Rattle.machine.specs.State.{State, Debt, nothing, owns, noted, Status, missing, live, closing, Endpoint, Line}
+use Rattle.machine.specs.State.{setThread, withDebt}
 use Rattle.machine.specs.Scheduling.{choose}
-use Rattle.machine.specs.Endpoints.{senders, dropped, dropDebt}
+use Rattle.machine.specs.Endpoints.{dropped, dropDebt}
 use Rattle.machine.specs.Results.{Look, Result, plain, counted, refuse, done}
 use Rattle.machine.specs.Aborts.{dropOther, abortOpen, abortAt, hasNote, abortUnless, abort}
 use Rattle.machine.specs.Machine.{byCaller, perform, performIf, step}
 use Rattle.machine.specs.Sound.{Sound}
-use Rattle.machine.specs.History.{Aborting, Ended, Reported, Waiting, Walk, History, Outcome, isAccepted}
-use Rattle.machine.specs.History.{namedLooks, lineName, waitingIn, letsGo, isNoteOf, reportOf, reportIf, apart}
-use Rattle.machine.specs.History.{unchanged, comesIn, courseOf, startOf, walk, close, walked, walks, abortsBy}
-use Rattle.machine.specs.History.{abortsOf, outcomeOf, outcomeIf, recorded, told}
+use Rattle.machine.specs.Sorts.{looks}
+use Rattle.machine.specs.History.{Aborting, Ended, Waiting, History, isAccepted, namedLooks, lineName, waitingIn}
+use Rattle.machine.specs.Walk.{letsGo, reportOf, reportIf, walk}
+use Rattle.machine.specs.Outcomes.{Outcome, apart, unchanged, courseOf, outcomeIf}
+use Rattle.machine.specs.Recorded.{recorded, told}
 use Rattle.machine.specs.Claim.{less, removedBy, Reports}
-use Rattle.machine.specs.Tied.{noteIn, noteFrom, Tied}
+use Rattle.machine.specs.Tied.{noteIn, Tied}
 use Rattle.machine.proofs.Lists.{Same, same, other, same?, clash}
 use Rattle.machine.proofs.Sublists.{sub-only, rising-sub, entry-last}
 use Rattle.machine.proofs.Preserved.Mid.{sound-mid}
@@ -37,15 +38,16 @@ use Rattle.machine.proofs.Demand3.Standing.{Core, core-grow}
 use Rattle.machine.proofs.Demand3.Owing.{still-self, tied-still, tied-drop}
 use Rattle.machine.proofs.Demand3.Leaving.{leaves-self, leaves-debt}
 use Rattle.machine.proofs.Demand3.Blocking.{stays-choose, leaves-choose, still-choose}
-use Rattle.machine.proofs.Demand3.Together.{Gone, walkAt}
 use Rattle.machine.proofs.Demand3.EachLook.{Frame, frame-keeps}
 use Rattle.machine.proofs.Demand3.OwnAbort.{Ran}
-use Rattle.machine.proofs.Demand3.Joining.{came-in, ran}
+use Rattle.machine.proofs.Demand3.Joining.{ran}
 use Rattle.machine.proofs.Preserved.Steps.{step-sound}
 use Rattle.machine.proofs.Demand3.Invariant.{Called, Inv}
 use Rattle.machine.proofs.Demand3.Recording.{abortCallOf}
 use Rattle.machine.proofs.Demand3.OtherCalls.{fits, idle-core}
 use Rattle.machine.proofs.Demand3.Breakable.{next}
+use Rattle.machine.proofs.Demand3.AbortOutcomes.{note-is, Noted, noted-of, outcome-noted, outcome-walks, goneOf}
+use Rattle.machine.proofs.Demand3.AbortOutcomes.{startAt, walks-from}
 
 length-named : (since : ℕ → ℕ) (l : List Look) → length (namedLooks since l) ≡ length l
 length-named since [] = refl
@@ -69,31 +71,6 @@ core-choose :
     → Core past answers n since (choose s .threads) (choose s .endpoints) standing ended
 core-choose past answers n since s standing ended C = rw (stays-choose s .threads, stays-choose s .endpoints) C
 
--- The caller's note, in the history and in the machine.
-pub note-is :
-    (e b : ℕ) (o : Option Reported) (d : Debt) → noteFrom o ≡ noteIn d → isNoteOf e b o ≡ hasNote e b d
-note-is e b o d h = from o ∙ ap (hasNote e b) h ∙ alone d
-  where
-    from : (o : Option Reported) → isNoteOf e b o ≡ hasNote e b (noteFrom o)
-    from none = refl
-    from (some r) = refl
-
-    alone : (d : Debt) → hasNote e b (noteIn d) ≡ hasNote e b d
-    alone nothing = refl
-    alone (owns f) = refl
-    alone (noted f c) = refl
-
--- The noted abort.
-record Noted (o : Option Reported) (e b : ℕ) : Type 0 where
-  of : Reported
-  is : o ≡ some of
-  endpoint : of .endpoint ≡ e
-  badge : of .badge ≡ b
-
-noted-of : (o : Option Reported) (e b : ℕ) → noteFrom o ≡ noted e b → Noted o e b
-noted-of none e b h = let z : _≡_ {A = ℕ} 0 1 = cc in absurd (omega arith)
-noted-of (some r) e b h = record { of = r; is = refl; endpoint = cc; badge = cc }
-
 -- The queues ascend still where the looks have removed from them.
 frame-rising :
     (since : ℕ → ℕ) (e : ℕ) (s r : State) (l : List Look) → Frame since e s r l
@@ -111,80 +88,15 @@ range12 e a b p =
     let r = both-true (isEndpoint e) (isAllowance a) (q .0) in
     (leb-true 1 a (both-true (leb 1 a) (leb a 65535) (r .1) .0), ltb-true b (2 ^ 28) (q .1))
 
--- What an accepted call 12 of thread t comes to, answered from a note or not.
-module _ (t e a b : ℕ) (s : State) (r : Result) (h : History) (runs : s .runs ≡ some t)
-    (accepted : isAccepted (r .answer) ≡ true) where
-  outcome-noted :
-      isNoteOf e b (h .aborts .debts .notes t) ≡ true
-      → outcomeIf (isAccepted (r .answer)) (Abort e a b) (s .runs) r h
-      ≡ apart (letsGo t (h .aborts .debts)) (h .aborts .debts .notes t) r h
-  unfolding outcomeIf outcomeOf abortsOf abortsBy
-  outcome-noted p =
-      ap (λ (x : Bool). outcomeIf x (Abort e a b) (s .runs) r h) accepted
-      ∙ ap (λ (k : Option ℕ). abortsOf k e a b r h) runs ∙ ap (λ (x : Bool). abortsBy x t e a b r h) p
-
-  outcome-walks :
-      isNoteOf e b (h .aborts .debts .notes t) ≡ false
-      → outcomeIf (isAccepted (r .answer)) (Abort e a b) (s .runs) r h ≡ walks t e a b r h
-  unfolding outcomeIf outcomeOf abortsOf abortsBy
-  outcome-walks p =
-      ap (λ (x : Bool). outcomeIf x (Abort e a b) (s .runs) r h) accepted
-      ∙ ap (λ (k : Option ℕ). abortsOf k e a b r h) runs ∙ ap (λ (x : Bool). abortsBy x t e a b r h) p
-
--- What the history has of ended aborts and debts.
-abbrev goneOf : History → Gone
-goneOf h = record { ended = h .aborts .ended; debts = h .aborts .debts }
-
--- The walk starts where the call found the history.
-abbrev startAt : ℕ → ℕ → ℕ → State → History → Walk
-startAt t e b s h =
-    walkAt (h .since) e s (h .aborts .standing e) (came-in t e b (h .aborts .standing e) (goneOf h))
-
-walks-from :
-    (t e a b : ℕ) (s : State) (r : Result) (h : History) (w : Walk)
-    → h .waiting .messages e ≡ map (h .since) (senders (s .threads) (s .endpoints e .waiters)) → h .aborts .stray ≡ []
-    → close (courseOf t e b h)
-    (walk (namedLooks (h .since) (r .looks)) a (courseOf t e b h) (startAt t e b s h)) ≡ w
-    → walks t e a b r h
-    ≡ walked e
-    (reportIf (walk (namedLooks (h .since) (r .looks)) a (courseOf t e b h) (startAt t e b s h) .standing) b) w h
-unfolding walks
-walks-from t e a b s r h w m p q =
-    ap (λ (x : Walk).
-    walked e (reportIf (walk (namedLooks (h .since) (r .looks)) a (courseOf t e b h) x .standing) b)
-    (close (courseOf t e b h) (walk (namedLooks (h .since) (r .looks)) a (courseOf t e b h) x)) h) start
-    ∙ ap (λ (x : Walk).
-    walked e
-    (reportIf (walk (namedLooks (h .since) (r .looks)) a (courseOf t e b h) (startAt t e b s h) .standing) b) x h) q
-  where
-    start : startOf t e b h ≡ startAt t e b s h
-    start =
-        ap (λ (k : List ℕ).
-        record {
-          standing = h .aborts .standing e;
-          queued = k;
-          ended = h .aborts .ended;
-          debts = comesIn t e b (h .aborts .standing e) (h .aborts .debts);
-          stray = h .aborts .stray;
-        }) m
-        ∙ ap (λ (l : List ℕ).
-        record {
-          standing = h .aborts .standing e;
-          queued = map (h .since) (senders (s .threads) (s .endpoints e .waiters));
-          ended = h .aborts .ended;
-          debts = comesIn t e b (h .aborts .standing e) (h .aborts .debts);
-          stray = l;
-        }) p
-
 module _ (past : List Call) (s : State) (h : History) (I : Inv past s h) (e a b : ℕ) where
   -- The record of a call 12, from what it left of the queues.
   called :
       (r : Result) (o : Outcome) → Frame (h .since) e s (r .state) (r .looks)
       → r .answer ≡ counted (r .answer .code) (length (r .looks))
       → (r .answer .code ≡ 0
-      → Reports (recorded (h .since) o (Abort e a b) r h)
+      → Reports (recorded (h .since) o (looks e a b) r h)
       (abortCallOf e a b r (waitingIn (h .since) (r .state)) (o .reports) h))
-      → Called (recorded (h .since) o (Abort e a b) r h)
+      → Called (recorded (h .since) o (looks e a b) r h)
       (abortCallOf e a b r (waitingIn (h .since) (r .state)) (o .reports) h)
   unfolding recorded
   called r o F answer reports =
@@ -275,7 +187,7 @@ module _ (past : List Call) (s : State) (h : History) (I : Inv past s h) (e a b 
 
       reports :
           _≡_ {A = ℕ} 0 0
-          → Reports (recorded (h .since) o (Abort e a b) (done q) h)
+          → Reports (recorded (h .since) o (looks e a b) (done q) h)
           (abortCallOf e a b (done q) (waitingIn (h .since) (done q .state)) (o .reports) h)
       reports z =
           let F = I .tied .heard t (N .of) (N .is) in
@@ -293,7 +205,7 @@ module _ (past : List Call) (s : State) (h : History) (I : Inv past s h) (e a b 
                 };
           }
 
-      outcome : outcomeIf (isAccepted (plain 0)) (Abort e a b) (s .runs) (done q) h ≡ o
+      outcome : outcomeIf (isAccepted (plain 0)) (looks e a b) (s .runs) (done q) h ≡ o
       outcome =
           outcome-noted t e a b s (done q) h runs refl
           (note-is e b (h .aborts .debts .notes t) (s .threads t .debt) (I .tied .notes t)
@@ -353,7 +265,7 @@ module _ (past : List Call) (s : State) (h : History) (I : Inv past s h) (e a b 
           subst (λ (x : State). Frame (h .since) e s x (r .looks)) (sym (R .chosen))
           (frame-choose (h .since) e s (R .state) (r .looks) (R .frame))
 
-      outcome : outcomeIf (isAccepted (r .answer)) (Abort e a b) (s .runs) r h ≡ o
+      outcome : outcomeIf (isAccepted (r .answer)) (looks e a b) (s .runs) r h ≡ o
       outcome =
           outcome-walks t e a b s r h runs (R .accepted)
           (note-is e b (h .aborts .debts .notes t) (s .threads t .debt) (I .tied .notes t) ∙ unnoted)
@@ -373,7 +285,7 @@ module _ (past : List Call) (s : State) (h : History) (I : Inv past s h) (e a b 
 
       reports :
           r .answer .code ≡ 0
-          → Reports (recorded (h .since) o (Abort e a b) r h)
+          → Reports (recorded (h .since) o (looks e a b) r h)
           (abortCallOf e a b r (waitingIn (h .since) (r .state)) (o .reports) h)
       reports z =
           let F = R .reports z in

@@ -1,375 +1,182 @@
--- Calls 1 to 10: either nobody comes to wait who did not wait before, or the caller blocks.
-use Prim.Native.Nat.{ℕ, zero, suc, _-_}
+-- Calls 7 to 10, in which the caller may block; and so all of calls 1 to 10.
+use Prim.Native.Nat.{ℕ}
 use mathlib.Core.Path.{_≡_, refl, sym, _∙_, ap, subst}
 use mathlib.Core.Logic.{inl, inr}
-use mathlib.Core.Bool.{Bool, true, false, _&&_, not}
+use mathlib.Core.Bool.{Bool, true, false}
 use mathlib.Core.Option.{Option, none, some}
-use mathlib.Core.List.{List}
-use lib.Dec.{eqb}
 use Rattle.machine.specs.declared.Call.{Call}
 use Rattle.machine.specs.declared.Call.the-variants.{CreateThread, DestroyThread, SetPriority, CreateEndpoint}
 use Rattle.machine.specs.declared.Call.the-variants.{Interrupt, Tick, Send, Receive, Yield, Wait, Delete, Abort}
 use Rattle.machine.specs.Calls.{inRange}
-use Rattle.machine.specs.Lists.{put, first, Mem}
-use Rattle.machine.specs.State.{State, Thread, Place, absent, able, sending, receiving, waiting, nothing, Status}
-use Rattle.machine.specs.State.{missing, live, closing, Endpoint, Line, quiet, pending, awaited, absentThread}
-use Rattle.machine.specs.State.{setThread, setLine, withPlace}
-use Rattle.machine.specs.Scheduling.{enqueue, unqueue, standDown, wake, block}
-use Rattle.machine.specs.Endpoints.{senders, receivers, underAbort, ownerOf, joinEndpoint, leaveEndpoint}
-use Rattle.machine.specs.Endpoints.{wakeFrom, dropDebt}
-use Rattle.machine.specs.Results.{Result, plain, refuse, blocked}
-use Rattle.machine.specs.Machine.{isAbsent, isAble, isRunning, createIf, createThread, leaveReady, leave}
-use Rattle.machine.specs.Machine.{destroyIf, destroyThread, moveReady, changeUnless, priorityIf, setPriority}
-use Rattle.machine.specs.Machine.{createAt, createEndpoint, fire, interrupt, leaveTicks, tickFor, tick, sendTo}
-use Rattle.machine.specs.Machine.{sendUnless, sendAt, send, receiveFrom, receiveAt, receive, yield, waitAt}
-use Rattle.machine.specs.Machine.{wait, byCaller, perform, performIf, step}
+use Rattle.machine.specs.Lists.{put, first}
+use Rattle.machine.specs.State.{State, Thread, Place, able, sending, receiving, waiting, Status, missing, live}
+use Rattle.machine.specs.State.{closing, Endpoint, Line, quiet, pending, awaited, setLine, withPlace}
+use Rattle.machine.specs.Scheduling.{enqueue, standDown, block}
+use Rattle.machine.specs.Endpoints.{senders, receivers, underAbort, joinEndpoint, wakeFrom, dropDebt}
+use Rattle.machine.specs.Results.{Result, blocked}
+use Rattle.machine.specs.Machine.{isAbsent, createThread, destroyThread, setPriority, sendTo, sendUnless, sendAt}
+use Rattle.machine.specs.Machine.{send, receiveFrom, receiveAt, receive, yield, waitAt, wait, byCaller, perform}
+use Rattle.machine.specs.Machine.{performIf, step}
 use Rattle.machine.specs.Sound.{Sound}
-use Rattle.machine.specs.History.{isAccepted, queues?}
+use Rattle.machine.specs.Sorts.{Sort, other, destroys, waits, receives, yields, removes, looks, sortOf}
+use Rattle.machine.specs.History.{queues?}
 use Rattle.machine.proofs.Lists.{put-all}
 use Rattle.machine.proofs.Demand3.Standing.{callAt}
 use Rattle.machine.proofs.Preserved.Sites.{differ}
 use Rattle.machine.proofs.Preserved.Statuses.{keeps-place}
-use Rattle.machine.proofs.Preserved.Debts.{live-present, mid-dropDebt, dropDebt-drops}
-use Rattle.machine.proofs.Demand3.Leaving.{Leaves, no-call, leaves-clear, leaves-self, leaves-then}
-use Rattle.machine.proofs.Demand3.Leaving.{leaves-thread, leaves-endpoint, leaves-queue, leaves-wakeFrom}
-use Rattle.machine.proofs.Demand3.Leaving.{leaves-dropDebt}
+use Rattle.machine.proofs.Preserved.Debts.{mid-dropDebt, dropDebt-drops}
+use Rattle.machine.proofs.Demand3.Leaving.{leaves-then, leaves-wakeFrom, leaves-dropDebt}
 use Rattle.machine.proofs.Calls.Ticks.{is-absent}
-use Rattle.machine.proofs.Sublists.{sub-none}
 use Rattle.machine.proofs.Demand3.Owing.{Still, still-self, still-then, still-thread, still-endpoint}
-use Rattle.machine.proofs.Demand3.Owing.{still-leaveEndpoint, still-wakeFrom}
+use Rattle.machine.proofs.Demand3.Owing.{still-wakeFrom}
 use Rattle.machine.proofs.Demand3.Blocking.{Joins, Blocks, stays-choose, leaves-choose, still-choose}
 use Rattle.machine.specs.Mid.{Mid}
 use Rattle.machine.proofs.Preserved.Mid.{sound-mid}
+use Rattle.machine.proofs.Demand3.HostCalls.{dropsOf, Sheds, sheds, Turn, idle, blocks, turn-refused}
+use Rattle.machine.proofs.Demand3.HostCalls.{turn-create, turn-destroy, turn-priority, turn-endpoint}
+use Rattle.machine.proofs.Demand3.HostCalls.{turn-interrupt, turn-tick}
 
--- Whose debts an accepted call drops: its caller's, the second argument, or those of the thread that it destroys.
-abbrev pub dropsOf : Call → Option ℕ → Option ℕ
-dropsOf (CreateThread t p) o = none
-dropsOf (DestroyThread t) o = some t
-dropsOf (SetPriority t p) o = none
-dropsOf (CreateEndpoint e) o = none
-dropsOf (Interrupt l) o = none
-dropsOf Tick o = none
-dropsOf (Send e b m) o = o
-dropsOf (Receive e) o = o
-dropsOf Yield o = o
-dropsOf (Wait l) o = o
-dropsOf (Delete e a) o = o
-dropsOf (Abort e a b) o = o
+turn-yield : (s : State) (t : ℕ) → s .runs ≡ some t → Turn s Yield (yield t s)
+unfolding yield standDown enqueue
+turn-yield s t runs =
+    idle (leaves-choose s _ (leaves-dropDebt t s)) refl
+    (sheds t runs (still-choose (dropDebt t s) _ (still-self (dropDebt t s))))
 
--- A refused call drops none.
-abbrev pub dropsIf : Bool → Call → Option ℕ → Option ℕ
-dropsIf true c o = dropsOf c o
-dropsIf false c o = none
-
--- The call drops those debts, and leaves the others.
-pub data Sheds (s : State) (c : Call) (r : Result) : Type 0 where
-  keeps : dropsIf (isAccepted (r .answer)) c (s .runs) ≡ none → Still s (r .state) → Sheds s c r
-  sheds :
-      (t : ℕ) → dropsIf (isAccepted (r .answer)) c (s .runs) ≡ some t → Still (dropDebt t s) (r .state)
-      → Sheds s c r
-
-pub data Turn (s : State) (c : Call) (r : Result) : Type 0 where
-  idle : Leaves s (r .state) → queues? c (r .answer .code) ≡ false → Sheds s c r → Turn s c r
-  blocks : Blocks s c r → Sheds s c r → Turn s c r
-
-module _ (s : State) where
-  -- A refused call.
-  turn-refused : (c : Call) (n : ℕ) → isAccepted (plain n) ≡ false → queues? c n ≡ false → Turn s c (refuse n s)
-  turn-refused c n h q =
-      idle (leaves-self s) q (keeps (ap (λ (b : Bool). dropsIf b c (s .runs)) h) (still-self s))
-
-  turn-create :
-      (b : Bool) (t p : ℕ) → (b ≡ true → s .threads t .debt ≡ nothing)
-      → Turn s (CreateThread t p) (createIf b t p s)
-  unfolding createIf enqueue
-  turn-create false t p free = turn-refused (CreateThread t p) 22 refl refl
-  turn-create true t p free =
-      idle (leaves-choose s _ (leaves-clear s t _ refl)) refl
-      (keeps refl (still-choose s _ (still-thread s t _ (sym (free refl)))))
-
-  leaves-leave : (p : Place) (t : ℕ) (r : State) → Leaves r (setThread t absentThread (leave p t r))
-  unfolding leave leaveReady unqueue
-  leaves-leave absent t r = leaves-clear r t absentThread refl
-  leaves-leave able t r = go (isRunning t (r .runs))
+module _ (s : State) (S : Sound s) (t : ℕ) (runs : s .runs ≡ some t) where
+  -- What the caller owes is dropped, and then it blocks at a place.
+  block-at :
+      (c : Call) (p : Place) (b m : ℕ) → callAt p b m ≡ some c → queues? (sortOf c) 1 ≡ true → (x : State)
+      → x .threads ≡ put (dropDebt t s .threads) t (withPlace p 0 b m (dropDebt t s .threads t))
+      → ((e : ℕ) → x .endpoints e .abort ≡ dropDebt t s .endpoints e .abort)
+      → ((e : ℕ) → x .endpoints e .status ≡ dropDebt t s .endpoints e .status)
+      → ((e : ℕ) → Joins t (dropDebt t s .endpoints e .waiters) (x .endpoints e .waiters)) → Blocks s c (blocked x)
+  block-at c p b m calls queues x threads abort status joins =
+      record {
+        caller = t;
+        runs = runs;
+        answer = refl;
+        queues = queues;
+        between = dropDebt t s;
+        leaves = leaves-dropDebt t s;
+        able =
+            ap (λ (q : Place). callAt q (dropDebt t s .threads t .badge) (dropDebt t s .threads t .message)) stands;
+        aside = λ e a h i. differ (M .marks .part e a h .sends t i) stands refl;
+        entry = withPlace p 0 b m (dropDebt t s .threads t);
+        calls = calls;
+        threads = stays-choose x .threads ∙ threads;
+        abort = λ e. ap (λ (y : ℕ → Endpoint). y e .abort) (stays-choose x .endpoints) ∙ abort e;
+        status = λ e. ap (λ (y : ℕ → Endpoint). y e .status) (stays-choose x .endpoints) ∙ status e;
+        joins =
+            λ e.
+            subst (λ (y : ℕ → Endpoint). Joins t (dropDebt t s .endpoints e .waiters) (y e .waiters))
+            (sym (stays-choose x .endpoints)) (joins e);
+      }
     where
-      go : (b : Bool) → Leaves r (setThread t absentThread (leaveReady b t r))
-      go true = leaves-clear r t absentThread refl
-      go false = leaves-clear r t absentThread refl
-  leaves-leave (sending e) t r = leaves-queue r e t absentThread refl
-  leaves-leave (receiving e) t r = leaves-queue r e t absentThread refl
-  leaves-leave (waiting l) t r = leaves-clear r t absentThread refl
+      M : Mid (dropDebt t s)
+      M = mid-dropDebt s t (sound-mid S)
 
-  still-leave :
-      (p : Place) (t : ℕ) (r : State) → r .threads t .debt ≡ nothing
-      → Still r (setThread t absentThread (leave p t r))
-  unfolding leave leaveReady unqueue leaveEndpoint
-  still-leave absent t r h = still-thread r t absentThread (sym h)
-  still-leave able t r h = go (isRunning t (r .runs))
+      stands : dropDebt t s .threads t .place ≡ able
+      stands = keeps-place (dropDebt-drops s t .keeps) t ∙ S .queues .running t runs
+
+  -- and so it does at the tail of a queue.
+  block-queue :
+      (c : Call) (p : Place) (e b m : ℕ) → callAt p b m ≡ some c → queues? (sortOf c) 1 ≡ true
+      → Blocks s c (blocked (block t p b m (joinEndpoint t e (dropDebt t s))))
+  unfolding block joinEndpoint
+  block-queue c p e b m calls queues =
+      block-at c p b m calls queues (block t p b m (joinEndpoint t e (dropDebt t s))) refl
+      (put-all (λ f y. y .abort ≡ dropDebt t s .endpoints f .abort) (dropDebt t s .endpoints) e _ refl (λ f n. refl))
+      (put-all (λ f y. y .status ≡ dropDebt t s .endpoints f .status) (dropDebt t s .endpoints) e _ refl
+      (λ f n. refl))
+      (put-all (λ f y. Joins t (dropDebt t s .endpoints f .waiters) (y .waiters)) (dropDebt t s .endpoints) e _
+      (inr refl) (λ f n. inl refl))
+
+  -- A call that blocks drops what the caller owes.
+  sheds-block :
+      (c : Call) (p : Place) (b m : ℕ) → dropsOf (sortOf c) (s .runs) ≡ some t → (x : State) → Still (dropDebt t s) x
+      → Sheds s c (blocked (block t p b m x))
+  unfolding block
+  sheds-block c p b m drops x H =
+      sheds t drops
+      (still-choose (dropDebt t s) (block t p b m x)
+      (still-then (dropDebt t s) x (block t p b m x) H (still-thread x t _ refl)))
+
+  still-join : (e : ℕ) → Still (dropDebt t s) (joinEndpoint t e (dropDebt t s))
+  unfolding joinEndpoint
+  still-join e = still-endpoint (dropDebt t s) e _ refl
+
+  turn-wait : (l : ℕ) → Turn s (Wait l) (wait t l s)
+  unfolding wait waitAt block
+  turn-wait l = go (s .lines l)
     where
-      go : (b : Bool) → Still r (setThread t absentThread (leaveReady b t r))
-      go true = still-thread r t absentThread (sym h)
-      go false = still-thread r t absentThread (sym h)
-  still-leave (sending e) t r h =
-      still-then r (leaveEndpoint t e r) (setThread t absentThread (leaveEndpoint t e r)) (still-leaveEndpoint r t e)
-      (still-thread (leaveEndpoint t e r) t absentThread (sym h))
-  still-leave (receiving e) t r h =
-      still-then r (leaveEndpoint t e r) (setThread t absentThread (leaveEndpoint t e r)) (still-leaveEndpoint r t e)
-      (still-thread (leaveEndpoint t e r) t absentThread (sym h))
-  still-leave (waiting l) t r h = still-thread r t absentThread (sym h)
+      go : (x : Line) → Turn s (Wait l) (waitAt x t l s)
+      go quiet =
+          blocks (block-at (Wait l) (waiting l) 0 0 refl refl _ refl (λ e. refl) (λ e. refl) (λ e. inl refl))
+          (sheds-block (Wait l) (waiting l) 0 0 runs (setLine l (awaited t) (dropDebt t s))
+          (still-self (dropDebt t s)))
+      go pending =
+          idle (leaves-choose s _ (leaves-dropDebt t s)) refl
+          (sheds t runs (still-choose (dropDebt t s) _ (still-self (dropDebt t s))))
+      go (awaited u) = turn-refused s (Wait l) 27 refl refl
 
-  turn-destroy : (b : Bool) (t : ℕ) → Turn s (DestroyThread t) (destroyIf b t s)
-  unfolding destroyIf
-  turn-destroy true t = turn-refused (DestroyThread t) 21 refl refl
-  turn-destroy false t =
+  turn-sendTo : (o : Option ℕ) (e b m : ℕ) → Turn s (Send e b m) (sendTo o t e b m (dropDebt t s))
+  unfolding sendTo
+  turn-sendTo none e b m =
+      blocks (block-queue (Send e b m) (sending e) e b m refl refl)
+      (sheds-block (Send e b m) (sending e) b m runs _ (still-join e))
+  turn-sendTo (some r) e b m =
       idle
       (leaves-choose s _
-      (leaves-then s (dropDebt t s)
-      (setThread t absentThread (leave (s .threads t .place) t (dropDebt t s))) (leaves-dropDebt t s)
-      (leaves-leave (s .threads t .place) t (dropDebt t s)))) refl
-      (sheds t refl
-      (still-choose (dropDebt t s) _
-      (still-leave (s .threads t .place) t (dropDebt t s) (dropDebt-drops s t .debt))))
+      (leaves-then s (dropDebt t s) (wakeFrom e r 2 b m (dropDebt t s)) (leaves-dropDebt t s)
+      (leaves-wakeFrom (dropDebt t s) e r 2 b m))) refl
+      (sheds t runs (still-choose (dropDebt t s) _ (still-wakeFrom (dropDebt t s) e r 2 b m)))
 
-  leaves-move : (b : Bool) (t p : ℕ) → Leaves s (moveReady b t p s)
-  unfolding moveReady enqueue unqueue
-  leaves-move true t p = leaves-thread s t _ (λ c h. h)
-  leaves-move false t p = leaves-thread s t _ (λ c h. h)
-
-  still-move : (b : Bool) (t p : ℕ) → Still s (moveReady b t p s)
-  unfolding moveReady enqueue unqueue
-  still-move true t p = still-thread s t _ refl
-  still-move false t p = still-thread s t _ refl
-
-  leaves-change : (b : Bool) (t p : ℕ) → Leaves s (changeUnless b t p s)
-  unfolding changeUnless
-  leaves-change true t p = leaves-self s
-  leaves-change false t p = leaves-move (isAble (s .threads t .place) && not (isRunning t (s .runs))) t p
-
-  still-change : (b : Bool) (t p : ℕ) → Still s (changeUnless b t p s)
-  unfolding changeUnless
-  still-change true t p = still-self s
-  still-change false t p = still-move (isAble (s .threads t .place) && not (isRunning t (s .runs))) t p
-
-  turn-priority : (b : Bool) (t p : ℕ) → Turn s (SetPriority t p) (priorityIf b t p s)
-  unfolding priorityIf
-  turn-priority true t p = turn-refused (SetPriority t p) 21 refl refl
-  turn-priority false t p =
-      idle (leaves-choose s _ (leaves-change (eqb (s .threads t .priority) p) t p)) refl
-      (keeps refl (still-choose s _ (still-change (eqb (s .threads t .priority) p) t p)))
-
-  leaves-fire : (x : Line) (l : ℕ) → Leaves s (fire x l s)
-  unfolding fire wake enqueue
-  leaves-fire quiet l = leaves-self s
-  leaves-fire pending l = leaves-self s
-  leaves-fire (awaited t) l = leaves-thread s t _ (λ c h. no-call refl h)
-
-  still-fire : (x : Line) (l : ℕ) → Still s (fire x l s)
-  unfolding fire wake enqueue
-  still-fire quiet l = still-self s
-  still-fire pending l = still-self s
-  still-fire (awaited t) l = still-thread s t _ refl
-
-  turn-interrupt : (l : ℕ) → Turn s (Interrupt l) (interrupt l s)
-  unfolding interrupt
-  turn-interrupt l =
-      idle (leaves-choose s _ (leaves-fire (s .lines l) l)) refl
-      (keeps refl (still-choose s _ (still-fire (s .lines l) l)))
-
-  leaves-ticks : (n t : ℕ) → Leaves s (leaveTicks n t s)
-  unfolding leaveTicks standDown enqueue
-  leaves-ticks zero t = leaves-thread s t _ (λ c h. h)
-  leaves-ticks (suc n) t = leaves-thread s t _ (λ c h. h)
-
-  still-ticks : (n t : ℕ) → Still s (leaveTicks n t s)
-  unfolding leaveTicks standDown enqueue
-  still-ticks zero t = still-thread s t _ refl
-  still-ticks (suc n) t = still-thread s t _ refl
-
-  leaves-tick : (o : Option ℕ) → Leaves s (tickFor o s)
-  unfolding tickFor
-  leaves-tick none = leaves-self s
-  leaves-tick (some t) = leaves-ticks (s .threads t .ticks - 1) t
-
-  still-tick : (o : Option ℕ) → Still s (tickFor o s)
-  unfolding tickFor
-  still-tick none = still-self s
-  still-tick (some t) = still-ticks (s .threads t .ticks - 1) t
-
-  turn-tick : Turn s Tick (tick s)
-  unfolding tick
-  turn-tick =
-      idle (leaves-choose s _ (leaves-tick (s .runs))) refl (keeps refl (still-choose s _ (still-tick (s .runs))))
-
-  turn-yield : (t : ℕ) → s .runs ≡ some t → Turn s Yield (yield t s)
-  unfolding yield standDown enqueue
-  turn-yield t runs =
-      idle (leaves-choose s _ (leaves-dropDebt t s)) refl
-      (sheds t runs (still-choose (dropDebt t s) _ (still-self (dropDebt t s))))
-
--- With sound tables
-
-module _ (s : State) (S : Sound s) where
-  pub nobody : (e t : ℕ) → s .endpoints e .status ≡ missing → s .threads t .place ≡ sending e → ⊥
-  nobody e t h p =
-      subst (λ (l : List ℕ). Mem t l) (S .statuses .empty e h) (S .queues .queued t e .1 (inl p))
-
-  turn-endpoint : (e : ℕ) → Turn s (CreateEndpoint e) (createEndpoint e s)
-  unfolding createEndpoint createAt
-  turn-endpoint e = go (s .endpoints e .status) refl
+  turn-send : (e b m : ℕ) → Turn s (Send e b m) (send t e b m s)
+  unfolding send sendAt sendUnless
+  turn-send e b m = go (s .endpoints e .status)
     where
-      go : (x : Status) → s .endpoints e .status ≡ x → Turn s (CreateEndpoint e) (createAt x e s)
-      go missing h =
-          idle
-          (leaves-choose s _
-          (leaves-endpoint s e _ (rw (bare h) tt) (sub-none (s .endpoints e .waiters))
-          (λ t p k. absurd (nobody e t h p)))) refl
-          (keeps refl (still-choose s _ (still-endpoint s e _ (ap ownerOf (sym (bare h))))))
-        where
-          bare : s .endpoints e .status ≡ missing → s .endpoints e .abort ≡ none
-          bare h = S .statuses .no-abort e (λ l. live-present l h)
-      go live h = turn-refused s (CreateEndpoint e) 24 refl refl
-      go closing h = turn-refused s (CreateEndpoint e) 24 refl refl
+      unless : (x : Bool) → Turn s (Send e b m) (sendUnless x t e b m s)
+      unless true = turn-refused s (Send e b m) 26 refl refl
+      unless false = turn-sendTo (first (receivers (s .threads) (s .endpoints e .waiters))) e b m
 
-  module _ (t : ℕ) (runs : s .runs ≡ some t) where
-    -- What the caller owes is dropped, and then it blocks at a place.
-    block-at :
-        (c : Call) (p : Place) (b m : ℕ) → callAt p b m ≡ some c → queues? c 1 ≡ true → (x : State)
-        → x .threads ≡ put (dropDebt t s .threads) t (withPlace p 0 b m (dropDebt t s .threads t))
-        → ((e : ℕ) → x .endpoints e .abort ≡ dropDebt t s .endpoints e .abort)
-        → ((e : ℕ) → x .endpoints e .status ≡ dropDebt t s .endpoints e .status)
-        → ((e : ℕ) → Joins t (dropDebt t s .endpoints e .waiters) (x .endpoints e .waiters)) → Blocks s c (blocked x)
-    block-at c p b m calls queues x threads abort status joins =
-        record {
-          caller = t;
-          runs = runs;
-          answer = refl;
-          queues = queues;
-          between = dropDebt t s;
-          leaves = leaves-dropDebt t s;
-          able =
-              ap (λ (q : Place). callAt q (dropDebt t s .threads t .badge) (dropDebt t s .threads t .message)) stands;
-          aside = λ e a h i. differ (M .marks .part e a h .sends t i) stands refl;
-          entry = withPlace p 0 b m (dropDebt t s .threads t);
-          calls = calls;
-          threads = stays-choose x .threads ∙ threads;
-          abort = λ e. ap (λ (y : ℕ → Endpoint). y e .abort) (stays-choose x .endpoints) ∙ abort e;
-          status = λ e. ap (λ (y : ℕ → Endpoint). y e .status) (stays-choose x .endpoints) ∙ status e;
-          joins =
-              λ e.
-              subst (λ (y : ℕ → Endpoint). Joins t (dropDebt t s .endpoints e .waiters) (y e .waiters))
-              (sym (stays-choose x .endpoints)) (joins e);
-        }
-      where
-        M : Mid (dropDebt t s)
-        M = mid-dropDebt s t (sound-mid S)
+      go : (x : Status) → Turn s (Send e b m) (sendAt x t e b m s)
+      go missing = turn-refused s (Send e b m) 23 refl refl
+      go live = unless (underAbort b (s .endpoints e .abort))
+      go closing = turn-refused s (Send e b m) 25 refl refl
 
-        stands : dropDebt t s .threads t .place ≡ able
-        stands = keeps-place (dropDebt-drops s t .keeps) t ∙ S .queues .running t runs
+  turn-receiveFrom : (o : Option ℕ) (e : ℕ) → Turn s (Receive e) (receiveFrom o t e (dropDebt t s))
+  unfolding receiveFrom
+  turn-receiveFrom none e =
+      blocks (block-queue (Receive e) (receiving e) e 0 0 refl refl)
+      (sheds-block (Receive e) (receiving e) 0 0 runs _ (still-join e))
+  turn-receiveFrom (some u) e =
+      idle
+      (leaves-choose s _
+      (leaves-then s (dropDebt t s) (wakeFrom e u 1 0 0 (dropDebt t s)) (leaves-dropDebt t s)
+      (leaves-wakeFrom (dropDebt t s) e u 1 0 0))) refl
+      (sheds t runs (still-choose (dropDebt t s) _ (still-wakeFrom (dropDebt t s) e u 1 0 0)))
 
-    -- and so it does at the tail of a queue.
-    block-queue :
-        (c : Call) (p : Place) (e b m : ℕ) → callAt p b m ≡ some c → queues? c 1 ≡ true
-        → Blocks s c (blocked (block t p b m (joinEndpoint t e (dropDebt t s))))
-    unfolding block joinEndpoint
-    block-queue c p e b m calls queues =
-        block-at c p b m calls queues (block t p b m (joinEndpoint t e (dropDebt t s))) refl
-        (put-all (λ f y. y .abort ≡ dropDebt t s .endpoints f .abort) (dropDebt t s .endpoints) e _ refl (λ f n. refl))
-        (put-all (λ f y. y .status ≡ dropDebt t s .endpoints f .status) (dropDebt t s .endpoints) e _ refl
-        (λ f n. refl))
-        (put-all (λ f y. Joins t (dropDebt t s .endpoints f .waiters) (y .waiters)) (dropDebt t s .endpoints) e _
-        (inr refl) (λ f n. inl refl))
-
-    -- A call that blocks drops what the caller owes.
-    sheds-block :
-        (c : Call) (p : Place) (b m : ℕ) → dropsOf c (s .runs) ≡ some t → (x : State) → Still (dropDebt t s) x
-        → Sheds s c (blocked (block t p b m x))
-    unfolding block
-    sheds-block c p b m drops x H =
-        sheds t drops
-        (still-choose (dropDebt t s) (block t p b m x)
-        (still-then (dropDebt t s) x (block t p b m x) H (still-thread x t _ refl)))
-
-    still-join : (e : ℕ) → Still (dropDebt t s) (joinEndpoint t e (dropDebt t s))
-    unfolding joinEndpoint
-    still-join e = still-endpoint (dropDebt t s) e _ refl
-
-    turn-wait : (l : ℕ) → Turn s (Wait l) (wait t l s)
-    unfolding wait waitAt block
-    turn-wait l = go (s .lines l)
-      where
-        go : (x : Line) → Turn s (Wait l) (waitAt x t l s)
-        go quiet =
-            blocks (block-at (Wait l) (waiting l) 0 0 refl refl _ refl (λ e. refl) (λ e. refl) (λ e. inl refl))
-            (sheds-block (Wait l) (waiting l) 0 0 runs (setLine l (awaited t) (dropDebt t s))
-            (still-self (dropDebt t s)))
-        go pending =
-            idle (leaves-choose s _ (leaves-dropDebt t s)) refl
-            (sheds t runs (still-choose (dropDebt t s) _ (still-self (dropDebt t s))))
-        go (awaited u) = turn-refused s (Wait l) 27 refl refl
-
-    turn-sendTo : (o : Option ℕ) (e b m : ℕ) → Turn s (Send e b m) (sendTo o t e b m (dropDebt t s))
-    unfolding sendTo
-    turn-sendTo none e b m =
-        blocks (block-queue (Send e b m) (sending e) e b m refl refl)
-        (sheds-block (Send e b m) (sending e) b m runs _ (still-join e))
-    turn-sendTo (some r) e b m =
-        idle
-        (leaves-choose s _
-        (leaves-then s (dropDebt t s) (wakeFrom e r 2 b m (dropDebt t s)) (leaves-dropDebt t s)
-        (leaves-wakeFrom (dropDebt t s) e r 2 b m))) refl
-        (sheds t runs (still-choose (dropDebt t s) _ (still-wakeFrom (dropDebt t s) e r 2 b m)))
-
-    turn-send : (e b m : ℕ) → Turn s (Send e b m) (send t e b m s)
-    unfolding send sendAt sendUnless
-    turn-send e b m = go (s .endpoints e .status)
-      where
-        unless : (x : Bool) → Turn s (Send e b m) (sendUnless x t e b m s)
-        unless true = turn-refused s (Send e b m) 26 refl refl
-        unless false = turn-sendTo (first (receivers (s .threads) (s .endpoints e .waiters))) e b m
-
-        go : (x : Status) → Turn s (Send e b m) (sendAt x t e b m s)
-        go missing = turn-refused s (Send e b m) 23 refl refl
-        go live = unless (underAbort b (s .endpoints e .abort))
-        go closing = turn-refused s (Send e b m) 25 refl refl
-
-    turn-receiveFrom : (o : Option ℕ) (e : ℕ) → Turn s (Receive e) (receiveFrom o t e (dropDebt t s))
-    unfolding receiveFrom
-    turn-receiveFrom none e =
-        blocks (block-queue (Receive e) (receiving e) e 0 0 refl refl)
-        (sheds-block (Receive e) (receiving e) 0 0 runs _ (still-join e))
-    turn-receiveFrom (some u) e =
-        idle
-        (leaves-choose s _
-        (leaves-then s (dropDebt t s) (wakeFrom e u 1 0 0 (dropDebt t s)) (leaves-dropDebt t s)
-        (leaves-wakeFrom (dropDebt t s) e u 1 0 0))) refl
-        (sheds t runs (still-choose (dropDebt t s) _ (still-wakeFrom (dropDebt t s) e u 1 0 0)))
-
-    turn-receive : (e : ℕ) → Turn s (Receive e) (receive t e s)
-    unfolding receive receiveAt
-    turn-receive e = go (s .endpoints e .status)
-      where
-        go : (x : Status) → Turn s (Receive e) (receiveAt x t e s)
-        go missing = turn-refused s (Receive e) 23 refl refl
-        go live = turn-receiveFrom (first (senders (s .threads) (s .endpoints e .waiters))) e
-        go closing = turn-refused s (Receive e) 25 refl refl
+  turn-receive : (e : ℕ) → Turn s (Receive e) (receive t e s)
+  unfolding receive receiveAt
+  turn-receive e = go (s .endpoints e .status)
+    where
+      go : (x : Status) → Turn s (Receive e) (receiveAt x t e s)
+      go missing = turn-refused s (Receive e) 23 refl refl
+      go live = turn-receiveFrom (first (senders (s .threads) (s .endpoints e .waiters))) e
+      go closing = turn-refused s (Receive e) 25 refl refl
 
 -- Every call but 11 and 12.
-abbrev pub Simple : Call → Type 0
-Simple (CreateThread t p) = Unit {0}
-Simple (DestroyThread t) = Unit {0}
-Simple (SetPriority t p) = Unit {0}
-Simple (CreateEndpoint e) = Unit {0}
-Simple (Interrupt l) = Unit {0}
-Simple Tick = Unit {0}
-Simple (Send e b m) = Unit {0}
-Simple (Receive e) = Unit {0}
-Simple Yield = Unit {0}
-Simple (Wait l) = Unit {0}
-Simple (Delete e a) = ⊥
-Simple (Abort e a b) = ⊥
+abbrev pub Simple : Sort → Type 0
+Simple other = Unit {0}
+Simple (destroys t) = Unit {0}
+Simple waits = Unit {0}
+Simple (receives e) = Unit {0}
+Simple yields = Unit {0}
+Simple (removes e) = ⊥
+Simple (looks e a b) = ⊥
 
 turn-caller :
-    (s : State) (c : Call) (f : ℕ → State → Result) → queues? c 20 ≡ false
+    (s : State) (c : Call) (f : ℕ → State → Result) → queues? (sortOf c) 20 ≡ false
     → ((t : ℕ) → s .runs ≡ some t → Turn s c (f t s)) → Turn s c (byCaller (s .runs) f s)
 turn-caller s c f q h = go (s .runs) refl
   where
@@ -377,7 +184,7 @@ turn-caller s c f q h = go (s .runs) refl
     go none e = turn-refused s c 20 refl q
     go (some t) e = h t e
 
-turn-perform : (s : State) → Sound s → (c : Call) → Simple c → Turn s c (perform c s)
+turn-perform : (s : State) → Sound s → (c : Call) → Simple (sortOf c) → Turn s c (perform c s)
 unfolding perform createThread destroyThread setPriority
 turn-perform s S (CreateThread t p) _ =
     turn-create s (isAbsent (s .threads t .place)) t p
@@ -394,24 +201,19 @@ turn-perform s S (Wait l) _ = turn-caller s (Wait l) (λ t. wait t l) refl (λ t
 turn-perform s S (Delete e a) n = absurd n
 turn-perform s S (Abort e a b) n = absurd n
 
-pub refused-name : (c : Call) → queues? c 19 ≡ false
-refused-name (CreateThread t p) = refl
-refused-name (DestroyThread t) = refl
-refused-name (SetPriority t p) = refl
-refused-name (CreateEndpoint e) = refl
-refused-name (Interrupt l) = refl
-refused-name Tick = refl
-refused-name (Send e b m) = refl
-refused-name (Receive e) = refl
-refused-name Yield = refl
-refused-name (Wait l) = refl
-refused-name (Delete e a) = refl
-refused-name (Abort e a b) = refl
+refused-name : (x : Sort) → queues? x 19 ≡ false
+refused-name other = refl
+refused-name (destroys t) = refl
+refused-name waits = refl
+refused-name (receives e) = refl
+refused-name yields = refl
+refused-name (removes e) = refl
+refused-name (looks e a b) = refl
 
-pub turn : (s : State) → Sound s → (c : Call) → Simple c → Turn s c (step s c)
+pub turn : (s : State) → Sound s → (c : Call) → Simple (sortOf c) → Turn s c (step s c)
 unfolding step performIf
 turn s S c n = go (inRange c)
   where
     go : (b : Bool) → Turn s c (performIf b c s)
     go true = turn-perform s S c n
-    go false = turn-refused s c 19 refl (refused-name c)
+    go false = turn-refused s c 19 refl (refused-name (sortOf c))

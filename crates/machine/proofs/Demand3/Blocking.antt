@@ -14,12 +14,13 @@ use Rattle.machine.specs.State.{State, Thread, sending, Abort, live, End
 use Rattle.machine.specs.Scheduling.{enqueue, standDown, dispatchHead, dispatchAt, dispatch, above, displace}
 use Rattle.machine.specs.Scheduling.{chooseFor, choose, highest}
 use Rattle.machine.specs.Results.{Result, plain}
+use Rattle.machine.specs.Sorts.{sortOf}
 use Rattle.machine.specs.History.{Aborting, Ended, queues?}
 use Rattle.machine.specs.Claim.{isOld}
 use Rattle.machine.proofs.Lists.{Same, same, other, same?, put-all, put-same, put-other}
 use Rattle.machine.proofs.Sublists.{Sub, map-agree, entry-below, entry-last}
-use Rattle.machine.proofs.Demand3.Standing.{callOf, Made, Stood, Both, Over, Core, not-old, made-grow}
-use Rattle.machine.proofs.Demand3.Standing.{both-grow, over-grow}
+use Rattle.machine.proofs.Demand3.Standing.{callOf, Made, Stood, Both, Over, Core, not-old, made-grow, both-grow}
+use Rattle.machine.proofs.Demand3.Standing.{over-grow}
 use Rattle.machine.proofs.Demand3.Owing.{Still}
 use Rattle.machine.proofs.Demand3.Leaving.{Leaves}
 
@@ -70,7 +71,7 @@ pub record Blocks (s : State) (c : Call) (r : Result) : Type 0 where
   pub caller : ℕ
   pub runs : s .runs ≡ some caller
   pub answer : r .answer ≡ plain 1
-  pub queues : queues? c 1 ≡ true
+  pub queues : queues? (sortOf c) 1 ≡ true
   pub between : State
   pub leaves : Leaves s between
   pub able : callOf (between .threads caller) ≡ none

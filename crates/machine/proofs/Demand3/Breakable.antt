@@ -16,14 +16,16 @@ use Rattle.machine.specs.Results.{Look, Result, plain, refuse}
 use Rattle.machine.specs.Aborts.{deleteFrom, deleteAt, delete, abort}
 use Rattle.machine.specs.Machine.{byCaller, perform, performIf, step}
 use Rattle.machine.specs.Sound.{Sound}
-use Rattle.machine.specs.History.{Aborting, Ended, History, Outcome, isAccepted, queues?, named, unchanged}
-use Rattle.machine.specs.History.{deletes, outcomeOf, outcomeIf, recorded, told}
+use Rattle.machine.specs.Sorts.{removes, sortOf}
+use Rattle.machine.specs.History.{Aborting, Ended, History, isAccepted, queues?, named}
+use Rattle.machine.specs.Outcomes.{Outcome, unchanged, deletes, outcomeOf, outcomeIf}
+use Rattle.machine.specs.Recorded.{recorded, told}
 use Rattle.machine.specs.Claim.{In}
 use Rattle.machine.proofs.Preserved.Mid.{sound-mid}
 use Rattle.machine.proofs.Demand3.Standing.{core-grow}
 use Rattle.machine.proofs.Demand3.Leaving.{leaves-self}
-use Rattle.machine.proofs.Demand3.Deletions.{delete-accepted, delete-looks, delete-queues, delete-none, tied-none}
-use Rattle.machine.proofs.Demand3.Deletions.{delete-some, tied-some}
+use Rattle.machine.proofs.Demand3.Deletions.{delete-accepted, delete-looks, delete-queues, delete-none}
+use Rattle.machine.proofs.Demand3.Deletions.{tied-none, delete-some, tied-some}
 use Rattle.machine.proofs.Preserved.Steps.{step-sound}
 use Rattle.machine.proofs.Demand3.Invariant.{Inv}
 use Rattle.machine.proofs.Demand3.Recording.{Goes, goes}
@@ -32,14 +34,15 @@ use Rattle.machine.proofs.Demand3.OtherCalls.{fits, idle-core, idle-ris
 module _ (past : List Call) (s : State) (h : History) (I : Inv past s h) where
   -- The history of a call that names no waiter, by what it comes to for the aborts.
   told-as :
-      (c : Call) (r : Result) (o : Outcome) → queues? c (r .answer .code) ≡ false
-      → outcomeIf (isAccepted (r .answer)) c (s .runs) r h ≡ o → told c s r h ≡ recorded (h .since) o c r h
+      (c : Call) (r : Result) (o : Outcome) → queues? (sortOf c) (r .answer .code) ≡ false
+      → outcomeIf (isAccepted (r .answer)) (sortOf c) (s .runs) r h ≡ o
+      → told c s r h ≡ recorded (h .since) o (sortOf c) r h
   unfolding told named
   told-as c r o p q = rw (p, q)
 
   pub next :
-      (c : Call) (r : Result) (o : Outcome) → queues? c (r .answer .code) ≡ false
-      → outcomeIf (isAccepted (r .answer)) c (s .runs) r h ≡ o → Goes past s h I c r (h .since) o
+      (c : Call) (r : Result) (o : Outcome) → queues? (sortOf c) (r .answer .code) ≡ false
+      → outcomeIf (isAccepted (r .answer)) (sortOf c) (s .runs) r h ≡ o → Goes past s h I c r (h .since) o
       → Inv (past ++ (c ∷ [])) (r .state) (told c s r h)
   next c r o p q G =
       subst (Inv (past ++ (c ∷ [])) (r .state)) (sym (told-as c r o p q)) (goes past s h I c r (h .since) o G)
@@ -129,10 +132,10 @@ module _ (past : List Call) (s : State) (h : History) (I : Inv past s h) where
           new z (inr i) = inl i
 
       outcome11 :
-          outcomeIf (isAccepted (r .answer)) (Delete e a) (s .runs) r h ≡ deletes (h .aborts .standing e) e (some t) r h
+          outcomeIf (isAccepted (r .answer)) (removes e) (s .runs) r h ≡ deletes (h .aborts .standing e) e (some t) r h
       unfolding outcomeIf outcomeOf
       outcome11 =
-          ap (λ (b : Bool). outcomeIf b (Delete e a) (s .runs) r h)
+          ap (λ (b : Bool). outcomeIf b (removes e) (s .runs) r h)
           (delete-accepted e a (endAbort closing e (dropDebt t s)))
           ∙ ap (λ (o : Option ℕ). deletes (h .aborts .standing e) e o r h) runs
 

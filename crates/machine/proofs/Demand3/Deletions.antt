@@ -11,17 +11,19 @@ use Rattle.machine.specs.Lists.{put}
 use Rattle.machine.specs.State.{State, Thread, Abort, closing, Endpoint, missingEndpoint, setEndpoint}
 use Rattle.machine.specs.Endpoints.{ownerOf, wakeFrom, dropDebt, note, endAbort}
 use Rattle.machine.specs.Aborts.{Removal, oneMore, removeUpTo, deleted, deleteFrom}
-use Rattle.machine.specs.History.{Aborting, Ended, Debts, isAccepted, letsGo, hears, reportOf}
+use Rattle.machine.specs.History.{Aborting, Ended, Debts, isAccepted}
+use Rattle.machine.specs.Walk.{letsGo, hears, reportOf}
 use Rattle.machine.specs.Tied.{Tied}
 use Rattle.machine.specs.Mid.{Mid}
-use Rattle.machine.proofs.Preserved.Debts.{live-present, closing-live, mid-dropDebt, dropDebt-drops, endAbort-entry}
+use Rattle.machine.proofs.Preserved.Debts.{live-present, closing-live, mid-dropDebt, dropDebt-drops}
+use Rattle.machine.proofs.Preserved.Debts.{endAbort-entry}
 use Rattle.machine.proofs.Preserved.Ready.{none-some}
 use Rattle.machine.proofs.Sublists.{Sub, sub-refl, sub-none}
 use Rattle.machine.proofs.Demand3.Standing.{Both, Core}
-use Rattle.machine.proofs.Demand3.Leaving.{Leaves, Passes, leaves-self, leaves-then, leaves-endpoint, leaves-wakeFrom}
-use Rattle.machine.proofs.Demand3.Leaving.{leaves-dropDebt, core-leaves}
-use Rattle.machine.proofs.Demand3.Owing.{Still, still-self, still-then, still-endpoint, still-wakeFrom, tied-still}
-use Rattle.machine.proofs.Demand3.Owing.{tied-drop, tied-end}
+use Rattle.machine.proofs.Demand3.Leaving.{Leaves, Passes, leaves-self, leaves-then, leaves-endpoint}
+use Rattle.machine.proofs.Demand3.Leaving.{leaves-wakeFrom, leaves-dropDebt, core-leaves}
+use Rattle.machine.proofs.Demand3.Owing.{Still, still-self, still-then, still-endpoint, still-wakeFrom}
+use Rattle.machine.proofs.Demand3.Owing.{tied-still, tied-drop, tied-end}
 use Rattle.machine.proofs.Demand3.Blocking.{leaves-choose, still-choose}
 use Rattle.machine.proofs.Demand3.Ending.{core-end}
 use Rattle.machine.proofs.Demand3.OwnAbort.{keeps-endAbort}

@@ -11,7 +11,8 @@ use Rattle.machine.specs.declared.Call.the-variants.{Interrupt, Tick, Se
 use Rattle.machine.specs.State.{State, freshState}
 use Rattle.machine.specs.Aborts.{abortUnless, abort}
 use Rattle.machine.specs.Machine.{byCaller, perform, performIf, step}
-use Rattle.machine.specs.History.{Reported, Run, History, told, runFrom, freshHistory, freshRun, historyOf}
+use Rattle.machine.specs.History.{Reported, History}
+use Rattle.machine.specs.Recorded.{Run, told, runFrom, freshHistory, freshRun, historyOf}
 use Rattle.machine.specs.Claim.{Claim}
 use Rattle.machine.specs.Tied.{Tied, NotesFirst}
 use Rattle.machine.proofs.Demand3.Leaving.{no-call}
@@ -19,7 +20,8 @@ use Rattle.machine.proofs.Preserved.Steps.{fresh-sound}
 use Rattle.machine.proofs.Demand3.Invariant.{Inv, claim}
 use Rattle.machine.proofs.Demand3.OtherCalls.{advance}
 use Rattle.machine.proofs.Demand3.Breakable.{advance11}
-use Rattle.machine.proofs.Demand3.AbortCalls.{note-is, advance12}
+use Rattle.machine.proofs.Demand3.AbortOutcomes.{note-is}
+use Rattle.machine.proofs.Demand3.AbortCalls.{advance12}
 
 no-report : {P : Type 0} {r : Reported} → none ≡ some r → P
 no-report {P} {r} h = let z : _≡_ {A = ℕ} 0 1 = cc in absurd (omega arith)

@@ -17,13 +17,13 @@ use Rattle.machine.specs.Results.{plain}
 use Rattle.machine.specs.Sound.{Sound, Queued}
 use Rattle.machine.specs.History.{Aborting, Ended, Delivery, NamedLook, AbortCall, Waiting, History, lineName}
 use Rattle.machine.specs.History.{waitingIn}
-use Rattle.machine.specs.Claim.{In, IsAbort, isSend, isOld, removedBy, less, Reports, Hands, Named}
-use Rattle.machine.specs.Claim.{QueuesAt, WaitsOn}
-use Rattle.machine.specs.Claim.{Claim}
+use Rattle.machine.specs.Claim.{In, IsAbort, isSend, isOld, removedBy, less, Reports, Hands, Named, QueuesAt}
+use Rattle.machine.specs.Claim.{WaitsOn, Claim}
 use Rattle.machine.specs.Tied.{Tied}
 use Rattle.machine.proofs.Sublists.{Apart, map-mem, map-only, distinct-map, entry-grow}
 use Rattle.machine.proofs.Preserved.Ready.{none-some}
-use Rattle.machine.proofs.Demand3.Standing.{callAt, callOf, sends-call, Exact, Both, Core, stood-exact, isOld-grow}
+use Rattle.machine.proofs.Demand3.Standing.{callAt, callOf, sends-call, Exact, Both, Core, stood-exact}
+use Rattle.machine.proofs.Demand3.Standing.{isOld-grow}
 use Rattle.machine.proofs.Demand3.EachLook.{queued-call}
 
 -- A delivery: what the claim says of it, made before now.

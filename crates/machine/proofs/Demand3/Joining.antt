@@ -15,18 +15,17 @@ use Rattle.machine.specs.State.{State, Thread, owns, Abort, live, setThr
 use Rattle.machine.specs.Endpoints.{underAbort, ownerOf, dropDebt}
 use Rattle.machine.specs.Aborts.{begin, joinAs, join, workOwn, underBadge, abortFrom, ownsThis, dropUnless}
 use Rattle.machine.specs.Aborts.{dropOther, abortOpen}
-use Rattle.machine.specs.History.{Aborting, Walk, isIn, joinsIn, letsGo, isUnder, goesOn, letsOther, comesIn}
-use Rattle.machine.specs.History.{walk}
+use Rattle.machine.specs.History.{Aborting, isIn}
+use Rattle.machine.specs.Walk.{Walk, joinsIn, letsGo, isUnder, walk}
+use Rattle.machine.specs.Outcomes.{goesOn, letsOther, comesIn}
 use Rattle.machine.specs.Tied.{listOf, Tied}
 use Rattle.machine.proofs.Lists.{Same, same, other, same?, clash, put-same}
 use Rattle.machine.proofs.Sublists.{sub-refl}
-use Rattle.machine.specs.Mid.{Mid}
+use Rattle.machine.specs.Mid.{Mid, Owed, clear, mine}
 use Rattle.machine.proofs.Preserved.Statuses.{Keeps, keeps-self, keeps-both}
 use Rattle.machine.proofs.Preserved.Debts.{mid-dropDebt, dropDebt-drops}
 use Rattle.machine.proofs.Preserved.AbortSteps.{mid-join}
-use Rattle.machine.specs.Mid.{Owed, clear, mine}
-use Rattle.machine.proofs.Preserved.Aborts.{running-present, join-status, unowed, unowned}
-use Rattle.machine.proofs.Preserved.Aborts.{owns-this}
+use Rattle.machine.proofs.Preserved.Aborts.{running-present, join-status, unowed, unowned, owns-this}
 use Rattle.machine.proofs.Demand3.Standing.{Both, Core}
 use Rattle.machine.proofs.Demand3.Leaving.{Leaves, leaves-self, leaves-then, leaves-debt, leaves-endpoint}
 use Rattle.machine.proofs.Demand3.Leaving.{passes-owner, leaves-dropDebt, core-leaves}

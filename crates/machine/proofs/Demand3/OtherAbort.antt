@@ -13,11 +13,12 @@ use Rattle.machine.specs.Lists.{put}
 use Rattle.machine.specs.State.{State, nothing, Abort, live, Endpoint}
 use Rattle.machine.specs.Endpoints.{senders, pendingOf, endAbort}
 use Rattle.machine.specs.Aborts.{Looked, pendingAt, lookUpTo, beginAfter, finished, lookedOther, workOther}
-use Rattle.machine.specs.History.{Aborting, Reported, NamedLook, Walk, Course, namedLooks, hearsBy, reportOf}
-use Rattle.machine.specs.History.{begins, ends, passes, settles, settle, walk, closes, close}
+use Rattle.machine.specs.History.{Aborting, Reported, NamedLook, namedLooks}
+use Rattle.machine.specs.Walk.{Walk, Course, hearsBy, reportOf, begins, ends, passes, settles, settle, walk}
+use Rattle.machine.specs.Walk.{closes, close}
 use Rattle.machine.proofs.Lists.{put-same}
-use Rattle.machine.proofs.Preserved.Debts.{nothing-owns, live-present, mid-endAbort, endAbort-entry, endAbort-runs}
-use Rattle.machine.proofs.Preserved.Debts.{endAbort-debt}
+use Rattle.machine.proofs.Preserved.Debts.{nothing-owns, live-present, mid-endAbort, endAbort-entry}
+use Rattle.machine.proofs.Preserved.Debts.{endAbort-runs, endAbort-debt}
 use Rattle.machine.proofs.Preserved.AbortSteps.{Steady, steady-lookUpTo}
 use Rattle.machine.proofs.Preserved.Aborts.{running-present}
 use Rattle.machine.proofs.Demand3.Standing.{Stood, Core}
@@ -26,8 +27,8 @@ use Rattle.machine.proofs.Demand3.Owing.{tied-free, tied-end}
 use Rattle.machine.proofs.Demand3.Together.{put-again, Gone, walkAt, Going, going-abort, left-some, left-none}
 use Rattle.machine.proofs.Demand3.Together.{settle-pending}
 use Rattle.machine.proofs.Demand3.EachLook.{Frame, frame-then, frame-keep, Walked, walked}
-use Rattle.machine.proofs.Demand3.OwnAbort.{More, more-cons, walk-keeps, keeps-endAbort, walk-settle, walk-nil, Ran}
-use Rattle.machine.proofs.Demand3.OwnAbort.{own-begins}
+use Rattle.machine.proofs.Demand3.OwnAbort.{More, more-cons, walk-keeps, keeps-endAbort, walk-settle, walk-nil}
+use Rattle.machine.proofs.Demand3.OwnAbort.{Ran, own-begins}
 
 module _
     (past : List Call) (answers : List Answer) (since : ℕ → ℕ) (standing : ℕ → Option Aborting) (t e b place : ℕ)

@@ -13,12 +13,14 @@ use Rattle.machine.specs.declared.Call.the-variants.{CreateThread, Destr
 use Rattle.machine.specs.declared.Call.the-variants.{Interrupt, Tick, Send, Receive, Yield, Wait, Delete, Abort}
 use Rattle.machine.specs.Calls.{numberOf}
 use Rattle.machine.specs.Lists.{put, without, only, Mem, Distinct, Rising}
-use Rattle.machine.specs.State.{State, live}
+use Rattle.machine.specs.State.{State}
 use Rattle.machine.specs.Results.{Look, Result, plain}
 use Rattle.machine.specs.Machine.{step}
 use Rattle.machine.specs.Sound.{Sound}
-use Rattle.machine.specs.History.{Waiting, History, Outcome, isIn, isAccepted, queues?, named, waitingIn}
-use Rattle.machine.specs.History.{letGoBy, drops, outcomeOf, outcomeIf, recorded, told}
+use Rattle.machine.specs.Sorts.{Sort, other, destroys, waits, receives, yields, removes, looks, sortOf}
+use Rattle.machine.specs.History.{Waiting, History, isIn, isAccepted, queues?, named, waitingIn}
+use Rattle.machine.specs.Outcomes.{Outcome, letGoBy, drops, outcomeOf, outcomeIf}
+use Rattle.machine.specs.Recorded.{recorded, told}
 use Rattle.machine.specs.Tied.{Tied}
 use Rattle.machine.proofs.Lists.{put-same, put-other}
 use Rattle.machine.proofs.Preserved.Sites.{differ}
@@ -30,31 +32,27 @@ use Rattle.machine.proofs.Demand3.Leaving.{Leaves, core-leaves}
 use Rattle.machine.proofs.Demand3.Owing.{tied-still, tied-drop}
 use Rattle.machine.proofs.Demand3.EachLook.{queued-call}
 use Rattle.machine.proofs.Demand3.Blocking.{Joins, Blocks, core-blocks}
-use Rattle.machine.proofs.Demand3.Arrivals.{dropsIf, Sheds, keeps, sheds, Turn, idle, blocks, Simple, turn}
+use Rattle.machine.proofs.Demand3.HostCalls.{dropsIf, Sheds, keeps, sheds, Turn, idle, blocks}
+use Rattle.machine.proofs.Demand3.Arrivals.{Simple, turn}
 use Rattle.machine.proofs.Demand3.Handing.{Takes, handed-first, takes}
 use Rattle.machine.proofs.Preserved.Steps.{step-sound}
 use Rattle.machine.proofs.Demand3.Invariant.{Given, Inv, queued-apart}
 use Rattle.machine.proofs.Demand3.Recording.{deliveryOf, Duty8, Duty12, Goes, goes}
 
 -- Calls other than 11 and 12 begin and end no abort; they drop the debts of whom they should.
-outcome-simple : (c : Call) → Simple c → (b : Bool) (o : Option ℕ) (r : Result) (h : History)
-    → outcomeIf b c o r h ≡ drops (dropsIf b c o) r h
+outcome-simple : (x : Sort) → Simple x → (b : Bool) (o : Option ℕ) (r : Result) (h : History)
+    → outcomeIf b x o r h ≡ drops (dropsIf b x o) r h
 unfolding outcomeIf outcomeOf
-outcome-simple c n false o r h = refl
-outcome-simple (CreateThread t p) n true o r h = refl
-outcome-simple (DestroyThread t) n true o r h = refl
-outcome-simple (SetPriority t p) n true o r h = refl
-outcome-simple (CreateEndpoint e) n true o r h = refl
-outcome-simple (Interrupt l) n true o r h = refl
-outcome-simple Tick n true o r h = refl
-outcome-simple (Send e b m) n true o r h = refl
-outcome-simple (Receive e) n true o r h = refl
-outcome-simple Yield n true o r h = refl
-outcome-simple (Wait l) n true o r h = refl
-outcome-simple (Delete e a) n true o r h = absurd n
-outcome-simple (Abort e a b) n true o r h = absurd n
+outcome-simple x n false o r h = refl
+outcome-simple other n true o r h = refl
+outcome-simple (destroys t) n true o r h = refl
+outcome-simple waits n true o r h = refl
+outcome-simple (receives e) n true o r h = refl
+outcome-simple yields n true o r h = refl
+outcome-simple (removes e) n true o r h = absurd n
+outcome-simple (looks e a b) n true o r h = absurd n
 
-simple-number : (c : Call) → Simple c → numberOf c ≡ 12 → ⊥
+simple-number : (c : Call) → Simple (sortOf c) → numberOf c ≡ 12 → ⊥
 simple-number (CreateThread t p) n h = omega arith
 simple-number (DestroyThread t) n h = omega arith
 simple-number (SetPriority t p) n h = omega arith
@@ -92,7 +90,7 @@ module _ (past : List Call) (s : State) (h : History) (I : Inv past s h) where
   -- A receive that is done.
   hands :
       (e : ℕ) (r : Result) (o : Option ℕ) → Takes s e r
-      → Given (past ++ (Receive e ∷ [])) (recorded (h .since) (drops o r h) (Receive e) r h)
+      → Given (past ++ (Receive e ∷ [])) (recorded (h .since) (drops o r h) (receives e) r h)
       (deliveryOf e r (waitingIn (h .since) (r .state)) h)
   unfolding recorded
   hands e r o T =
@@ -155,8 +153,8 @@ module _ (past : List Call) (s : State) (h : History) (I : Inv past s h) where
   simple-duty8 :
       (c : Call) (r : Result) (since : ℕ → ℕ) (o : Outcome) (x : Call)
       → ((e : ℕ) → x ≡ Receive e → r .answer .code ≡ 0
-      → Given (past ++ (c ∷ [])) (recorded since o c r h) (deliveryOf e r (waitingIn since (r .state)) h))
-      → Duty8 past s h I c r since o x
+      → Given (past ++ (c ∷ [])) (recorded since o (sortOf c) r h) (deliveryOf e r (waitingIn since (r .state)) h))
+      → Duty8 past s h I c r since o (sortOf x)
   simple-duty8 c r since o (CreateThread t p) d = tt
   simple-duty8 c r since o (DestroyThread t) d = tt
   simple-duty8 c r since o (SetPriority t p) d = tt
@@ -171,31 +169,26 @@ module _ (past : List Call) (s : State) (h : History) (I : Inv past s h) where
   simple-duty8 c r since o (Abort e a b) d = tt
 
   simple-duty12 :
-      (c : Call) (r : Result) (since : ℕ → ℕ) (o : Outcome) (x : Call) → Simple x → Duty12 past s h I c r since o x
-  simple-duty12 c r since o (CreateThread t p) n = tt
-  simple-duty12 c r since o (DestroyThread t) n = tt
-  simple-duty12 c r since o (SetPriority t p) n = tt
-  simple-duty12 c r since o (CreateEndpoint e) n = tt
-  simple-duty12 c r since o (Interrupt l) n = tt
-  simple-duty12 c r since o Tick n = tt
-  simple-duty12 c r since o (Send e b m) n = tt
-  simple-duty12 c r since o (Receive e) n = tt
-  simple-duty12 c r since o Yield n = tt
-  simple-duty12 c r since o (Wait l) n = tt
-  simple-duty12 c r since o (Delete e a) n = tt
-  simple-duty12 c r since o (Abort e a b) n = absurd n
+      (c : Call) (r : Result) (since : ℕ → ℕ) (o : Outcome) (x : Sort) → Simple x → Duty12 past s h I c r since o x
+  simple-duty12 c r since o other n = tt
+  simple-duty12 c r since o (destroys t) n = tt
+  simple-duty12 c r since o waits n = tt
+  simple-duty12 c r since o (receives e) n = tt
+  simple-duty12 c r since o yields n = tt
+  simple-duty12 c r since o (removes e) n = tt
+  simple-duty12 c r since o (looks e a b) n = absurd n
 
-  module _ (c : Call) (n : Simple c) (r : Result) (S : Sound (r .state)) (looks : r .looks ≡ [])
+  module _ (c : Call) (n : Simple (sortOf c)) (r : Result) (S : Sound (r .state)) (unlooked : r .looks ≡ [])
       (T : (e : ℕ) → c ≡ Receive e → r .answer .code ≡ 0 → Takes s e r) where
     -- Whose debts it drops.
     abbrev who : Option ℕ
-    who = dropsIf (isAccepted (r .answer)) c (s .runs)
+    who = dropsIf (isAccepted (r .answer)) (sortOf c) (s .runs)
 
     told-as :
-        (since : ℕ → ℕ) → named (queues? c (r .answer .code)) (s .runs) (h .now) (h .since) ≡ since
-        → told c s r h ≡ recorded since (drops who r h) c r h
+        (since : ℕ → ℕ) → named (queues? (sortOf c) (r .answer .code)) (s .runs) (h .now) (h .since) ≡ since
+        → told c s r h ≡ recorded since (drops who r h) (sortOf c) r h
     unfolding told
-    told-as since p = rw (p, outcome-simple c n (isAccepted (r .answer)) (s .runs) r h)
+    told-as since p = rw (p, outcome-simple (sortOf c) n (isAccepted (r .answer)) (s .runs) r h)
 
     sheds-tied : Sheds s c r
         → Tied (r .state .threads) (r .state .endpoints) (letGoBy who (h .aborts .debts)) (h .aborts .ended)
@@ -212,7 +205,7 @@ module _ (past : List Call) (s : State) (h : History) (I : Inv past s h) where
 
     no-stray : map (λ (v : Look). h .since (v .waiter)) (r .looks) ++ h .aborts .stray ≡ []
     no-stray =
-        ap (λ (l : List Look). map (λ (v : Look). h .since (v .waiter)) l ++ h .aborts .stray) looks ∙ I .stray
+        ap (λ (l : List Look). map (λ (v : Look). h .since (v .waiter)) l ++ h .aborts .stray) unlooked ∙ I .stray
 
     idle-goes : Leaves s (r .state) → Sheds s c r → Goes past s h I c r (h .since) (drops who r h)
     idle-goes L D =
@@ -229,10 +222,10 @@ module _ (past : List Call) (s : State) (h : History) (I : Inv past s h) where
               (λ e p q.
               subst
               (λ (x : Call).
-              Given (past ++ (x ∷ [])) (recorded (h .since) (drops who r h) x r h)
+              Given (past ++ (x ∷ [])) (recorded (h .since) (drops who r h) (sortOf x) r h)
               (deliveryOf e r (waitingIn (h .since) (r .state)) h))
               (sym p) (hands e r who (T e p q)));
-          duty12 = simple-duty12 c r (h .since) (drops who r h) c n;
+          duty12 = simple-duty12 c r (h .since) (drops who r h) (sortOf c) n;
         }
 
     -- The caller comes to wait, with a name above all others.
@@ -298,7 +291,7 @@ module _ (past : List Call) (s : State) (h : History) (I : Inv past s h) where
             duty8 =
                 simple-duty8 c r since′ (drops who r h) c
                 (λ e p q. absurd (no-zero (ap (λ (x : Answer). x .code) (sym (B .answer)) ∙ q)));
-            duty12 = simple-duty12 c r since′ (drops who r h) c n;
+            duty12 = simple-duty12 c r since′ (drops who r h) (sortOf c) n;
           }
         where
           no-zero : _≡_ {A = ℕ} 1 0 → ⊥
@@ -315,14 +308,15 @@ module _ (past : List Call) (s : State) (h : History) (I : Inv past s h) where
         (goes past s h I c r (put (h .since) (B .caller) (h .now)) (drops who r h) (block-goes B D))
       where
         new-name :
-            named (queues? c (r .answer .code)) (s .runs) (h .now) (h .since) ≡ put (h .since) (B .caller) (h .now)
+            named (queues? (sortOf c) (r .answer .code)) (s .runs) (h .now) (h .since)
+            ≡ put (h .since) (B .caller) (h .now)
         new-name =
-            ap (λ (a : Answer). named (queues? c (a .code)) (s .runs) (h .now) (h .since)) (B .answer)
+            ap (λ (a : Answer). named (queues? (sortOf c) (a .code)) (s .runs) (h .now) (h .since)) (B .answer)
             ∙ ap (λ (b : Bool). named b (s .runs) (h .now) (h .since)) (B .queues)
             ∙ ap (λ (k : Option ℕ). named true k (h .now) (h .since)) (B .runs)
 
   -- Calls 1 to 10.
-  pub advance : (c : Call) → Simple c → Inv (past ++ (c ∷ [])) (step s c .state) (told c s (step s c) h)
+  pub advance : (c : Call) → Simple (sortOf c) → Inv (past ++ (c ∷ [])) (step s c .state) (told c s (step s c) h)
   advance c n =
       advance-simple c n (step s c) (step-sound s c (I .sound)) (no-looks s c (simple-number c n))
       (λ e p q. subst (λ (x : Call). Takes s e (step s x)) (sym p)

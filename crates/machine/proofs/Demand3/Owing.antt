@@ -9,14 +9,14 @@ use mathlib.Core.List.{List, [], _∷_}
 use native.Mathlib.Omega.{arith}
 use lib.Dec.{eqb}
 use Rattle.machine.specs.Lists.{pick, put, without}
-use Rattle.machine.specs.State.{State, Thread, Debt, nothing, owns, noted, Abort, Status, Endpoint}
-use Rattle.machine.specs.State.{setThread, setEndpoint, withDebt}
+use Rattle.machine.specs.State.{State, Thread, Debt, nothing, owns, noted, Abort, Status, Endpoint, setThread}
+use Rattle.machine.specs.State.{setEndpoint, withDebt}
 use Rattle.machine.specs.Endpoints.{ownerOf, passing, withOwner, leaveEndpoint, wakeFrom, dropped, dropDebt}
 use Rattle.machine.specs.Endpoints.{noteTo, note, endAbort}
 use Rattle.machine.specs.Aborts.{begin, joinAs, join}
 use Rattle.machine.specs.Sound.{Owners}
-use Rattle.machine.specs.History.{Aborting, Ended, Reported, Debts, isIn, takesUp, joining, joinsIn, letsGo}
-use Rattle.machine.specs.History.{hears, reportOf}
+use Rattle.machine.specs.History.{Aborting, Ended, Reported, Debts, isIn}
+use Rattle.machine.specs.Walk.{takesUp, joining, joinsIn, letsGo, hears, reportOf}
 use Rattle.machine.specs.Claim.{In}
 use Rattle.machine.specs.Tied.{listOf, noteIn, noteFrom, Tied}
 use Rattle.machine.proofs.Lists.{Same, same, other, same?, put-all, put-same, put-other, without-hit}

@@ -18,9 +18,9 @@ use Rattle.machine.specs.Endpoints.{endAbort}
 use Rattle.machine.specs.Results.{Look, Result, counted}
 use Rattle.machine.specs.Aborts.{Looked, pendingAt, lookUpTo, begin, ended, lookedOwn, workOwn}
 use Rattle.machine.specs.Sound.{Present}
-use Rattle.machine.specs.History.{Aborting, Ended, isAccepted, Reported, NamedLook, Walk, Course, namedLooks}
-use Rattle.machine.specs.History.{takesUp, hearsBy, begins, ends, passes, settles, settle, walk, closes, close}
-use Rattle.machine.specs.History.{reportOf, reportIf}
+use Rattle.machine.specs.History.{Aborting, Ended, isAccepted, Reported, NamedLook, namedLooks}
+use Rattle.machine.specs.Walk.{Walk, Course, takesUp, hearsBy, begins, ends, passes, settles, settle, walk}
+use Rattle.machine.specs.Walk.{closes, close, reportOf, reportIf}
 use Rattle.machine.specs.Claim.{In}
 use Rattle.machine.specs.Tied.{Tied}
 use Rattle.machine.proofs.Lists.{put-same}

@@ -11,14 +11,16 @@ use lib.ListN.{length, getElem?}
 use borrow.Author.Tests.{eq-eqb, eqb-true}
 use Rattle.machine.specs.declared.Answer.{Answer}
 use Rattle.machine.specs.declared.Call.{Call}
-use Rattle.machine.specs.declared.Call.the-variants.{CreateThread, DestroyThread, SetPriority, CreateEndpoint}
-use Rattle.machine.specs.declared.Call.the-variants.{Interrupt, Tick, Send, Receive, Yield, Wait, Delete, Abort}
+use Rattle.machine.specs.declared.Call.the-variants.{Receive, Abort}
 use Rattle.machine.specs.Lists.{only, Rising}
 use Rattle.machine.specs.State.{State}
 use Rattle.machine.specs.Results.{Result}
 use Rattle.machine.specs.Sound.{Sound}
-use Rattle.machine.specs.History.{Ended, Delivery, AbortCall, Waiting, Reported, Outcome, History, isIn}
-use Rattle.machine.specs.History.{waitingIn, namedLooks, delivered, deliveredIf, abortCallsOf, recorded}
+use Rattle.machine.specs.Sorts.{Sort, other, destroys, waits, receives, yields, removes, looks, sortOf}
+use Rattle.machine.specs.History.{Ended, Delivery, AbortCall, Waiting, Reported, History, isIn, waitingIn}
+use Rattle.machine.specs.History.{namedLooks}
+use Rattle.machine.specs.Outcomes.{Outcome}
+use Rattle.machine.specs.Recorded.{delivered, deliveredIf, abortCallsOf, recorded}
 use Rattle.machine.specs.Claim.{In}
 use Rattle.machine.specs.Tied.{Tied}
 use Rattle.machine.proofs.Sublists.{entry-below, entry-keep, entry-last, entry-cases, length-grow}
@@ -55,39 +57,29 @@ abortCallOf e a b r w x h =
 module _ (past : List Call) (s : State) (h : History) (I : Inv past s h) (c : Call) (r : Result) (since : ℕ → ℕ)
     (o : Outcome) where
   abbrev k : History
-  k = recorded since o c r h
+  k = recorded since o (sortOf c) r h
 
   abbrev w : Waiting
   w = waitingIn since (r .state)
 
   -- What a call 8, and a call 12, has to show for its record.
-  abbrev pub Duty8 : Call → Type 0
-  Duty8 (CreateThread t p) = Unit {0}
-  Duty8 (DestroyThread t) = Unit {0}
-  Duty8 (SetPriority t p) = Unit {0}
-  Duty8 (CreateEndpoint e) = Unit {0}
-  Duty8 (Interrupt l) = Unit {0}
-  Duty8 Tick = Unit {0}
-  Duty8 (Send e b m) = Unit {0}
-  Duty8 (Receive e) = r .answer .code ≡ 0 → Given (past ++ (c ∷ [])) k (deliveryOf e r w h)
-  Duty8 Yield = Unit {0}
-  Duty8 (Wait l) = Unit {0}
-  Duty8 (Delete e a) = Unit {0}
-  Duty8 (Abort e a b) = Unit {0}
+  abbrev pub Duty8 : Sort → Type 0
+  Duty8 other = Unit {0}
+  Duty8 (destroys t) = Unit {0}
+  Duty8 waits = Unit {0}
+  Duty8 (receives e) = r .answer .code ≡ 0 → Given (past ++ (c ∷ [])) k (deliveryOf e r w h)
+  Duty8 yields = Unit {0}
+  Duty8 (removes e) = Unit {0}
+  Duty8 (looks e a b) = Unit {0}
 
-  abbrev pub Duty12 : Call → Type 0
-  Duty12 (CreateThread t p) = Unit {0}
-  Duty12 (DestroyThread t) = Unit {0}
-  Duty12 (SetPriority t p) = Unit {0}
-  Duty12 (CreateEndpoint e) = Unit {0}
-  Duty12 (Interrupt l) = Unit {0}
-  Duty12 Tick = Unit {0}
-  Duty12 (Send e b m) = Unit {0}
-  Duty12 (Receive e) = Unit {0}
-  Duty12 Yield = Unit {0}
-  Duty12 (Wait l) = Unit {0}
-  Duty12 (Delete e a) = Unit {0}
-  Duty12 (Abort e a b) = Called k (abortCallOf e a b r w (o .reports) h)
+  abbrev pub Duty12 : Sort → Type 0
+  Duty12 other = Unit {0}
+  Duty12 (destroys t) = Unit {0}
+  Duty12 waits = Unit {0}
+  Duty12 (receives e) = Unit {0}
+  Duty12 yields = Unit {0}
+  Duty12 (removes e) = Unit {0}
+  Duty12 (looks e a b) = Called k (abortCallOf e a b r w (o .reports) h)
 
   pub record Goes : Type 0 where
     pub sound : Sound (r .state)
@@ -99,99 +91,80 @@ module _ (past : List Call) (s : State) (h : History) (I : Inv past s h) (c : Ca
     pub stray : o .aborts .stray ≡ []
     pub new : (z : Ended) → In z (o .aborts .ended) → In z (h .aborts .ended) ⊎ (h .now ≤ z .by)
     pub kept : (z : Ended) → In z (h .aborts .ended) → In z (o .aborts .ended)
-    pub duty8 : Duty8 c
-    pub duty12 : Duty12 c
+    pub duty8 : Duty8 (sortOf c)
+    pub duty12 : Duty12 (sortOf c)
 
   -- Old and new records.
-  old-delivery : (x : Call) (d : Delivery) → In d (h .deliveries) → In d (delivered x r w h)
+  old-delivery : (x : Sort) (d : Delivery) → In d (h .deliveries) → In d (delivered x r w h)
   unfolding delivered deliveredIf
-  old-delivery (CreateThread t p) d i = i
-  old-delivery (DestroyThread t) d i = i
-  old-delivery (SetPriority t p) d i = i
-  old-delivery (CreateEndpoint e) d i = i
-  old-delivery (Interrupt l) d i = i
-  old-delivery Tick d i = i
-  old-delivery (Send e b m) d i = i
-  old-delivery (Receive e) d i = go (eqb (r .answer .code) 0)
+  old-delivery other d i = i
+  old-delivery (destroys t) d i = i
+  old-delivery waits d i = i
+  old-delivery (receives e) d i = go (eqb (r .answer .code) 0)
     where
       go : (b : Bool) → In d (deliveredIf b e r w h)
       go true = inr i
       go false = i
-  old-delivery Yield d i = i
-  old-delivery (Wait l) d i = i
-  old-delivery (Delete e a) d i = i
-  old-delivery (Abort e a b) d i = i
+  old-delivery yields d i = i
+  old-delivery (removes e) d i = i
+  old-delivery (looks e a b) d i = i
 
-  old-call : (x : Call) (y : AbortCall) → In y (h .abortCalls) → In y (abortCallsOf x r w (o .reports) h)
+  old-call : (x : Sort) (y : AbortCall) → In y (h .abortCalls) → In y (abortCallsOf x r w (o .reports) h)
   unfolding abortCallsOf
-  old-call (CreateThread t p) y i = i
-  old-call (DestroyThread t) y i = i
-  old-call (SetPriority t p) y i = i
-  old-call (CreateEndpoint e) y i = i
-  old-call (Interrupt l) y i = i
-  old-call Tick y i = i
-  old-call (Send e b m) y i = i
-  old-call (Receive e) y i = i
-  old-call Yield y i = i
-  old-call (Wait l) y i = i
-  old-call (Delete e a) y i = i
-  old-call (Abort e a b) y i = inr i
+  old-call other y i = i
+  old-call (destroys t) y i = i
+  old-call waits y i = i
+  old-call (receives e) y i = i
+  old-call yields y i = i
+  old-call (removes e) y i = i
+  old-call (looks e a b) y i = inr i
 
   module _ (P : Delivery → Type 0) (old : (d : Delivery) → In d (h .deliveries) → P d) where
     deliveries :
-        (x : Call) → ((e : ℕ) → x ≡ Receive e → r .answer .code ≡ 0 → P (deliveryOf e r w h)) → (d : Delivery)
+        (x : Sort) → ((e : ℕ) → x ≡ receives e → r .answer .code ≡ 0 → P (deliveryOf e r w h)) → (d : Delivery)
         → In d (delivered x r w h) → P d
     unfolding delivered deliveredIf
-    deliveries (CreateThread t p) new d i = old d i
-    deliveries (DestroyThread t) new d i = old d i
-    deliveries (SetPriority t p) new d i = old d i
-    deliveries (CreateEndpoint e) new d i = old d i
-    deliveries (Interrupt l) new d i = old d i
-    deliveries Tick new d i = old d i
-    deliveries (Send e b m) new d i = old d i
-    deliveries (Receive e) new d i = go (eqb (r .answer .code) 0) refl i
+    deliveries other new d i = old d i
+    deliveries (destroys t) new d i = old d i
+    deliveries waits new d i = old d i
+    deliveries (receives e) new d i = go (eqb (r .answer .code) 0) refl i
       where
         go : (b : Bool) → eqb (r .answer .code) 0 ≡ b → In d (deliveredIf b e r w h) → P d
         go true q (inl j) = subst P (sym j) (new e refl (eqb-true (r .answer .code) 0 q))
         go true q (inr j) = old d j
         go false q j = old d j
-    deliveries Yield new d i = old d i
-    deliveries (Wait l) new d i = old d i
-    deliveries (Delete e a) new d i = old d i
-    deliveries (Abort e a b) new d i = old d i
+    deliveries yields new d i = old d i
+    deliveries (removes e) new d i = old d i
+    deliveries (looks e a b) new d i = old d i
 
   module _ (P : AbortCall → Type 0) (old : (y : AbortCall) → In y (h .abortCalls) → P y) where
     calls :
-        (x : Call) → ((e a b : ℕ) → x ≡ Abort e a b → P (abortCallOf e a b r w (o .reports) h)) → (y : AbortCall)
+        (x : Sort) → ((e a b : ℕ) → x ≡ looks e a b → P (abortCallOf e a b r w (o .reports) h)) → (y : AbortCall)
         → In y (abortCallsOf x r w (o .reports) h) → P y
     unfolding abortCallsOf
-    calls (CreateThread t p) new y i = old y i
-    calls (DestroyThread t) new y i = old y i
-    calls (SetPriority t p) new y i = old y i
-    calls (CreateEndpoint e) new y i = old y i
-    calls (Interrupt l) new y i = old y i
-    calls Tick new y i = old y i
-    calls (Send e b m) new y i = old y i
-    calls (Receive e) new y i = old y i
-    calls Yield new y i = old y i
-    calls (Wait l) new y i = old y i
-    calls (Delete e a) new y i = old y i
-    calls (Abort e a b) new y (inl j) = subst P (sym j) (new e a b refl)
-    calls (Abort e a b) new y (inr j) = old y j
+    calls other new y i = old y i
+    calls (destroys t) new y i = old y i
+    calls waits new y i = old y i
+    calls (receives e) new y i = old y i
+    calls yields new y i = old y i
+    calls (removes e) new y i = old y i
+    calls (looks e a b) new y (inl j) = subst P (sym j) (new e a b refl)
+    calls (looks e a b) new y (inr j) = old y j
 
-  new-delivery : (e : ℕ) → c ≡ Receive e → r .answer .code ≡ 0 → In (deliveryOf e r w h) (delivered c r w h)
+  new-delivery : (e : ℕ) → c ≡ Receive e → r .answer .code ≡ 0 → In (deliveryOf e r w h) (delivered (sortOf c) r w h)
   unfolding delivered deliveredIf
   new-delivery e p q =
-      subst (λ (x : Call). In (deliveryOf e r w h) (delivered x r w h)) (sym p)
+      subst (λ (x : Call). In (deliveryOf e r w h) (delivered (sortOf x) r w h)) (sym p)
       (subst (λ (b : Bool). In (deliveryOf e r w h) (deliveredIf b e r w h)) (sym (eq-eqb (r .answer .code) 0 q))
       (inl refl))
 
   new-call :
-      (e a b : ℕ) → c ≡ Abort e a b → In (abortCallOf e a b r w (o .reports) h) (abortCallsOf c r w (o .reports) h)
+      (e a b : ℕ) → c ≡ Abort e a b
+      → In (abortCallOf e a b r w (o .reports) h) (abortCallsOf (sortOf c) r w (o .reports) h)
   unfolding abortCallsOf
   new-call e a b p =
-      subst (λ (x : Call). In (abortCallOf e a b r w (o .reports) h) (abortCallsOf x r w (o .reports) h)) (sym p)
-      (inl refl)
+      subst (λ (x : Call). In (abortCallOf e a b r w (o .reports) h) (abortCallsOf (sortOf x) r w (o .reports) h))
+      (sym p) (inl refl)
 
   has12 : (i e a b : ℕ) → getElem? (past ++ (c ∷ [])) i ≡ some (Abort e a b) → Recorded12 k i e a b
   unfolding recorded
@@ -199,7 +172,7 @@ module _ (past : List Call) (s : State) (h : History) (I : Inv past s h) (c : Ca
     where
       go : (getElem? past i ≡ some (Abort e a b)) ⊎ ((i ≡ length past) × (c ≡ Abort e a b)) → Recorded12 k i e a b
       go (inl q) =
-          let y = I .recorded12 i e a b q in (y .0, old-call c (y .0) (y .1), y .2, y .3, y .4, y .5)
+          let y = I .recorded12 i e a b q in (y .0, old-call (sortOf c) (y .0) (y .1), y .2, y .3, y .4, y .5)
       go (inr q) =
           (abortCallOf e a b r w (o .reports) h, new-call e a b (q .1), I .now ∙ sym (q .0), refl, refl, refl)
 
@@ -214,7 +187,7 @@ module _ (past : List Call) (s : State) (h : History) (I : Inv past s h) (c : Ca
           let m = entry-below past i (Receive e) j in
           let n : i < length (h .answers) = omega (arith, I .answered) in
           let d = I .recorded8 i e a j (sym (entry-keep (h .answers) (r .answer ∷ []) i n) ∙ q) z in
-          (d .0, old-delivery c (d .0) (d .1), d .2, d .3, d .4, d .5)
+          (d .0, old-delivery (sortOf c) (d .0) (d .1), d .2, d .3, d .4, d .5)
       go (inr j) =
           let n : i ≡ length (h .answers) = j .0 ∙ sym (I .answered) in
           let last : some (r .answer) ≡ some a =
@@ -243,10 +216,10 @@ module _ (past : List Call) (s : State) (h : History) (I : Inv past s h) (c : Ca
         stray = G .stray;
         given =
             deliveries (Given (past ++ (c ∷ [])) k)
-            (λ d i. given-grow past c (r .answer) h k refl d (omega arith) earlier (I .given d i)) c
+            (λ d i. given-grow past c (r .answer) h k refl d (omega arith) earlier (I .given d i)) (sortOf c)
             (λ e p q. subst Duty8 p (G .duty8) q);
         called =
-            calls (Called k) (λ y i. called-grow past c (r .answer) h k refl y (G .kept) (I .called y i)) c
+            calls (Called k) (λ y i. called-grow past c (r .answer) h k refl y (G .kept) (I .called y i)) (sortOf c)
             (λ e a b p. subst Duty12 p (G .duty12));
         recorded12 = has12;
         recorded8 = has8;

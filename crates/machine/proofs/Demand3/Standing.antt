@@ -13,15 +13,13 @@ use Rattle.machine.specs.declared.Answer.{Answer}
 use Rattle.machine.specs.declared.Call.{Call}
 use Rattle.machine.specs.declared.Call.the-variants.{Send, Receive, Wait}
 use Rattle.machine.specs.Lists.{only, Mem, Distinct}
-use Rattle.machine.specs.State.{Thread, Place, absent, able, sending, receiving, waiting, Abort, live}
-use Rattle.machine.specs.State.{Endpoint}
+use Rattle.machine.specs.State.{Thread, Place, absent, able, sending, receiving, waiting, Abort, live, Endpoint}
 use Rattle.machine.specs.Results.{plain}
 use Rattle.machine.specs.History.{Aborting, Ended}
 use Rattle.machine.specs.Claim.{In, isSendOf, isOld}
 use Rattle.machine.proofs.Preserved.Ready.{none-some}
 use Rattle.machine.proofs.Sublists.{Sub, sub-trans, sub-distinct, sub-length, sub-mem, sub-left, only-agree}
-use Rattle.machine.proofs.Sublists.{entry-keep}
-use Rattle.machine.proofs.Sublists.{entry-grow}
+use Rattle.machine.proofs.Sublists.{entry-keep, entry-grow}
 
 -- The call that a waiter made, by its place, badge and message.
 abbrev pub callAt : Place → ℕ → ℕ → Option Call

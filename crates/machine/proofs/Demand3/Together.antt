@@ -15,16 +15,16 @@ use Rattle.machine.specs.State.{State, Thread, able, sending, Abort, liv
 use Rattle.machine.specs.Scheduling.{enqueue, wake}
 use Rattle.machine.specs.Endpoints.{isSending, senders, pendingOf, passing, leaveEndpoint, wakeFrom}
 use Rattle.machine.specs.Aborts.{hits, lookAt, look}
-use Rattle.machine.specs.History.{Aborting, Ended, Debts, Walk, Course, isIn, isNone, leftOf, passes, settles}
-use Rattle.machine.specs.History.{settle, lookedAt, takes, takeLook}
+use Rattle.machine.specs.History.{Aborting, Ended, Debts, isIn}
+use Rattle.machine.specs.Walk.{Walk, Course, isNone, leftOf, passes, settles, settle, lookedAt, takes, takeLook}
 use Rattle.machine.specs.Claim.{isOld}
 use Rattle.machine.specs.Tied.{Tied}
 use Rattle.machine.proofs.Lists.{Same, same, other, same?, put-all, put-same, put-other, mem-left, mem-right}
-use Rattle.machine.proofs.Lists.{mem-keep, mem-last, only-keep, distinct-apart, without-hit, only-nil}
-use Rattle.machine.proofs.Lists.{only-hit, only-miss, only-none}
-use Rattle.machine.proofs.Sublists.{Sub, take, sub-trans, sub-mem, sub-distinct, sub-map, sub-after}
-use Rattle.machine.proofs.Sublists.{sub-without, only-append, only-without, isIn-true, mem-isIn, not-isIn}
-use Rattle.machine.proofs.Sublists.{mem-map, map-mem, map-without}
+use Rattle.machine.proofs.Lists.{mem-keep, mem-last, only-keep, distinct-apart, without-hit, only-nil, only-hit}
+use Rattle.machine.proofs.Lists.{only-miss, only-none}
+use Rattle.machine.proofs.Sublists.{Sub, take, sub-trans, sub-mem, sub-distinct, sub-map, sub-after, sub-without}
+use Rattle.machine.proofs.Sublists.{only-append, only-without, isIn-true, mem-isIn, not-isIn, mem-map, map-mem}
+use Rattle.machine.proofs.Sublists.{map-without}
 use Rattle.machine.specs.Mid.{Mid}
 use Rattle.machine.proofs.Preserved.AbortSteps.{mid-look, steady-look}
 use Rattle.machine.proofs.Demand3.Standing.{sends-call, Stood, Both, Core}

@@ -12,12 +12,12 @@ use Rattle.machine.specs.State.{State, sending, nothing, owns, Abort, li
 use Rattle.machine.specs.Scheduling.{enqueue, wake}
 use Rattle.machine.specs.Endpoints.{isSending, senders, underAbort, pendingOf, ownerOf, passing, withOwner}
 use Rattle.machine.specs.Endpoints.{leaveEndpoint, wakeFrom}
-use Rattle.machine.specs.Aborts.{hits, lookAt, look, after, pendingAt, lookUpTo, begin, joinAs, join}
-use Rattle.machine.specs.Sound.{Present, Queued, Part}
+use Rattle.machine.specs.Aborts.{hits, lookAt, look, afterLook, pendingAt, lookUpTo, begin, joinAs, join}
+use Rattle.machine.specs.Sound.{Present, Queued, Stretch}
 use Rattle.machine.proofs.Lists.{put-all, clash, distinct-left, distinct-right, without-first, mem-keep}
 use Rattle.machine.proofs.Lists.{mem-only, only-keep, only-all}
 use Rattle.machine.specs.Mid.{Mid}
-use Rattle.machine.proofs.Preserved.Statuses.{Fits, May, bearing, mid-entry, mid-both}
+use Rattle.machine.proofs.Preserved.Statuses.{EntryFits, May, bearing, mid-entry, mid-both}
 use Rattle.machine.proofs.Preserved.Debts.{nothing-owns, owners-claim, abort-live, fits-some, fits-owner}
 use Rattle.machine.proofs.Preserved.Waking.{mid-wakeFrom}
 
@@ -27,7 +27,7 @@ nil-cons {x} {l} p = let z : _≡_ {A = ℕ} 0 1 = cc in omega arith
 -- A look at the first pending.
 
 -- The part of the queue behind its first.
-part-rest : {s : State} {e w : ℕ} {l : List ℕ} → Part s e (w ∷ l) → Part s e l
+part-rest : {s : State} {e w : ℕ} {l : List ℕ} → Stretch s e (w ∷ l) → Stretch s e l
 part-rest {s} {e} {w} {l} P =
     record {
       before = P .before ++ (w ∷ []);
@@ -48,7 +48,7 @@ module _ {s : State} (M : Mid s) (e : ℕ) (a : Abort) (h : s .endpoints e .abor
     passed : without w (a .pending) ≡ l
     passed = rw p (without-first w l (rw p at pending-once))
 
-    part-passed : Part s e (without w (a .pending))
+    part-passed : Stretch s e (without w (a .pending))
     part-passed = rw passed (part-rest (rw p at (M .marks .part e a h)))
 
     -- The first pending waits to send.
@@ -56,7 +56,7 @@ module _ {s : State} (M : Mid s) (e : ℕ) (a : Abort) (h : s .endpoints e .abor
     first-sends = M .marks .part e a h .sends w (rw p (inl refl))
 
     kept-fits :
-        (s .threads w .badge ≡ a .badge → ⊥) → Fits s e (bearing (passing w (some a)) (s .endpoints e))
+        (s .threads w .badge ≡ a .badge → ⊥) → EntryFits s e (bearing (passing w (some a)) (s .endpoints e))
     kept-fits n =
         fits-some M e (record { badge = a .badge; owner = a .owner; pending = without w (a .pending) })
         (abort-live M e a h) (M .ranges .abort-badge e a h) part-passed
@@ -191,10 +191,10 @@ module _ {s : State} (M : Mid s) (e : ℕ) where
       go u (inl p) = ap isSending p
       go u (inr p) = absurd (M .queues .one-kind e w u h p)
 
-  part-senders : Part s e first-to-last
+  part-senders : Stretch s e first-to-last
   part-senders = go first-to-last refl
     where
-      go : (l : List ℕ) → first-to-last ≡ l → Part s e first-to-last
+      go : (l : List ℕ) → first-to-last ≡ l → Stretch s e first-to-last
       go [] h = rw h (record { before = []; behind = queue; within = refl; sends = λ t m. absurd m })
       go (w ∷ l) h =
           record {
@@ -207,7 +207,7 @@ module _ {s : State} (M : Mid s) (e : ℕ) where
   -- The abort of badge b that t begins may stand.
   fits-begin :
       (t b : ℕ) → s .endpoints e .status ≡ live → b < 2 ^ 28
-      → Fits s e (bearing (some (record { badge = b; owner = some t; pending = first-to-last })) (s .endpoints e))
+      → EntryFits s e (bearing (some (record { badge = b; owner = some t; pending = first-to-last })) (s .endpoints e))
   fits-begin t b l h =
       fits-some M e (record { badge = b; owner = some t; pending = first-to-last }) l h part-senders
       (λ u p q.
@@ -250,7 +250,7 @@ mid-join t e s a h M p d = mid-joinAs (ownerOf (s .endpoints e .abort)) t e s a 
 -- "A look takes the cursor's waiter": as many looks as the allowance lets. The second argument is what is pending.
 
 mid-looks : (n : ℕ) (l : List ℕ) (e : ℕ) (s : State) → pendingAt e s ≡ l → Mid s → Mid (lookUpTo n l e s .state)
-unfolding lookUpTo after
+unfolding lookUpTo afterLook
 mid-looks zero l e s p M = M
 mid-looks (suc n) [] e s p M = M
 mid-looks (suc n) (w ∷ l) e s p M =
@@ -260,7 +260,7 @@ pub mid-lookUpTo : (n e : ℕ) (s : State) → Mid s → Mid (lookUpTo n (pendin
 mid-lookUpTo n e s M = mid-looks n (pendingAt e s) e s refl M
 
 pub steady-lookUpTo : (n : ℕ) (l : List ℕ) (e : ℕ) (s : State) → Steady s (lookUpTo n l e s .state)
-unfolding lookUpTo after
+unfolding lookUpTo afterLook
 steady-lookUpTo zero l e s = steady-self s
 steady-lookUpTo (suc n) [] e s = steady-self s
 steady-lookUpTo (suc n) (w ∷ l) e s =

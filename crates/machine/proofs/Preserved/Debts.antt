@@ -11,11 +11,11 @@ use Rattle.machine.specs.Lists.{Mem}
 use Rattle.machine.specs.State.{State, sending, Debt, nothing, owns, noted, Abort, Status, missing, live, closing}
 use Rattle.machine.specs.State.{Endpoint, setThread, setEndpoint, withDebt}
 use Rattle.machine.specs.Endpoints.{ownerOf, withOwner, dropped, dropDebt, noteTo, note, endAbort}
-use Rattle.machine.specs.Sound.{Part, Owners}
+use Rattle.machine.specs.Sound.{Stretch, Owners}
 use Rattle.machine.proofs.Preserved.Ready.{none-some, some-one}
 use Rattle.machine.proofs.Lists.{put-all, put-same}
 use Rattle.machine.specs.Mid.{Mid}
-use Rattle.machine.proofs.Preserved.Statuses.{Keeps, keeps-self, May, Fits, may-stay, fits-stay, bearing, owing, owing-same}
+use Rattle.machine.proofs.Preserved.Statuses.{Keeps, keeps-self, May, EntryFits, may-stay, fits-stay, bearing, owing, owing-same}
 use Rattle.machine.proofs.Preserved.Statuses.{owing-other, keeps-debt, keeps-both, mid-debt, mid-entry, mid-both}
 
 -- Constructors told apart.
@@ -30,14 +30,14 @@ pub owns-one : {d : Debt} {e f : ℕ} → d ≡ owns e → d ≡ owns f → e �
 owns-one {d} {e} {f} p q = cc
 
 -- The debt is no ownership.
-abbrev pub Free : Debt → Type 0
-Free d = (e : ℕ) → d ≡ owns e → ⊥
+abbrev pub NoOwner : Debt → Type 0
+NoOwner d = (e : ℕ) → d ≡ owns e → ⊥
 
 -- Owners and owing threads.
 
 module _ {s : State} (O : Owners s) (t : ℕ) (d : Debt) where
   -- A thread that owned nothing owns nothing.
-  owners-free : Free (s .threads t .debt) → Free d → Owners (setThread t (withDebt d (s .threads t)) s)
+  owners-free : NoOwner (s .threads t .debt) → NoOwner d → Owners (setThread t (withDebt d (s .threads t)) s)
   owners-free was is =
       record {
         each-other =
@@ -72,7 +72,7 @@ module _ {s : State} (O : Owners s) (t : ℕ) (d : Debt) where
 
     -- t owned the abort at e; now neither names the other.
     pub owners-release :
-        s .threads t .debt ≡ owns e → ownerOf (x .abort) ≡ none → Free d
+        s .threads t .debt ≡ owns e → ownerOf (x .abort) ≡ none → NoOwner d
         → Owners (setThread t (withDebt d (s .threads t)) (setEndpoint e x s))
     owners-release was gone free =
         owners-both (λ u n h. n (some-one h (O .each-other e t .1 was))) (λ u n. none-some gone)
@@ -80,7 +80,7 @@ module _ {s : State} (O : Owners s) (t : ℕ) (d : Debt) where
 
     -- The abort at e had no owner and t owned nothing; now t owns it.
     pub owners-claim :
-        ownerOf (s .endpoints e .abort) ≡ none → Free (s .threads t .debt)
+        ownerOf (s .endpoints e .abort) ≡ none → NoOwner (s .threads t .debt)
         → ownerOf (x .abort) ≡ some t → d ≡ owns e
         → Owners (setThread t (withDebt d (s .threads t)) (setEndpoint e x s))
     owners-claim was free now owes =
@@ -121,7 +121,7 @@ module _ {s : State} (M : Mid s) (e : ℕ) where
   -- No abort may stand at a present endpoint.
   pub fits-none :
       (status : Status) → (status ≡ missing → ⊥) → (s .endpoints e .status ≡ missing → ⊥)
-      → Fits s e (record { status = status; waiters = s .endpoints e .waiters; abort = none })
+      → EntryFits s e (record { status = status; waiters = s .endpoints e .waiters; abort = none })
   fits-none status now was =
       record {
         unused = λ h. absurd (present-low was h);
@@ -134,27 +134,27 @@ module _ {s : State} (M : Mid s) (e : ℕ) where
 
   -- The abort a may stand at a live endpoint.
   pub fits-some :
-      (a : Abort) → s .endpoints e .status ≡ live → a .badge < 2 ^ 28 → Part s e (a .pending)
+      (a : Abort) → s .endpoints e .status ≡ live → a .badge < 2 ^ 28 → Stretch s e (a .pending)
       → ((t : ℕ) → s .threads t .place ≡ sending e → s .threads t .badge ≡ a .badge → Mem t (a .pending))
-      → Fits s e (bearing (some a) (s .endpoints e))
+      → EntryFits s e (bearing (some a) (s .endpoints e))
   fits-some a l b p o =
       record {
         unused = λ h. absurd (present-low (live-present l) h);
         empty = λ h. absurd (live-present l h);
         no-abort = λ h. absurd (h l);
         badge = λ c h. subst (λ (k : Abort). k .badge < 2 ^ 28) (some-one refl h) b;
-        part = λ c h. subst (λ (k : Abort). Part s e (k .pending)) (some-one refl h) p;
+        part = λ c h. subst (λ (k : Abort). Stretch s e (k .pending)) (some-one refl h) p;
         none-outside =
             λ t c h g i.
             subst (λ (k : Abort). s .threads t .badge ≡ k .badge → Mem t (k .pending)) (some-one refl h) (o t g) i;
       }
 
   -- Another owner may stand.
-  pub fits-owner : (o : Option ℕ) → Fits s e (bearing (withOwner o (s .endpoints e .abort)) (s .endpoints e))
+  pub fits-owner : (o : Option ℕ) → EntryFits s e (bearing (withOwner o (s .endpoints e .abort)) (s .endpoints e))
   fits-owner o = go (s .endpoints e .abort) refl
     where
-      go : (k : Option Abort) → s .endpoints e .abort ≡ k → Fits s e (bearing (withOwner o k) (s .endpoints e))
-      go none h = subst (λ (k : Option Abort). Fits s e (bearing k (s .endpoints e))) h (fits-stay M e)
+      go : (k : Option Abort) → s .endpoints e .abort ≡ k → EntryFits s e (bearing (withOwner o k) (s .endpoints e))
+      go none h = subst (λ (k : Option Abort). EntryFits s e (bearing k (s .endpoints e))) h (fits-stay M e)
       go (some a) h =
           fits-some (record { badge = a .badge; owner = o; pending = a .pending }) (abort-live a h)
           (M .ranges .abort-badge e a h) (M .marks .part e a h) (λ t. M .marks .none-outside e t a h)

@@ -23,7 +23,7 @@ abbrev pub At : Place → ℕ → Type 0
 At p e = (p ≡ sending e) ⊎ (p ≡ receiving e)
 
 -- Of the abort a that stands at endpoint e, whose queue is given.
-pub record Standing (f : ℕ → Thread) (e : ℕ) (waiters : List ℕ) (a : Abort) : Type 0 where
+pub record AbortStands (f : ℕ → Thread) (e : ℕ) (waiters : List ℕ) (a : Abort) : Type 0 where
   pub badge : a .badge < 2 ^ 28
   pub before : List ℕ
   pub behind : List ℕ
@@ -31,9 +31,9 @@ pub record Standing (f : ℕ → Thread) (e : ℕ) (waiters : List ℕ) (a : Abo
   pub sends : (t : ℕ) → Mem t (a .pending) → f t .place ≡ sending e
   pub none-outside : (t : ℕ) → f t .place ≡ sending e → f t .badge ≡ a .badge → Mem t (a .pending)
 
-abbrev pub Marked : (ℕ → Thread) → ℕ → List ℕ → Option Abort → Type 0
-Marked f e waiters none = Unit {0}
-Marked f e waiters (some a) = Standing f e waiters a
+abbrev pub AbortFits : (ℕ → Thread) → ℕ → List ℕ → Option Abort → Type 0
+AbortFits f e waiters none = Unit {0}
+AbortFits f e waiters (some a) = AbortStands f e waiters a
 
 -- Of endpoint e with the entry x.
 pub record Site (f : ℕ → Thread) (e : ℕ) (x : Endpoint) : Type 0 where
@@ -43,7 +43,7 @@ pub record Site (f : ℕ → Thread) (e : ℕ) (x : Endpoint) : Type 0 where
   pub queued : (t : ℕ) → Mem t (x .waiters) ↔ At (f t .place) e
   pub once : Distinct (x .waiters)
   pub one-kind : (t u : ℕ) → f t .place ≡ sending e → f u .place ≡ receiving e → ⊥
-  pub marked : Marked f e (x .waiters) (x .abort)
+  pub marked : AbortFits f e (x .waiters) (x .abort)
 
 -- Able, and not the one that runs.
 abbrev pub Idle : (ℕ → Thread) → Option ℕ → ℕ → Type 0
@@ -56,7 +56,7 @@ pub record Levels (f : ℕ → Thread) (runs : Option ℕ) (levels : ℕ → Lis
   pub once : (p : ℕ) → Distinct (levels p)
 
 -- Of the lines.
-pub record Lines (f : ℕ → Thread) (lines : ℕ → Line) : Type 0 where
+pub record LinesFit (f : ℕ → Thread) (lines : ℕ → Line) : Type 0 where
   pub unused : (l : ℕ) → 31 < l → lines l ≡ quiet
   pub on-line : (t l : ℕ) → (lines l ≡ awaited t) ↔ (f t .place ≡ waiting l)
 
@@ -68,13 +68,13 @@ pub record Parts (s : State) : Type 0 where
   pub entry : (t : ℕ) → Entry t (s .threads t)
   pub site : (e : ℕ) → Site (s .threads) e (s .endpoints e)
   pub levels : Levels (s .threads) (s .runs) (s .levels)
-  pub lines : Lines (s .threads) (s .lines)
+  pub lines : LinesFit (s .threads) (s .lines)
   pub owned : Owned (s .threads) (s .endpoints)
 
-marked-of : (s : State) (e : ℕ) → Mid s → Marked (s .threads) e (s .endpoints e .waiters) (s .endpoints e .abort)
+marked-of : (s : State) (e : ℕ) → Mid s → AbortFits (s .threads) e (s .endpoints e .waiters) (s .endpoints e .abort)
 marked-of s e M = go (s .endpoints e .abort) refl
   where
-    go : (o : Option Abort) → s .endpoints e .abort ≡ o → Marked (s .threads) e (s .endpoints e .waiters) o
+    go : (o : Option Abort) → s .endpoints e .abort ≡ o → AbortFits (s .threads) e (s .endpoints e .waiters) o
     go none h = tt
     go (some a) h =
         let p = M .marks .part e a h in
@@ -89,9 +89,9 @@ marked-of s e M = go (s .endpoints e .abort) refl
 
 standing-of :
     (s : State) (e : ℕ) (a : Abort) → Parts s → s .endpoints e .abort ≡ some a
-    → Standing (s .threads) e (s .endpoints e .waiters) a
+    → AbortStands (s .threads) e (s .endpoints e .waiters) a
 standing-of s e a P h =
-    subst (λ (o : Option Abort). Marked (s .threads) e (s .endpoints e .waiters) o) h (P .site e .marked)
+    subst (λ (o : Option Abort). AbortFits (s .threads) e (s .endpoints e .waiters) o) h (P .site e .marked)
 
 pub parts : {s : State} → Mid s → Parts s
 parts {s} M =

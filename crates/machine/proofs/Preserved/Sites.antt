@@ -14,7 +14,7 @@ use Rattle.machine.specs.State.{Endpoint, Line, quiet, pending, awaited,
 use Rattle.machine.specs.Endpoints.{underAbort, ownerOf, passing}
 use Rattle.machine.proofs.Lists.{Same, same, other, same?, clash, mem-last, mem-left, mem-snoc, mem-without}
 use Rattle.machine.proofs.Lists.{mem-keep, distinct-snoc, distinct-without, without-append}
-use Rattle.machine.proofs.Preserved.Parts.{At, Marked, Site, Lines, Owned}
+use Rattle.machine.proofs.Preserved.Parts.{At, AbortFits, Site, LinesFit, Owned}
 use Rattle.machine.proofs.Preserved.Ready.{Else}
 
 -- Places of different kinds are different.
@@ -87,7 +87,7 @@ module _ (t : ℕ) (f g : ℕ → Thread) (away : Else t f g) (e : ℕ) where
           go (same i _) = absurd (out′ (rw i at a))
           go (other n _) = rw (away u n) at h
 
-      marked : (a : Option Abort) → Marked f e (x .waiters) a → Marked g e (x .waiters) a
+      marked : (a : Option Abort) → AbortFits f e (x .waiters) a → AbortFits g e (x .waiters) a
       marked none m = tt
       marked (some a) m =
           record {
@@ -138,7 +138,7 @@ module _ (t : ℕ) (f g : ℕ → Thread) (away : Else t f g) (e : ℕ) where
       back : {p : Place} (u : ℕ) → At (g u .place) e → g u .place ≡ p → f u .place ≡ p
       back u a h = rw (away u (elsewhere u a)) at h
 
-      marked : (a : Option Abort) → Marked f e (x .waiters) a → Marked g e (without t (x .waiters)) (passing t a)
+      marked : (a : Option Abort) → AbortFits f e (x .waiters) a → AbortFits g e (without t (x .waiters)) (passing t a)
       marked none m = tt
       marked (some a) m =
           record {
@@ -190,7 +190,7 @@ module _ (t : ℕ) (f g : ℕ → Thread) (away : Else t f g) (e : ℕ) where
 
       marked :
           (a : Option Abort) → (g t .place ≡ sending e → underAbort (g t .badge) a ≡ false)
-          → Marked f e (x .waiters) a → Marked g e (x .waiters ++ (t ∷ [])) a
+          → AbortFits f e (x .waiters) a → AbortFits g e (x .waiters ++ (t ∷ [])) a
       marked none free m = tt
       marked (some a) free m =
           record {
@@ -227,7 +227,7 @@ site-same f g e {x} place badge S =
       marked = marked (x .abort) (S .marked);
     }
   where
-    marked : (a : Option Abort) → Marked f e (x .waiters) a → Marked g e (x .waiters) a
+    marked : (a : Option Abort) → AbortFits f e (x .waiters) a → AbortFits g e (x .waiters) a
     marked none m = tt
     marked (some a) m =
         record {
@@ -244,10 +244,10 @@ site-same f g e {x} place badge S =
 pub not-awaited : {x : Line} {u : ℕ} → x ≡ quiet → x ≡ awaited u → ⊥
 not-awaited {x} {u} h k = let z : _≡_ {A = ℕ} 0 1 = cc in omega arith
 
-module _ (t : ℕ) (f g : ℕ → Thread) (away : Else t f g) {lines : ℕ → Line} (S : Lines f lines) where
+module _ (t : ℕ) (f g : ℕ → Thread) (away : Else t f g) {lines : ℕ → Line} (S : LinesFit f lines) where
   -- t is on no line, before and after.
   pub lines-aside :
-      ((l : ℕ) → f t .place ≡ waiting l → ⊥) → ((l : ℕ) → g t .place ≡ waiting l → ⊥) → Lines g lines
+      ((l : ℕ) → f t .place ≡ waiting l → ⊥) → ((l : ℕ) → g t .place ≡ waiting l → ⊥) → LinesFit g lines
   lines-aside off off′ = record { unused = S .unused; on-line = λ u l. on-line u l (same? u t) }
     where
       on-line : (u l : ℕ) → Same u t → (lines l ≡ awaited u) ↔ (g u .place ≡ waiting l)
@@ -257,7 +257,7 @@ module _ (t : ℕ) (f g : ℕ → Thread) (away : Else t f g) {lines : ℕ → L
   -- t leaves line l, which is then quiet.
   pub lines-leave :
       (now : ℕ → Line) (l : ℕ) → f t .place ≡ waiting l → ((k : ℕ) → g t .place ≡ waiting k → ⊥)
-      → now l ≡ quiet → Else l lines now → Lines g now
+      → now l ≡ quiet → Else l lines now → LinesFit g now
   lines-leave now l on off′ clear rest =
       record {
         unused = λ k h. unused k h (same? k l);
@@ -288,7 +288,7 @@ module _ (t : ℕ) (f g : ℕ → Thread) (away : Else t f g) {lines : ℕ → L
   -- t comes to line l, which had no waiter.
   pub lines-join :
       (now : ℕ → Line) (l : ℕ) → l ≤ 31 → ((k : ℕ) → f t .place ≡ waiting k → ⊥) → g t .place ≡ waiting l
-      → ((u : ℕ) → lines l ≡ awaited u → ⊥) → now l ≡ awaited t → Else l lines now → Lines g now
+      → ((u : ℕ) → lines l ≡ awaited u → ⊥) → now l ≡ awaited t → Else l lines now → LinesFit g now
   lines-join now l low off on′ free taken rest =
       record {
         unused = λ k h. rest k (λ i. let z : 31 < l = rw i at h in omega arith) ∙ S .unused k h;
@@ -309,13 +309,13 @@ module _ (t : ℕ) (f g : ℕ → Thread) (away : Else t f g) {lines : ℕ → L
       back u k h (other m _) (other n _) = rest k n ∙ S .on-line u k .1 (rw (away u m) at h)
 
 pub lines-same :
-    (f g : ℕ → Thread) {lines : ℕ → Line} → ((u : ℕ) → g u .place ≡ f u .place) → Lines f lines → Lines g lines
+    (f g : ℕ → Thread) {lines : ℕ → Line} → ((u : ℕ) → g u .place ≡ f u .place) → LinesFit f lines → LinesFit g lines
 lines-same f g place S = record { unused = S .unused; on-line = λ u l. rw (place u) (S .on-line u l) }
 
 -- Line l, with no waiter before and after, is in range.
 pub lines-set :
-    (f : ℕ → Thread) {lines : ℕ → Line} (now : ℕ → Line) (l : ℕ) → Lines f lines → l ≤ 31
-    → ((u : ℕ) → lines l ≡ awaited u → ⊥) → ((u : ℕ) → now l ≡ awaited u → ⊥) → Else l lines now → Lines f now
+    (f : ℕ → Thread) {lines : ℕ → Line} (now : ℕ → Line) (l : ℕ) → LinesFit f lines → l ≤ 31
+    → ((u : ℕ) → lines l ≡ awaited u → ⊥) → ((u : ℕ) → now l ≡ awaited u → ⊥) → Else l lines now → LinesFit f now
 lines-set f {lines} now l S low free free′ rest =
     record {
       unused = λ k h. rest k (λ i. let z : 31 < l = rw i at h in omega arith) ∙ S .unused k h;

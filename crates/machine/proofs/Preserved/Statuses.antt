@@ -8,7 +8,7 @@ use Rattle.machine.specs.Lists.{put, Mem}
 use Rattle.machine.specs.State.{State, Thread, absent, sending, Debt, nothing, owns, Abort, missing, live}
 use Rattle.machine.specs.State.{Endpoint, missingEndpoint, setThread, setEndpoint, withDebt}
 use Rattle.machine.specs.Endpoints.{ownerOf}
-use Rattle.machine.specs.Sound.{Present, DebtInRange, Numbers, Part, Ranges, Queues, Owners, Outcomes}
+use Rattle.machine.specs.Sound.{Present, DebtInRange, Numbers, Stretch, Ranges, Queues, Owners, Outcomes}
 use Rattle.machine.proofs.Lists.{put-all, put-same, put-other}
 use Rattle.machine.specs.Mid.{Mid}
 
@@ -30,12 +30,12 @@ pub record May (s : State) (t : ℕ) (d : Debt) : Type 0 where
   pub unused : s .threads t .place ≡ absent → d ≡ nothing
 
 -- The entry x may stand at e, where the queues are those of s.
-pub record Fits (s : State) (e : ℕ) (x : Endpoint) : Type 0 where
+pub record EntryFits (s : State) (e : ℕ) (x : Endpoint) : Type 0 where
   pub unused : 63 < e → x ≡ missingEndpoint
   pub empty : x .status ≡ missing → x .waiters ≡ []
   pub no-abort : (x .status ≡ live → ⊥) → x .abort ≡ none
   pub badge : (a : Abort) → x .abort ≡ some a → a .badge < 2 ^ 28
-  pub part : (a : Abort) → x .abort ≡ some a → Part s e (a .pending)
+  pub part : (a : Abort) → x .abort ≡ some a → Stretch s e (a .pending)
   pub none-outside :
       (t : ℕ) (a : Abort) → x .abort ≡ some a → s .threads t .place ≡ sending e
       → s .threads t .badge ≡ a .badge → Mem t (a .pending)
@@ -53,7 +53,7 @@ module _ {s : State} (M : Mid s) where
         unused = λ h. ap (λ (x : Thread). x .debt) (M .ranges .unused-thread t h);
       }
 
-  pub fits-stay : (e : ℕ) → Fits s e (s .endpoints e)
+  pub fits-stay : (e : ℕ) → EntryFits s e (s .endpoints e)
   fits-stay e =
       record {
         unused = M .ranges .unused-endpoint e;
@@ -102,7 +102,7 @@ module _ {s s′ : State} (K : Keeps s s′) where
         on-line = λ t l. rw (K .line l, keeps-place t) (Q .on-line t l);
       }
 
-  keeps-part : (e : ℕ) (pending : List ℕ) → Part s e pending → Part s′ e pending
+  keeps-part : (e : ℕ) (pending : List ℕ) → Stretch s e pending → Stretch s′ e pending
   keeps-part e pending P =
       record {
         before = P .before;
@@ -119,7 +119,7 @@ module _ {s s′ : State} (K : Keeps s s′) where
       }
 
   module _ (M : Mid s) (may : (t : ℕ) → May s t (s′ .threads t .debt))
-      (fits : (e : ℕ) → Fits s e (s′ .endpoints e)) where
+      (fits : (e : ℕ) → EntryFits s e (s′ .endpoints e)) where
     keeps-ranges : Ranges s′
     keeps-ranges =
         record {
@@ -195,8 +195,8 @@ module _ (s : State) (e : ℕ) (x : Endpoint) (w : x .waiters ≡ s .endpoints e
   keeps-waiters : (f : ℕ) → put (s .endpoints) e x f .waiters ≡ s .endpoints f .waiters
   keeps-waiters = put-all (λ f y. y .waiters ≡ s .endpoints f .waiters) (s .endpoints) e x w (λ f n. refl)
 
-  fits-all : Mid s → Fits s e x → (f : ℕ) → Fits s f (put (s .endpoints) e x f)
-  fits-all M h = put-all (λ f y. Fits s f y) (s .endpoints) e x h (λ f n. fits-stay M f)
+  fits-all : Mid s → EntryFits s e x → (f : ℕ) → EntryFits s f (put (s .endpoints) e x f)
+  fits-all M h = put-all (λ f y. EntryFits s f y) (s .endpoints) e x h (λ f n. fits-stay M f)
 
   pub keeps-entry : Keeps s (setEndpoint e x s)
   keeps-entry =
@@ -220,7 +220,7 @@ module _ (s : State) (e : ℕ) (x : Endpoint) (w : x .waiters ≡ s .endpoints e
 
   -- The entry alone changes, and its owner does not.
   pub mid-entry :
-      Mid s → Fits s e x → ownerOf (x .abort) ≡ ownerOf (s .endpoints e .abort) → Mid (setEndpoint e x s)
+      Mid s → EntryFits s e x → ownerOf (x .abort) ≡ ownerOf (s .endpoints e .abort) → Mid (setEndpoint e x s)
   mid-entry M h o =
       mid-keeps keeps-entry M (may-stay M) (fits-all M h)
       (record {
@@ -232,7 +232,7 @@ module _ (s : State) (e : ℕ) (x : Endpoint) (w : x .waiters ≡ s .endpoints e
 
   -- Both change.
   pub mid-both :
-      (t : ℕ) (d : Debt) → Mid s → May s t d → Fits s e x
+      (t : ℕ) (d : Debt) → Mid s → May s t d → EntryFits s e x
       → Owners (setThread t (withDebt d (s .threads t)) (setEndpoint e x s))
       → Mid (setThread t (withDebt d (s .threads t)) (setEndpoint e x s))
   mid-both t d M m h O = mid-keeps (keeps-both t d) M (may-owe s t d M m) (fits-all M h) O

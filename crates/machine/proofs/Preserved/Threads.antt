@@ -21,7 +21,7 @@ use Rattle.machine.specs.Sound.{Sound}
 use Rattle.machine.proofs.Lists.{clash, put-same, put-other, put-all}
 use Rattle.machine.specs.Mid.{Mid}
 use Rattle.machine.proofs.Preserved.Mid.{sound-mid}
-use Rattle.machine.proofs.Preserved.Parts.{At, Entry, Levels, Site, Lines, parts, whole}
+use Rattle.machine.proofs.Preserved.Parts.{At, Entry, Levels, Site, LinesFit, parts, whole}
 use Rattle.machine.proofs.Preserved.Ready.{Else, put-else, put-keeps, put-place, none-some, some-one, levels-aside}
 use Rattle.machine.proofs.Preserved.Ready.{levels-runs, levels-stop, levels-join, levels-leave}
 use Rattle.machine.proofs.Preserved.Sites.{differ, not-at, at-one, left, left-owner, site-aside, site-leave, site-same}
@@ -129,7 +129,7 @@ module _ (s : State) (t : ℕ) (M : Mid s) (free : s .threads t .debt ≡ nothin
   mid-gone :
       (runs : Option ℕ) (levels : ℕ → List ℕ) (ends : ℕ → Endpoint) (lines : ℕ → Line)
       → Levels (gone (s .threads) t) runs levels → ((e : ℕ) → Site (gone (s .threads) t) e (ends e))
-      → ((e : ℕ) → ownerOf (ends e .abort) ≡ ownerOf (s .endpoints e .abort)) → Lines (gone (s .threads) t) lines
+      → ((e : ℕ) → ownerOf (ends e .abort) ≡ ownerOf (s .endpoints e .abort)) → LinesFit (gone (s .threads) t) lines
       → Mid (record { threads = gone (s .threads) t; runs = runs; levels = levels; endpoints = ends; lines = lines })
   mid-gone runs levels ends lines L S owner K =
       let P = parts M in
@@ -149,7 +149,7 @@ module _ (s : State) (t : ℕ) (M : Mid s) (free : s .threads t .debt ≡ nothin
   site-away e out =
       site-aside t (s .threads) (gone (s .threads) t) away e (parts M .site e) out (not-at now refl refl)
 
-  lines-away : ((l : ℕ) → s .threads t .place ≡ waiting l → ⊥) → Lines (gone (s .threads) t) (s .lines)
+  lines-away : ((l : ℕ) → s .threads t .place ≡ waiting l → ⊥) → LinesFit (gone (s .threads) t) (s .lines)
   lines-away off =
       lines-aside t (s .threads) (gone (s .threads) t) away (parts M .lines) off (λ l h. differ now h refl)
 

@@ -17,7 +17,8 @@ use Rattle.machine.specs.Calls.{numberOf}
 use Rattle.machine.specs.State.{State}
 use Rattle.machine.specs.Results.{Result}
 use Rattle.machine.specs.Machine.{step}
-use Rattle.machine.specs.History.{Ended, Reported, runFrom, freshRun, historyBy}
+use Rattle.machine.specs.History.{Ended, Reported}
+use Rattle.machine.specs.Recorded.{runFrom, freshRun, historyBy}
 use Rattle.machine.specs.Claim.{In, Claim}
 use Rattle.machine.specs.Tied.{NotesFirst}
 use Rattle.machine.proofs.Calls.Ticks.{ticks-kept}

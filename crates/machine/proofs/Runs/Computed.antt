@@ -5,28 +5,27 @@ use Rattle.machine.specs.Scheduling.{dispatchHead, dispatchAt, dispatch,
 use Rattle.machine.specs.Endpoints.{joinEndpoint, leaveEndpoint, wakeFrom, dropped, dropDebt, noteTo, note}
 use Rattle.machine.specs.Endpoints.{endAbort}
 use Rattle.machine.specs.Aborts.{oneMore, removeUpTo, deleted, deleteFrom, deleteAt, delete, hits, lookAt, look}
-use Rattle.machine.specs.Aborts.{after, lookUpTo, begin, joinAs, join, ended, lookedOwn, workOwn, beginAfter}
+use Rattle.machine.specs.Aborts.{afterLook, lookUpTo, begin, joinAs, join, ended, lookedOwn, workOwn, beginAfter}
 use Rattle.machine.specs.Aborts.{finished, lookedOther, workOther, underBadge, abortFrom, dropUnless, dropOther}
 use Rattle.machine.specs.Aborts.{abortOpen, abortAt, abortUnless, abort}
-use Rattle.machine.specs.Machine.{createIf, createThread, leaveReady, leave, destroyIf, destroyThread}
-use Rattle.machine.specs.Machine.{moveReady, changeUnless, priorityIf, setPriority, createAt, createEndpoint}
-use Rattle.machine.specs.Machine.{fire, interrupt, leaveTicks, tickFor, tick, sendTo, sendUnless, sendAt, send}
-use Rattle.machine.specs.Machine.{receiveFrom, receiveAt, receive, yield, waitAt, wait, perform, performIf}
-use Rattle.machine.specs.Machine.{step}
-use Rattle.machine.specs.History.{named, leftOf, begins, ends, passes, settles, settle, takes, takeLook, walk}
-use Rattle.machine.specs.History.{takesUp, joinsIn, letsGo, hears, closes, close, deletes, walks, abortsBy}
-use Rattle.machine.specs.History.{abortsOf, outcomeOf}
-use Rattle.machine.specs.History.{outcomeIf, deliveredIf, delivered, abortCallsOf, recorded, told, runFrom}
+use Rattle.machine.specs.Machine.{createIf, createThread, leaveReady, leave, destroyIf, destroyThread, moveReady}
+use Rattle.machine.specs.Machine.{changeUnless, priorityIf, setPriority, createAt, createEndpoint, fire}
+use Rattle.machine.specs.Machine.{interrupt, leaveTicks, tickFor, tick, sendTo, sendUnless, sendAt, send}
+use Rattle.machine.specs.Machine.{receiveFrom, receiveAt, receive, yield, waitAt, wait, perform, performIf, step}
+use Rattle.machine.specs.History.{named}
+use Rattle.machine.specs.Walk.{leftOf, begins, ends, passes, settles, settle, takes, takeLook, walk, takesUp}
+use Rattle.machine.specs.Walk.{joinsIn, letsGo, hears, closes, close}
+use Rattle.machine.specs.Outcomes.{deletes, walks, abortsBy, abortsOf, outcomeOf, outcomeIf}
+use Rattle.machine.specs.Recorded.{deliveredIf, delivered, abortCallsOf, recorded, told, runFrom}
 
 unfoldable pub computed : Unit {0}
 unfolding put without only enqueue unqueue standDown wake block highestBelow highest dispatchHead dispatchAt dispatch
     displace chooseFor choose joinEndpoint leaveEndpoint wakeFrom dropped dropDebt noteTo note endAbort oneMore
-    removeUpTo deleted deleteFrom deleteAt delete hits lookAt look after lookUpTo begin joinAs join ended lookedOwn
+    removeUpTo deleted deleteFrom deleteAt delete hits lookAt look afterLook lookUpTo begin joinAs join ended lookedOwn
     workOwn beginAfter finished lookedOther workOther underBadge abortFrom dropUnless dropOther abortOpen abortAt
     abortUnless abort createIf createThread leaveReady leave destroyIf destroyThread moveReady changeUnless priorityIf
     setPriority createAt createEndpoint fire interrupt leaveTicks tickFor tick sendTo sendUnless sendAt send receiveFrom
     receiveAt receive yield waitAt wait perform performIf step named leftOf begins ends passes settles settle takes
     takeLook walk takesUp joinsIn letsGo hears closes close deletes walks abortsBy abortsOf outcomeOf outcomeIf
-    deliveredIf delivered
-    abortCallsOf recorded told runFrom
+    deliveredIf delivered abortCallsOf recorded told runFrom
 computed = tt

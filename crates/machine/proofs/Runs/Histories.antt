@@ -6,9 +6,10 @@ use mathlib.Core.Option.{Option, none, some}
 use mathlib.Core.List.{List, [], _∷_}
 use Rattle.machine.specs.declared.Answer.{Answer}
 use Rattle.machine.specs.declared.Call.{Call}
-use Rattle.machine.specs.declared.Call.the-variants.{CreateThread, DestroyThread, CreateEndpoint}
-use Rattle.machine.specs.declared.Call.the-variants.{Interrupt, Send, Receive, Wait, Delete, Abort}
-use Rattle.machine.specs.History.{Aborting, Ended, Delivery, AbortCall, Reported, historyOf}
+use Rattle.machine.specs.declared.Call.the-variants.{CreateThread, DestroyThread, CreateEndpoint, Interrupt, Send}
+use Rattle.machine.specs.declared.Call.the-variants.{Receive, Wait, Delete, Abort}
+use Rattle.machine.specs.History.{Aborting, Ended, Delivery, AbortCall, Reported}
+use Rattle.machine.specs.Recorded.{historyOf}
 use Rattle.machine.proofs.Runs.Computed.{computed}
 
 -- What a history is compared by.

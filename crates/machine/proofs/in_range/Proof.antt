@@ -1,5 +1,4 @@
--- `machine::in_range` meets its contract: each arm is given its constructor, and the tests on the way are the parts of
--- `inRange`.
+-- Each arm is given its constructor, and the tests on the way are the parts of `inRange`.
 use mathlib.Core.Path.{_≡_, _∙_}
 use mathlib.Core.Bool.{_&&_}
 use lib.Dec.{leb, ltb}

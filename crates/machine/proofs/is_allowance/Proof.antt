@@ -1,4 +1,4 @@
--- `machine::is_allowance` meets its contract: the test that led there is the first half of `isAllowance`.
+-- The test that led there is the first half of `isAllowance`.
 use borrow.Author.Tests.{le-leb, lt-leb}
 use Rattle.machine.proofs.is_allowance.Statement.{statement}
 use Rattle.machine.proofs.is_allowance.Tie as tie

@@ -1,7 +1,7 @@
--- `reader::read` meets its contract: a walk of its MIR, by hand. The `Reader` that `new` returns is held in a local and
--- passed to `next`. All that the proof knows of the two is that each meets its contract.
--- In a local of a body MIR erases the lifetime of the struct's type, so the machine value is shown to have the type at
--- `erased`: what the struct owns does not say the lifetime's name.
+-- A walk of its MIR, by hand. The `Reader` that `new` returns is held in a local and passed to `next`. All that the
+-- proof knows of the two is that each meets its contract. In a local of a body MIR erases the lifetime of the
+-- struct's type, so the machine value is shown to have the type at `erased`: what the struct owns does not say the
+-- lifetime's name.
 use mathlib.Core.Path.{_≡_, refl, ap, _∙_}
 use Prim.Native.Nat.{ℕ, _<_, _^_}
 use mathlib.Core.List.{List, [], _∷_}

@@ -1,4 +1,4 @@
--- `rows::next` meets its contract: a call that was read is taken, and who runs is read from the tables after it.
+-- A call that was read is taken, and who runs is read from the tables after it.
 use mathlib.Core.Path.{sym, _∙_}
 use borrow.Author.Needs.{needs}
 use Rattle.rows.proofs.Taking.{took, left}

@@ -1,4 +1,4 @@
--- `rows::stop` meets its contract, by the reading.
+-- By the reading.
 use mathlib.Core.Path.{ap, sym}
 use borrow.Author.Needs.{needs}
 use Rattle.journal.specs.declared.types.Read.{Read}

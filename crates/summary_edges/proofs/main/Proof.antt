@@ -1,8 +1,8 @@
--- `summary_edges::main` meets its contract: what is marked and written in each turn is a summary.
+-- What is marked and written in each turn is a summary.
 use Prim.Native.Nat.{_≤_, _-_}
 use native.Mathlib.Omega.{arith}
 use borrow.Author.Needs.{needs}
-use Rattle.summary.specs.Levels.{IsSummary, nobody}
+use Rattle.summary.specs.Levels.{IsSummary, noLevel}
 use Rattle.summary_edges.proofs.main.Statement.{statement}
 use Rattle.summary_edges.proofs.main.Tie as tie
 
@@ -16,7 +16,7 @@ new-requires : tie.Need-new-requires Inv-loop μ-loop
 new-requires c κs = search needs
 
 loop-holds : tie.Need-loop-holds Inv-loop μ-loop
-loop-holds c = (omega arith, record { levels = nobody; shown = c .new .ensures })
+loop-holds c = (omega arith, record { levels = noLevel; shown = c .new .ensures })
 
 mul-mark : tie.Need-mul-mark Inv-loop μ-loop
 mul-mark c = search needs

@@ -1,4 +1,4 @@
--- `summary_edges::marked` meets its contract: a summary that is marked is a summary again.
+-- A summary that is marked is a summary again.
 use borrow.Author.Needs.{needs}
 use Rattle.summary.proofs.Marked.{marked-summary}
 use Rattle.summary_edges.proofs.marked.Statement.{statement}

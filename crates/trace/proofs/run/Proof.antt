@@ -1,4 +1,4 @@
--- `trace::run` is safe and ends: the turns left get fewer.
+-- Safe, and it ends: the turns left get fewer.
 use Prim.Native.Nat.{ℕ, _-_, _≤_, _<_}
 use native.Mathlib.Omega.{arith}
 use mathlib.Core.Path.{_≡_, refl, ap}

@@ -1,6 +1,6 @@
 -- The three ways of `callIn`.
 use mathlib.Core.Path.{_∙_, ap}
-use Rattle.journal.specs.Steps.{named}
+use Rattle.journal.specs.Steps.{asNamed}
 use Rattle.core_c.proofs.Naming.{is-send, is-abort, is-short, short-is}
 use borrow.Author.Needs.{needs}
 use Rattle.core_c.proofs.numbers.call_in.Statement.{statement}
@@ -25,7 +25,7 @@ if-unused-requires : tie.Need-if-unused-requires
 if-unused-requires c κs = search needs
 
 returns : tie.Need-returns
-returns c = c .if-unused .ensures ∙ ap named (is-send _ (c .before .if1 .taken))
+returns c = c .if-unused .ensures ∙ ap asNamed (is-send _ (c .before .if1 .taken))
 
 array-read-if2 : tie.Need-array-read-if2
 array-read-if2 c = search needs
@@ -46,7 +46,7 @@ if-unused-requires-2 : tie.Need-if-unused-requires-2
 if-unused-requires-2 c κs = search needs
 
 returns-2 : tie.Need-returns-2
-returns-2 c = c .if-unused2 .ensures ∙ ap named (is-abort _ (c .before .if2 .taken))
+returns-2 c = c .if-unused2 .ensures ∙ ap asNamed (is-abort _ (c .before .if2 .taken))
 
 array-read-short-call : tie.Need-array-read-short-call
 array-read-short-call c = search needs
@@ -76,7 +76,7 @@ returns-3 : tie.Need-returns-3
 returns-3 c =
     let call = c .before .before in
     short-is _ _ _ _ (call .short-call .ensures) (c .before .if-unused3 .ensures) (c .if-unused4 .ensures)
-    ∙ ap named (is-short _ (call .before .before .if1 .left) (call .before .if2 .left))
+    ∙ ap asNamed (is-short _ (call .before .before .if1 .left) (call .before .if2 .left))
 
 pub call-in-spec : {M : Type 1} → statement M
 call-in-spec =

@@ -1,5 +1,4 @@
--- `journal::taken::words_taken` meets its contract: the table's rule is a test at each of its 256 entries, which antt
--- computes.
+-- The table's rule is a test at each of its 256 entries, which antt computes.
 use Prim.Native.Nat.{ℕ, _<_}
 use native.Mathlib.Omega.{arith}
 use mathlib.Core.Bool.{Bool}

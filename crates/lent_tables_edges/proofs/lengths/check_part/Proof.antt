@@ -1,4 +1,4 @@
--- `lent_tables_edges::lengths::check_part` is safe and ends: the parts are as long as asked.
+-- Safe, and it ends: the parts are as long as asked.
 use mathlib.Core.Path.{sym}
 use lib.Seq.{length-take-le}
 use borrow.Author.Needs.{needs}

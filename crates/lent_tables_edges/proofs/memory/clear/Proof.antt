@@ -1,4 +1,4 @@
--- `lent_tables_edges::memory::clear` is safe and ends: the words left to clear get fewer.
+-- Safe, and it ends: the words left to clear get fewer.
 use Prim.Native.Nat.{_-_}
 use mathlib.Core.Path.{_≡_}
 use lib.ListN.{length}

@@ -1,5 +1,4 @@
--- `lent_tables_edges::memory::copy` is safe and ends: the two memories are of one length, and fewer words are
--- left to copy.
+-- Safe, and it ends: the two memories are of one length, and fewer words are left to copy.
 use Prim.Native.Nat.{_-_}
 use mathlib.Core.Path.{_≡_}
 use lib.ListN.{length}

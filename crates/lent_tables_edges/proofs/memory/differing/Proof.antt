@@ -1,5 +1,4 @@
--- `lent_tables_edges::memory::differing` is safe and ends: the two memories are of one length, and fewer words
--- are left to compare.
+-- Safe, and it ends: the two memories are of one length, and fewer words are left to compare.
 use Prim.Native.Nat.{_-_, _≤_}
 use lib.ListN.{length}
 use borrow.Author.Needs.{needs}

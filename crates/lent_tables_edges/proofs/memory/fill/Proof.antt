@@ -1,4 +1,4 @@
--- `lent_tables_edges::memory::fill` is safe and ends: the words left to fill get fewer.
+-- Safe, and it ends: the words left to fill get fewer.
 use Prim.Native.Nat.{_-_}
 use mathlib.Core.Path.{_≡_}
 use lib.ListN.{length}

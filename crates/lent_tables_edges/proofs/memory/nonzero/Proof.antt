@@ -1,4 +1,4 @@
--- `lent_tables_edges::memory::nonzero` is safe and ends: the words left to look at get fewer.
+-- Safe, and it ends: the words left to look at get fewer.
 use Prim.Native.Nat.{_-_, _≤_}
 use lib.ListN.{length}
 use borrow.Author.Needs.{needs}

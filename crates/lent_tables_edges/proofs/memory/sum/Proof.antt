@@ -1,5 +1,4 @@
--- `lent_tables_edges::memory::sum` is safe and ends: the remainder is below the modulus, and fewer words are left
--- to add.
+-- Safe, and it ends: the remainder is below the modulus, and fewer words are left to add.
 use Prim.Native.Nat.{_-_, _≤_, _<_}
 use lib.ListN.{length}
 use borrow.Author.Needs.{needs}

@@ -1,4 +1,4 @@
--- `lent_tables_edges::scan::table` meets its contract: the bytes left to read get fewer.
+-- The bytes left to read get fewer.
 use Prim.Native.Nat.{_-_, _≤_}
 use mathlib.Core.Path.{_≡_}
 use lib.ListN.{length}

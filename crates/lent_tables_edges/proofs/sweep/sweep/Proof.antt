@@ -1,4 +1,4 @@
--- `lent_tables_edges::sweep::sweep` is safe and ends: the words left to change get fewer.
+-- Safe, and it ends: the words left to change get fewer.
 use Prim.Native.Nat.{_-_, _≤_}
 use mathlib.Core.Path.{_≡_}
 use lib.ListN.{length}

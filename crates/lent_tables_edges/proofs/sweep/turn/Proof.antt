@@ -1,4 +1,4 @@
--- `lent_tables_edges::sweep::turn` is safe and ends: a store keeps the length.
+-- Safe, and it ends: a store keeps the length.
 use lib.ListN.{length-set}
 use native.Mathlib.Omega.{arith}
 use borrow.Author.Needs.{needs}

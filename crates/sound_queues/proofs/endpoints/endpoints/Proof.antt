@@ -1,4 +1,4 @@
--- All endpoints. The loop's invariant: those below e pass, and the scratch marks whom they have.
+-- All endpoints. The loop's invariant: those below e pass, and whom they have was met.
 use Prim.Native.Nat.{ℕ, _+_, _≤_, _<_, _-_}
 use mathlib.Core.Bool.{true}
 use mathlib.Core.Path.{_≡_, sym, _∙_}
@@ -8,7 +8,7 @@ use borrow.Author.Count.{below-none, below-more}
 use borrow.Author.Needs.{needs}
 use borrow.Author.Tests.{not-true, not-false}
 use Rattle.soundness.specs.Checks.{endpointTest, metBelow}
-use Rattle.sound_queues.specs.Marks.{marksOf}
+use Rattle.sound_queues.specs.Met.{metIn}
 use Rattle.soundness.proofs.Every.{all-hold, one-fails}
 use Rattle.sound_queues.proofs.Waiting.{endpoint-more, walks-failed, walks-all}
 use Rattle.sound_queues.proofs.endpoints.endpoints.Statement.{statement}
@@ -16,7 +16,7 @@ use Rattle.sound_queues.proofs.endpoints.endpoints.Tie as tie
 
 abbrev Inv-loop : tie.InvT-loop
 Inv-loop tables scratch₀ e₀ scratch e =
-    (e ≤ 64) × (length scratch ≡ 256) × (scratch ≡ marksOf (metBelow (256 + e) tables))
+    (e ≤ 64) × (length scratch ≡ 256) × (scratch ≡ metIn (metBelow (256 + e) tables))
     × ((k : ℕ) → k < e → endpointTest tables k ≡ true)
 
 abbrev μ-loop : tie.MeasureT-loop

@@ -1,7 +1,6 @@
 -- The walk through an endpoint's queue. The invariant is WaitersAt; the measure is the turns left.
 use borrow.Author.Needs.{needs}
 use borrow.Author.Tests.{not-true, not-false}
-use Rattle.sound_queues.specs.Steps.{phaseOf}
 use Rattle.sound_queues.proofs.Waiting.{WaitersAt, waiters-holds, waiters-walked, waiters-out, waiters-bad}
 use Rattle.sound_queues.proofs.Waiting.{waiters-long, waiters-again}
 use Rattle.sound_queues.proofs.Walking.{walk-failed}
@@ -10,7 +9,7 @@ use Rattle.sound_queues.proofs.endpoints.waiters.Tie as tie
 
 abbrev Inv-loop : tie.InvT-loop
 Inv-loop tables scratch₀ e k cursor end banned f₀ x₀ y₀ left₀ scratch f x y left =
-    WaitersAt tables e k cursor end banned scratch₀ scratch (phaseOf f) x y left
+    WaitersAt tables e k cursor end banned scratch₀ scratch f x y left
 
 abbrev μ-loop : tie.MeasureT-loop
 μ-loop tables scratch₀ e k cursor end banned f₀ x₀ y₀ left₀ scratch f x y left = left
@@ -91,8 +90,8 @@ returns-3 c =
     walk-failed (waiters-bad _ _ _ (at-loop .loop .inv) (at-loop-test .loop-test .taken) (at-if1 .if1 .left)
     (at-if2 .if2 .left) (at-enter .enter .ensures) (at-stands .stands .ensures) (not-true _ (c .if3 .taken)))
 
-mark-requires : tie.Need-mark-requires Inv-loop μ-loop
-mark-requires c κs = search needs
+meet-requires : tie.Need-meet-requires Inv-loop μ-loop
+meet-requires c κs = search needs
 
 leave-requires : tie.Need-leave-requires Inv-loop μ-loop
 leave-requires c κs = search needs
@@ -109,8 +108,8 @@ loop-less c = search needs
 loop-again : tie.Need-loop-again Inv-loop μ-loop
 loop-again c =
     let at-leave = c .before in
-    let at-mark = at-leave .before .before .before in
-    let at-if3 = at-mark .before .before in
+    let at-meet = at-leave .before .before .before in
+    let at-if3 = at-meet .before .before in
     let at-stands = at-if3 .before in
     let at-enter = at-stands .before in
     let at-if2 = at-enter .before in
@@ -119,7 +118,7 @@ loop-again c =
     let at-loop = at-loop-test .before in
     waiters-again _ _ _ (at-loop .loop .inv) (at-loop-test .loop-test .taken) (at-if1 .if1 .left) (at-if2 .if2 .left)
     (at-enter .enter .ensures) (at-stands .stands .ensures) (not-false _ (at-if3 .if3 .left))
-    (at-leave .leave .ensures) (at-mark .mark .ensures) (at-mark .mark .kept .0) (c .next .ensures)
+    (at-leave .leave .ensures) (at-meet .meet .ensures) (at-meet .meet .kept .0) (c .next .ensures)
 
 same-length-4 : tie.Need-same-length-4 Inv-loop μ-loop
 same-length-4 c = search needs
@@ -151,7 +150,7 @@ waiters-spec =
     stands-requires
     same-length-3
     returns-3
-    mark-requires
+    meet-requires
     leave-requires
     next-requires
     sub-left

@@ -60,8 +60,8 @@ returns-3 c =
     walk-failed (level-bad _ _ (at-loop .loop .inv) (at-loop-test .loop-test .taken) (at-if1 .if1 .left)
     (at-if2 .if2 .left) (at-ready .ready .ensures) (not-true _ (c .if3 .taken)))
 
-mark-requires : tie.Need-mark-requires Inv-loop μ-loop
-mark-requires c κs = search needs
+meet-requires : tie.Need-meet-requires Inv-loop μ-loop
+meet-requires c κs = search needs
 
 next-requires : tie.Need-next-requires Inv-loop μ-loop
 next-requires c κs = search needs
@@ -74,15 +74,15 @@ loop-less c = search needs
 
 loop-again : tie.Need-loop-again Inv-loop μ-loop
 loop-again c =
-    let at-mark = c .before .before .before in
-    let at-if3 = at-mark .before .before in
+    let at-meet = c .before .before .before in
+    let at-if3 = at-meet .before .before in
     let at-ready = at-if3 .before in
     let at-if2 = at-ready .before in
     let at-if1 = at-if2 .before in
     let at-loop-test = at-if1 .before in
     let at-loop = at-loop-test .before in
     level-again _ _ (at-loop .loop .inv) (at-loop-test .loop-test .taken) (at-if1 .if1 .left) (at-if2 .if2 .left)
-    (at-ready .ready .ensures) (not-false _ (at-if3 .if3 .left)) (at-mark .mark .ensures) (at-mark .mark .kept .0)
+    (at-ready .ready .ensures) (not-false _ (at-if3 .if3 .left)) (at-meet .meet .ensures) (at-meet .meet .kept .0)
     (c .next .ensures)
 
 same-length-4 : tie.Need-same-length-4 Inv-loop μ-loop
@@ -108,7 +108,7 @@ level-spec =
     ready-requires
     same-length-3
     returns-3
-    mark-requires
+    meet-requires
     next-requires
     sub-left
     loop-less

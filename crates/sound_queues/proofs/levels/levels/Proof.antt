@@ -1,4 +1,4 @@
--- All levels. The loop's invariant: those below p pass, and the scratch marks whom they have.
+-- All levels. The loop's invariant: those below p pass, and whom they have was met.
 use Prim.Native.Nat.{ℕ, _≤_, _<_, _-_}
 use mathlib.Core.Bool.{true}
 use mathlib.Core.Path.{_≡_, sym, _∙_}
@@ -8,7 +8,7 @@ use borrow.Author.Count.{below-none, below-more}
 use borrow.Author.Needs.{needs}
 use borrow.Author.Tests.{not-true, not-false}
 use Rattle.soundness.specs.Checks.{levelTest, metBelow}
-use Rattle.sound_queues.specs.Marks.{marksOf}
+use Rattle.sound_queues.specs.Met.{metIn}
 use Rattle.soundness.proofs.Every.{all-hold, one-fails}
 use Rattle.sound_queues.proofs.Waiting.{walked-more, walks-failed, walks-all}
 use Rattle.sound_queues.proofs.levels.levels.Statement.{statement}
@@ -16,7 +16,7 @@ use Rattle.sound_queues.proofs.levels.levels.Tie as tie
 
 abbrev Inv-loop : tie.InvT-loop
 Inv-loop tables scratch₀ p₀ scratch p =
-    (p ≤ 256) × (length scratch ≡ 256) × (scratch ≡ marksOf (metBelow p tables))
+    (p ≤ 256) × (length scratch ≡ 256) × (scratch ≡ metIn (metBelow p tables))
     × ((k : ℕ) → k < p → levelTest tables k ≡ true)
 
 abbrev μ-loop : tie.MeasureT-loop

@@ -4,8 +4,8 @@ use Rattle.sound_queues.proofs.Placing.{placed-is}
 use Rattle.sound_queues.proofs.places.place.Statement.{statement}
 use Rattle.sound_queues.proofs.places.place.Tie as tie
 
-marked-requires : tie.Need-marked-requires
-marked-requires c κs = search needs
+has-met-requires : tie.Need-has-met-requires
+has-met-requires c κs = search needs
 
 thread-requires : tie.Need-thread-requires
 thread-requires c κs = search needs
@@ -27,16 +27,16 @@ returns c =
     let at-next = c .before in
     let at-running = at-next .before in
     let at-place = at-running .before in
-    let at-marked = at-place .before in
-    let at-pre = at-marked .before .before .before in
-    placed-is _ _ (at-marked .marked .ensures .tells _ (at-pre .pre .2)) (at-place .thread .ensures)
+    let at-has-met = at-place .before in
+    let at-pre = at-has-met .before .before .before in
+    placed-is _ _ (at-has-met .has-met .ensures .tells _ (at-pre .pre .2)) (at-place .thread .ensures)
     (at-running .running .ensures) (at-next .next .ensures) (c .prev .ensures)
 
 pub place-spec : {M : Type 1} → statement M
 place-spec =
     tie.close
     (tie.spec
-    marked-requires
+    has-met-requires
     thread-requires
     running-requires
     add-queued

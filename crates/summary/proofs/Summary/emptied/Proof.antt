@@ -1,4 +1,4 @@
--- `summary::Summary::emptied` meets its contract: the level's bit is cleared, and the word's where the word is then 0.
+-- The level's bit is cleared, and the word's where the word is then 0.
 use borrow.Author.Needs.{needs}
 use Rattle.summary.proofs.Marked.{marks-emptied, marks-kept}
 use Rattle.summary.proofs.Summary.emptied.Statement.{statement}

@@ -1,4 +1,4 @@
--- `summary::Summary::highest` meets its contract: the highest word that is not 0, and that word's highest bit.
+-- The highest word that is not 0, and that word's highest bit.
 use borrow.Author.Needs.{needs}
 use native.Mathlib.Omega.{arith}
 use Rattle.summary.proofs.Found.{Led, led, finds-nothing, finds-level}

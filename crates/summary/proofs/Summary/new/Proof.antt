@@ -1,11 +1,11 @@
--- `summary::Summary::new` meets its contract: the words of the empty set compute to 0.
+-- The words of the empty set compute to 0.
 use mathlib.Core.Path.{refl}
-use Rattle.summary.specs.Levels.{bits, wordOf, topOf, wordsOf, summaryOf}
+use Rattle.summary.specs.Levels.{bits, wordOf, topOf, levelWords, summaryOf}
 use Rattle.summary.proofs.Summary.new.Statement.{statement}
 use Rattle.summary.proofs.Summary.new.Tie as tie
 
 returns : tie.Need-returns
-unfolding summaryOf wordsOf topOf wordOf bits
+unfolding summaryOf levelWords topOf wordOf bits
 returns c = refl
 
 pub new-spec : {M : Type 1} → statement M

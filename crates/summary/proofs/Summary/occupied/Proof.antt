@@ -1,4 +1,4 @@
--- `summary::Summary::occupied` meets its contract: the level's bit and its word's bit are set.
+-- The level's bit and its word's bit are set.
 use borrow.Author.Needs.{needs}
 use Rattle.summary.proofs.Marked.{marks-occupied}
 use Rattle.summary.proofs.Summary.occupied.Statement.{statement}

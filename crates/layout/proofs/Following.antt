@@ -14,7 +14,7 @@ use Rattle.machine.proofs.Lists.{without-miss, without-none, mem-without, disti
 use Rattle.layout.specs.Addresses.{next, linkAt, word, afterAt}
 use Rattle.layout.specs.Words.{firstOf, lastOf}
 use Rattle.layout.specs.Shows.{Chain}
-use Rattle.layout.specs.Decode.{walk, since, upTo, between}
+use Rattle.layout.specs.Decode.{followed, since, upTo, between}
 
 -- A list of different numbers below n has at most n.
 
@@ -41,29 +41,29 @@ bounded-length (suc n) l d h =
 -- Walks
 
 module _ (m : List ℕ) where
-  pub walk-small : (n x t : ℕ) → Mem t (walk m n x) → t ≤ 255
-  unfolding walk
+  pub walk-small : (n x t : ℕ) → Mem t (followed m n x) → t ≤ 255
+  unfolding followed
   walk-small zero x t k = absurd k
   walk-small (suc n) zero t k = absurd k
   walk-small (suc n) (suc u) t k = go (leb u 255) refl k (walk-small n (word m (linkAt (next u))) t)
     where
       rest : List ℕ
-      rest = walk m n (word m (linkAt (next u)))
+      rest = followed m n (word m (linkAt (next u)))
 
       go : (b : Bool) → leb u 255 ≡ b → Mem t (pick b (u ∷ rest) []) → (Mem t rest → t ≤ 255) → t ≤ 255
       go true e (inl f) ih = omega (arith, leb-true u 255 e)
       go true e (inr k) ih = ih k
       go false e k ih = absurd k
 
-  walk-end : (n : ℕ) → walk m n 0 ≡ []
-  unfolding walk
+  walk-end : (n : ℕ) → followed m n 0 ≡ []
+  unfolding followed
   walk-end zero = refl
   walk-end (suc n) = refl
 
   pub walk-chain :
       (q n x : ℕ) (l : List ℕ) → Chain m q x l 0 → length l ≤ n → ((t : ℕ) → Mem t l → t ≤ 255)
-      → walk m n (word m (afterAt q x)) ≡ l
-  unfolding walk
+      → followed m n (word m (afterAt q x)) ≡ l
+  unfolding followed
   walk-chain q n x [] c h g = rw (c .after) (walk-end n)
   walk-chain q zero x (t ∷ l) c h g = absurd (omega arith)
   walk-chain q (suc n) x (t ∷ l) c h g =
@@ -73,7 +73,7 @@ module _ (m : List ℕ) where
 -- Parts
 
 -- A part of a list: the list is what comes before it, the part, and what comes behind it.
-pub record Within (l part : List ℕ) : Type 0 where
+pub record PartOf (l part : List ℕ) : Type 0 where
   pub before : List ℕ
   pub behind : List ℕ
   pub within : l ≡ before ++ (part ++ behind)
@@ -99,7 +99,7 @@ upTo-split y (t ∷ l) = go (eqb (suc t) y) (upTo-split y l)
     go false r = (r .0, ap (λ (k : List ℕ). t ∷ k) (r .1))
 
 -- What stands between two links is a part.
-pub between-within : (x y : ℕ) (l : List ℕ) → Within l (between x y l)
+pub between-within : (x y : ℕ) (l : List ℕ) → PartOf l (between x y l)
 unfolding between
 between-within x y l =
     let a = since-split x l in
@@ -135,7 +135,7 @@ upTo-there t (u ∷ l) behind d =
     (ap (λ (k : List ℕ). t ∷ k) (upTo-there u l behind (d .1)))
 
 -- And a part of a list in which nobody stands twice is what stands between its ends.
-pub between-back : (l part : List ℕ) → Within l part → Distinct l → between (firstOf part) (lastOf 0 part) l ≡ part
+pub between-back : (l part : List ℕ) → PartOf l part → Distinct l → between (firstOf part) (lastOf 0 part) l ≡ part
 unfolding between upTo
 between-back l [] w d = rw (since-none l)
 between-back l (t ∷ p) w d =

@@ -20,32 +20,32 @@ pub record SummaryWords (m : List ℕ) (f : ℕ → Bool) : Type 0 where
   pub top : word m (at Slot.top) ≡ topOf f
 
 -- r is the summary of whatever set the words are of, and so of the occupied levels of a state that the memory shows.
-pub record Loads (m : List ℕ) (r : Summary) : Type 0 where
+pub record LoadsSummary (m : List ℕ) (r : Summary) : Type 0 where
   pub loaded : (f : ℕ → Bool) → SummaryWords m f → r ≡ summaryOf f
   pub shown : (s : State) → Shows m s → r ≡ summaryOf (occupiedIn s)
 
 -- A word that is not of the summary.
-abbrev pub NoMark : Slot → Type 0
-NoMark (ofThread f t) = Unit {0}
-NoMark (ofEndpoint p e) = Unit {0}
-NoMark (ofLine l) = Unit {0}
-NoMark (summary w) = ⊥
-NoMark Slot.top = ⊥
-NoMark running = Unit {0}
-NoMark (unused i) = Unit {0}
+abbrev pub NotSummary : Slot → Type 0
+NotSummary (ofThread f t) = Unit {0}
+NotSummary (ofEndpoint p e) = Unit {0}
+NotSummary (ofLine l) = Unit {0}
+NotSummary (summary w) = ⊥
+NotSummary Slot.top = ⊥
+NotSummary running = Unit {0}
+NotSummary (unused i) = Unit {0}
 
 -- The word of level p and the top word become those of the summary, and no other word changes.
-pub record Writes (m : List ℕ) (sm : Summary) (p : ℕ) (m′ : List ℕ) : Type 0 where
+pub record WritesLevel (m : List ℕ) (sm : Summary) (p : ℕ) (m′ : List ℕ) : Type 0 where
   pub size : length m′ ≡ length m
   pub word-is : word m′ (at (summary (p / 32))) ≡ getD (sm .words) (p / 32) 0
   pub others : (w : ℕ) → w ≤ 7 → (w ≡ p / 32 → ⊥) → word m′ (at (summary w)) ≡ word m (at (summary w))
   pub top : word m′ (at Slot.top) ≡ sm .top
-  pub slots : (a : Slot) → ValidSlot a → NoMark a → word m′ (at a) ≡ word m (at a)
+  pub slots : (a : Slot) → ValidSlot a → NotSummary a → word m′ (at a) ≡ word m (at a)
   pub links : (k : Link) → ValidLink k → word m′ (linkAt k) ≡ word m (linkAt k)
 
 -- Level p becomes occupied (x is true) or empty (x is false) in the summary, and no other word changes.
-pub record MarksIn (m : List ℕ) (p : ℕ) (x : Bool) (m′ : List ℕ) : Type 0 where
+pub record SetsLevel (m : List ℕ) (p : ℕ) (x : Bool) (m′ : List ℕ) : Type 0 where
   pub size : length m′ ≡ length m
   pub marked : (f : ℕ → Bool) → SummaryWords m f → SummaryWords m′ (put f p x)
-  pub slots : (a : Slot) → ValidSlot a → NoMark a → word m′ (at a) ≡ word m (at a)
+  pub slots : (a : Slot) → ValidSlot a → NotSummary a → word m′ (at a) ≡ word m (at a)
   pub links : (k : Link) → ValidLink k → word m′ (linkAt k) ≡ word m (linkAt k)

@@ -13,9 +13,10 @@ use Rattle.layout.specs.declared.Field.{Field}
 use Rattle.layout.specs.Addresses.{next, prev, linkAt, word, afterAt, beforeAt}
 use Rattle.layout.specs.Shows.{Joined, Chain}
 use Rattle.layout.specs.Decode.{queueFrom}
-use Rattle.layout.proofs.Tests.{Tells, tells-false, tells-map, tells-and, tells-eqb, tells-leb}
-use Rattle.layout.proofs.Walks.{bounded-length, walk-chain}
-use Rattle.soundness.specs.Checks.{threadIn, readyTest, levelFrom, Phase, enter, leave, allowed, complete}
+use Rattle.layout.proofs.Tests.{Decides, tells-false, tells-map, tells-and, tells-eqb, tells-leb}
+use Rattle.layout.proofs.Following.{bounded-length, walk-chain}
+use Rattle.soundness.specs.declared.Phase.{Phase}
+use Rattle.soundness.specs.Checks.{threadAt, readyTest, levelFrom, phaseAt, phaseBehind, allowed, complete}
 use Rattle.soundness.specs.Checks.{waitersFrom, metFrom, met}
 use Rattle.soundness.proofs.Tests.{tells-itself, every}
 
@@ -31,7 +32,7 @@ chainFrom (suc n) (suc t) m q x =
 unfoldable pub phased : Phase → ℕ → ℕ → ℕ → (ℕ → ℕ) → List ℕ → Bool
 phased f c d b g [] = complete f c
 phased f c d b g (t ∷ l) =
-    allowed (enter f c (suc t)) b (g t) && phased (leave (enter f c (suc t)) d (suc t)) c d b g l
+    allowed (phaseAt f c (suc t)) b (g t) && phased (phaseBehind (phaseAt f c (suc t)) d (suc t)) c d b g l
 
 -- A walk's test is that of the links together with that of the threads met.
 
@@ -69,18 +70,18 @@ pub waiters-split :
     (m : List ℕ) (q k c d b n y : ℕ) (f : Phase) (x : ℕ)
     → waitersFrom n y f m q k c d b x
     ≡ chainFrom n y m q x
-    && (every (λ t. eqb (threadIn m Field.Place t) k) (metFrom n y m)
-    && phased f c d b (threadIn m Field.Badge) (metFrom n y m))
+    && (every (λ t. eqb (threadAt m Field.Place t) k) (metFrom n y m)
+    && phased f c d b (threadAt m Field.Badge) (metFrom n y m))
 unfolding waitersFrom chainFrom metFrom phased
 waiters-split m q k c d b zero y f x = refl
 waiters-split m q k c d b (suc n) zero f x = refl
 waiters-split m q k c d b (suc n) (suc t) f x =
     ap (λ (z : Bool).
-    (leb t 255 && eqb (word m (beforeAt q (suc t))) x && eqb (threadIn m Field.Place t) k
-    && allowed (enter f c (suc t)) b (threadIn m Field.Badge t)) && z)
-    (waiters-split m q k c d b n (word m (linkAt (next t))) (leave (enter f c (suc t)) d (suc t)) (suc t))
-    ∙ and-sort-three (leb t 255 && eqb (word m (beforeAt q (suc t))) x) (eqb (threadIn m Field.Place t) k)
-    (allowed (enter f c (suc t)) b (threadIn m Field.Badge t)) _ _ _
+    (leb t 255 && eqb (word m (beforeAt q (suc t))) x && eqb (threadAt m Field.Place t) k
+    && allowed (phaseAt f c (suc t)) b (threadAt m Field.Badge t)) && z)
+    (waiters-split m q k c d b n (word m (linkAt (next t))) (phaseBehind (phaseAt f c (suc t)) d (suc t)) (suc t))
+    ∙ and-sort-three (leb t 255 && eqb (word m (beforeAt q (suc t))) x) (eqb (threadAt m Field.Place t) k)
+    (allowed (phaseAt f c (suc t)) b (threadAt m Field.Badge t)) _ _ _
 
 -- A chain from link x of a queue back to the queue, of fewer than n threads.
 pub record Chained (m : List ℕ) (q x n : ℕ) (l : List ℕ) : Type 0 where
@@ -90,7 +91,7 @@ pub record Chained (m : List ℕ) (q x n : ℕ) (l : List ℕ) : Type 0 where
 
 module _ (m : List ℕ) (q : ℕ) where
   tells-chain :
-      (n y x : ℕ) → word m (afterAt q x) ≡ y → Tells (chainFrom n y m q x) (Chained m q x n (metFrom n y m))
+      (n y x : ℕ) → word m (afterAt q x) ≡ y → Decides (chainFrom n y m q x) (Chained m q x n (metFrom n y m))
   unfolding chainFrom metFrom
   tells-chain zero y x e = tells-false (λ c. omega (arith, c .fits))
   tells-chain (suc n) zero x e =
@@ -175,7 +176,7 @@ module _ (m : List ℕ) (q : ℕ) where
       l : List ℕ
       l = metFrom 257 (word m (afterAt q 0)) m
 
-      both : Tells (chainFrom 257 (word m (afterAt q 0)) m q 0 && g l) (Chained m q 0 257 l × (g l ≡ true))
+      both : Decides (chainFrom 257 (word m (afterAt q 0)) m q 0 && g l) (Chained m q 0 257 l × (g l ≡ true))
       both = tells-and (tells-chain 257 (word m (afterAt q 0)) 0 refl) tells-itself
 
       go : Chained m q 0 257 l × (g l ≡ true) → Chain m q 0 (queueFrom m q) 0 × (g (queueFrom m q) ≡ true)

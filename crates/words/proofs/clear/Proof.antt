@@ -5,25 +5,25 @@ use mathlib.Core.Path.{_≡_, refl, ap, _∙_}
 use lib.ListN.{length-set, length, replicate, drop, set}
 use borrow.Author.Fill.{fill-none, fill-more}
 use borrow.Author.Needs.{needs}
-use Rattle.sound_queues.proofs.Marking.{filled}
-use Rattle.sound_queues.proofs.marks.clear.Statement.{statement}
-use Rattle.sound_queues.proofs.marks.clear.Tie as tie
+use Rattle.words.proofs.Clearing.{filled}
+use Rattle.words.proofs.clear.Statement.{statement}
+use Rattle.words.proofs.clear.Tie as tie
 
 abbrev Inv-loop : tie.InvT-loop
-Inv-loop scratch₀ i₀ scratch i =
-    (i ≤ length scratch₀) × (scratch ≡ replicate i 0 ++ drop i scratch₀) × (length scratch ≡ length scratch₀)
+Inv-loop words₀ i₀ words i =
+    (i ≤ length words₀) × (words ≡ replicate i 0 ++ drop i words₀) × (length words ≡ length words₀)
 
 abbrev μ-loop : tie.MeasureT-loop
-μ-loop scratch₀ i₀ scratch i = length scratch₀ - i
+μ-loop words₀ i₀ words i = length words₀ - i
 
 loop-holds : tie.Need-loop-holds Inv-loop μ-loop
 loop-holds c = (search needs, fill-none _ 0, refl)
 
-mul-scratch : tie.Need-mul-scratch Inv-loop μ-loop
-mul-scratch c = search needs
+mul-words : tie.Need-mul-words Inv-loop μ-loop
+mul-words c = search needs
 
-slice-write-scratch : tie.Need-slice-write-scratch Inv-loop μ-loop
-slice-write-scratch c = search needs
+slice-write-words : tie.Need-slice-write-words Inv-loop μ-loop
+slice-write-words c = search needs
 
 add-i : tie.Need-add-i Inv-loop μ-loop
 add-i c = search needs
@@ -35,8 +35,8 @@ loop-again : tie.Need-loop-again Inv-loop μ-loop
 loop-again c = (
   search needs,
   ap (λ (l : List ℕ). set l (c .before .loop .i) 0) (c .before .loop .inv .1)
-      ∙ fill-more (c .before .loop .i) 0 (c .before .before .args .scratch .now) (search needs),
-  length-set (c .before .loop .scratch) (c .before .loop .i) 0 ∙ c .before .loop .inv .2,
+      ∙ fill-more (c .before .loop .i) 0 (c .before .before .args .words .now) (search needs),
+  length-set (c .before .loop .words) (c .before .loop .i) 0 ∙ c .before .loop .inv .2,
 )
 
 same-length : tie.Need-same-length Inv-loop μ-loop
@@ -45,7 +45,7 @@ same-length c = search needs
 returns : tie.Need-returns Inv-loop μ-loop
 returns c =
     let at-args = c .before .before in
-    c .before .loop .inv .1 ∙ filled (at-args .args .scratch .now) (c .before .loop .i) 0 (search needs)
+    c .before .loop .inv .1 ∙ filled (at-args .args .words .now) (c .before .loop .i) 0 (search needs)
     (search needs)
 
 pub clear-spec : {M : Type 1} → statement M
@@ -55,8 +55,8 @@ clear-spec =
     Inv-loop
     μ-loop
     loop-holds
-    mul-scratch
-    slice-write-scratch
+    mul-words
+    slice-write-words
     add-i
     loop-less
     loop-again

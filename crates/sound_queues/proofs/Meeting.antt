@@ -1,22 +1,15 @@
--- Marks of threads in the scratch: put, told and cleared.
+-- The threads met, in the scratch: put in, told, and none in a cleared one.
 use Prim.Native.Nat.{ℕ, zero, suc, _<_, _≤_}
 use mathlib.Core.Bool.{Bool, true, false}
-use mathlib.Core.List.{List, _∷_, _++_, append-nil}
+use mathlib.Core.List.{List, _∷_}
 use mathlib.Core.Path.{_≡_, refl, ap, _∙_, fun-ext}
 use native.Mathlib.Omega.{arith}
 use lib.Dec.{eqb, eqb·zero-suc, eqb·suc-zero, eqb·suc-suc}
-use lib.ListN.{length, getD, set, drop, replicate, drop-of-length-le}
+use lib.ListN.{length, getD, set, replicate}
 use Rattle.machine.specs.Lists.{pick, put}
 use Rattle.layout.specs.Words.{tabulate}
 use Rattle.layout.proofs.Image.{getD-tabulate}
-use Rattle.sound_queues.specs.Marks.{marksOf, nobody}
-
--- A fill up to the end has filled all.
-pub filled :
-    (d : List ℕ) (i v : ℕ) → i ≤ length d → length d ≤ i → replicate i v ++ drop i d ≡ replicate (length d) v
-filled d i v l h =
-    let e : i ≡ length d = omega arith in
-    rw (drop-of-length-le d h, append-nil) (ap (λ (n : ℕ). replicate n v) e)
+use Rattle.sound_queues.specs.Met.{metIn, noneMet}
 
 same-table : (n : ℕ) (f g : ℕ → ℕ) → ((i : ℕ) → f i ≡ g i) → tabulate n f ≡ tabulate n g
 same-table n f g h = ap (tabulate n) (fun-ext h)
@@ -35,24 +28,24 @@ unfolding tabulate
 zeros-tabulate zero = refl
 zeros-tabulate (suc n) = ap (λ (l : List ℕ). 0 ∷ l) (zeros-tabulate n)
 
-pub set-mark : (f : ℕ → Bool) (t : ℕ) → t ≤ 255 → set (marksOf f) t 1 ≡ marksOf (put f t true)
-unfolding marksOf put
-set-mark f t h =
+pub set-met : (f : ℕ → Bool) (t : ℕ) → t ≤ 255 → set (metIn f) t 1 ≡ metIn (put f t true)
+unfolding metIn put
+set-met f t h =
     set-tabulate 256 (λ k. pick (f k) 1 0) t 1 (omega arith) ∙ same-table 256 _ _ (λ k. go (eqb k t) (f k))
   where
     go : (b x : Bool) → _≡_ {A = ℕ} (pick b 1 (pick x 1 0)) (pick (pick b true x) 1 0)
     go true x = refl
     go false x = refl
 
-pub tell-mark : (f : ℕ → Bool) (t : ℕ) → t ≤ 255 → eqb (getD (marksOf f) t 0) 1 ≡ f t
-unfolding marksOf
-tell-mark f t h = ap (λ (w : ℕ). eqb w 1) (getD-tabulate 256 (λ k. pick (f k) 1 0) t (omega arith)) ∙ go (f t)
+pub tell-met : (f : ℕ → Bool) (t : ℕ) → t ≤ 255 → eqb (getD (metIn f) t 0) 1 ≡ f t
+unfolding metIn
+tell-met f t h = ap (λ (w : ℕ). eqb w 1) (getD-tabulate 256 (λ k. pick (f k) 1 0) t (omega arith)) ∙ go (f t)
   where
     go : (x : Bool) → eqb (pick x 1 0) 1 ≡ x
     go true = refl
     go false = refl
 
--- A cleared scratch marks nobody.
-pub no-marks : replicate 256 0 ≡ marksOf nobody
-unfolding marksOf
-no-marks = zeros-tabulate 256
+-- In a cleared scratch nobody is met.
+pub none-met : replicate 256 0 ≡ metIn noneMet
+unfolding metIn
+none-met = zeros-tabulate 256
