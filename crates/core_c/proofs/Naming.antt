@@ -17,7 +17,8 @@ use Rattle.core_c.specs.Numbers.{short, callIn}
 pub short-is :
     (ns : List ℕ) (call inner r : Named) →
     call ≡ asNamed (callOf (givenNumber ns) (givenSubject ns) (givenArgument ns) []) →
-    inner ≡ asNamed (unused (givenMessage ns) (callNamed call)) → r ≡ asNamed (unused (givenBadge ns) (callNamed inner)) →
+    inner ≡ asNamed (unused (givenMessage ns) (callNamed call)) →
+    r ≡ asNamed (unused (givenBadge ns) (callNamed inner)) →
     r ≡ asNamed (short ns)
 unfolding short
 short-is ns call inner r e f g =

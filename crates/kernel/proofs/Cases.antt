@@ -21,8 +21,7 @@ use Rattle.machine.specs.Sound.{Sound}
 use Rattle.machine.proofs.Lists.{clash}
 use Rattle.layout.specs.Words.{linkOf}
 use Rattle.layout.specs.Shows.{Shows}
-use Rattle.layout.proofs.Tests as Test
-use Rattle.layout.proofs.Tests.{tells-and, tells-eqb, tells-leb}
+use Rattle.layout.proofs.Tests.{Decides, tells-and, tells-eqb, tells-leb}
 use Rattle.store.specs.Steps.{Shown, Tells}
 use Rattle.store.specs.Store.{Any}
 use Rattle.store.specs.Readings.{runningIn}
@@ -172,7 +171,7 @@ idle-refused (Abort e a b) s h r = rw r
 
 -- Whether somebody runs, and whose call it is.
 module _ {m : List ℕ} {link number : ℕ} (c : Call) (R : Tells m Any link runningIn) (K : number ≡ numberOf c) where
-  unmade : Test.Tells (eqb link 0 && leb 7 number) ((link ≡ 0) × (7 ≤ number))
+  unmade : Decides (eqb link 0 && leb 7 number) ((link ≡ 0) × (7 ≤ number))
   unmade = tells-and (tells-eqb link 0) (tells-leb 7 number)
 
   pub nobody-calls :

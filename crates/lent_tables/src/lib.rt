@@ -6,9 +6,10 @@ ghost use Rattle.layout.specs.Addresses.{tableWords};
 ghost use Rattle.soundness.specs.Checks.{goodTest};
 ghost use Rattle.lent_tables.specs.Entries.{lent, zeros, Freshened, Checked, freshened, checked};
 
-// The words lent: for the tables, and for the scratch beside them.
+// How many words are lent for the tables.
 pub const TABLE_WORDS: usize = 4096;
 
+// How many are lent for the scratch beside them.
 pub const SCRATCH_WORDS: usize = 256;
 
 // All tests. The queues are walked before the places are tried, which go by whom they met.
