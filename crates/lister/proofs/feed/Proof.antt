@@ -4,7 +4,7 @@ use native.Mathlib.Omega.{arith}
 use mathlib.Core.Path.{_≡_}
 use lib.ListN.{length, take}
 use borrow.Author.Needs.{needs}
-use Rattle.listing.proofs.Parts.{counts}
+use Rattle.texts.proofs.Writing.{counts}
 use Rattle.lister.specs.Feeding.{fed}
 use Rattle.lister.specs.Buffers.{standingOf, Tells}
 use Rattle.lister.proofs.Holding.{none-fed, one-fed, all-fed}
