@@ -212,7 +212,7 @@ pub fn finish(l: Lister, tables: &[u32], out: &mut [u8]) -> usize
         index: l.index,
         call: 0,
         answer: machine::plain(18),
-        running: rows::running(tables),
+        running: kernel::running(tables),
     };
     add(out, 0, last)
 }
