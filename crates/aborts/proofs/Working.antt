@@ -11,7 +11,8 @@ use Rattle.machine.specs.Results.{Result, Look, counted, accept}
 use Rattle.machine.specs.Aborts.{Looked, pendingAt, begin, ended, lookedOwn, workOwn, beginAfter, finished}
 use Rattle.machine.specs.Aborts.{lookedOther, workOther}
 use Rattle.machine.specs.Mid.{Mid}
-use Rattle.machine.proofs.Preserved.Debts.{nothing-owns, live-present, mid-dropDebt, dropDebt-drops, mid-endAbort, endAbort-entry}
+use Rattle.machine.proofs.Preserved.Debts.{nothing-owns, live-present, mid-dropDebt, dropDebt-drops, mid-endAbort}
+use Rattle.machine.proofs.Preserved.Debts.{endAbort-entry}
 use Rattle.machine.proofs.Preserved.Debts.{endAbort-runs, endAbort-debt}
 use Rattle.machine.proofs.Preserved.AbortSteps.{mid-begin, mid-lookUpTo, steady-lookUpTo}
 use Rattle.machine.proofs.Preserved.Aborts.{running-present, begin-status}

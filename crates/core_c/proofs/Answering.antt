@@ -38,7 +38,7 @@ module _ (l : Lent) {x : List ℕ} {code : ℕ} (e : checkedOf code x ≡ checke
   pub none-refused : {a : Answer} → code ≡ 0 → a ≡ plain 18 → calledOf a (lent (l .tables) x) ≡ calledFor none l
   none-refused h p = refused (p ∙ ap (λ (n : ℕ). plain (refusal n)) (sym h))
 
--- by whether a call is named
+-- by whether a call is asNamed
 pub called-for :
     (l : Lent) (n : Named) (o : Option Call) (r : Called) → n ≡ asNamed o → r ≡ calledFor o l →
     r ≡ calledFor (callNamed n) l

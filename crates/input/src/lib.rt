@@ -2,7 +2,7 @@
 ghost use Prim.Native.Nat.{_+_, _*_, _/_, _≤_, _<_};
 ghost use mathlib.Core.Path.{_≡_};
 ghost use lib.ListN.{length, take};
-ghost use Rattle.listing.specs.Buffer.{Counts};
+ghost use Rattle.texts.specs.Buffer.{Counts};
 ghost use Rattle.input.specs.Words.{littleEndian, wordsIn};
 
 fn wide(byte: u8) -> u32

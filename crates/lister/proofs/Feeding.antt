@@ -9,7 +9,7 @@ use native.Mathlib.Omega.{arith}
 use lib.ListN.{length}
 use Rattle.machine.specs.declared.Call.{Call}
 use Rattle.machine.specs.Lists.{pick}
-use Rattle.machine.specs.Results.{plain, threadOf}
+use Rattle.machine.specs.Results.{threadOf}
 use Rattle.machine.specs.Calls.{numberOf}
 use Rattle.machine.specs.State.{State}
 use Rattle.machine.specs.Machine.{step}
@@ -26,7 +26,7 @@ use Rattle.kernel.proofs.Runner.{running-image}
 use Rattle.kernel.proofs.Turns.{called-image}
 use Rattle.input.specs.Words.{wordsIn}
 use Rattle.rows.specs.Taking.{turned}
-use Rattle.lister.specs.Listing.{lineFor, lastRow}
+use Rattle.lister.specs.Listing.{lastRow}
 use Rattle.lister.specs.Feeding.{Progress, Told, ready, holding, toldBy, offered, byteTo, fed, ending, endingWith}
 use Rattle.lister.specs.Feeding.{fedParts, joined}
 use Rattle.lister.proofs.Behind.{rowFor}
@@ -107,12 +107,12 @@ abbrev callTold : ℕ → Call → Called → ℕ → Option ℕ → Told
 callTold i c k next running =
     record {
       after = record { held = []; index = next; going = true; lent = k .left };
-      text = lineOf i (numberOf c) (k .answer) running;
+      text = lineOf (record { index = i; call = numberOf c; answer = k .answer; running = running });
     }
 
 -- A call that was read tells its row's line, and the lister goes on with the tables of the state after it.
 abbrev pub lineTold : ℕ → Call → State → Told
-lineTold i c s = record { after = on [] (suc i) (step s c .state) zeros; text = lineFor (rowFor i c s) }
+lineTold i c s = record { after = on [] (suc i) (step s c .state) zeros; text = lineOf (rowFor i c s) }
 
 pub call-told :
     (c : Call) (next : ℕ) (held : List ℕ) (i : ℕ) (s : State) (x : List ℕ) → Sound s → length x ≡ scratchWords
@@ -131,19 +131,19 @@ abbrev pub stopped : ℕ → State → List ℕ → Progress
 stopped i s x = record { held = []; index = i; going = false; lent = lent (image s) x }
 
 abbrev pub lastTold : ℕ → ℕ → State → List ℕ → Told
-lastTold i code s x = record { after = stopped i s x; text = lineFor (lastRow i code (s .runs)) }
+lastTold i code s x = record { after = stopped i s x; text = lineOf (lastRow i code (s .runs)) }
 
 pub last-told :
     (code at : ℕ) (held : List ℕ) (i : ℕ) (s : State) (x : List ℕ) → Sound s
     → toldBy (turned (Refused code at) (lent (image s) x)) (on held i s x) ≡ lastTold i code s x
 last-told code at held i s x S =
     ap
-    (λ (running : Option ℕ). record { after = stopped i s x; text = lineOf i 0 (plain code) running })
+    (λ (running : Option ℕ). record { after = stopped i s x; text = lineOf (lastRow i code running) })
     (running-image s S)
 
 -- Bytes held at the end tell the last row's line.
 pub ending-held :
     (b : ℕ) (held : List ℕ) (i : ℕ) (s : State) (x : List ℕ) → Sound s
-    → ending (on (b ∷ held) i s x) ≡ lineFor (lastRow i 18 (s .runs))
+    → ending (on (b ∷ held) i s x) ≡ lineOf (lastRow i 18 (s .runs))
 unfolding ending
-ending-held b held i s x S = ap (λ (running : Option ℕ). lineOf i 0 (plain 18) running) (running-image s S)
+ending-held b held i s x S = ap (λ (running : Option ℕ). lineOf (lastRow i 18 running)) (running-image s S)

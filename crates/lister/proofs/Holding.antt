@@ -12,7 +12,7 @@ use Rattle.machine.specs.Lists.{pick}
 use Rattle.journal.specs.Words.{topByte, wordsTaken, readAt}
 use Rattle.journal.proofs.Numbers.{taken-most}
 use Rattle.lent_tables.specs.Entries.{Lent}
-use Rattle.listing.proofs.Texts.{wrote-then}
+use Rattle.texts.proofs.Writing.{wrote-nothing, wrote-then}
 use Rattle.input.specs.Words.{littleEndian, wordsIn}
 use Rattle.rows.specs.declared.Turn.{Turn}
 use Rattle.rows.specs.declared.Turn.the-variants.{Took, Stopped, Over}
@@ -21,7 +21,6 @@ use Rattle.lister.specs.declared.Lister.{Lister}
 use Rattle.lister.specs.declared.Fed.{Fed}
 use Rattle.lister.specs.Feeding.{Progress, Told, ready, holding, toldOf, toldBy, offered, byteTo, fed}
 use Rattle.lister.specs.Buffers.{progressOf, withByte, takesCall, Feeds}
-use Rattle.lister.proofs.Writing.{wrote-nothing}
 use Rattle.lister.proofs.Answering.{fedTo}
 
 -- Tests.
@@ -212,7 +211,7 @@ module _ (l : Lister) (m : Lent) (out : List ℕ) where
       ∙ one-byte-more (take i part) (getD part i 0) (progressOf l m)))
       (record {
         after = new′ .after;
-        text = wrote-then (omega (arith, so-far .text .next, room)) (so-far .text) (new′ .text);
+        text = wrote-then (record { fits = omega (arith, so-far .text .next, room) }) (so-far .text) (new′ .text);
       })
     where
       one : take (i + 1) part ≡ take i part ++ (getD part i 0 ∷ [])

@@ -19,7 +19,8 @@ use Rattle.layout.specs.Addresses.{scratchWords}
 use Rattle.lent_tables.specs.Entries.{zeros}
 use Rattle.lent_tables.proofs.Verdict.{zeros-length}
 use Rattle.input.specs.Words.{wordsIn}
-use Rattle.lister.specs.Listing.{lineFor, linesOf, lastRow, callRows, Prefix}
+use Rattle.listing.specs.Line.{lineOf}
+use Rattle.lister.specs.Listing.{linesOf, lastRow, callRows, Prefix}
 use Rattle.lister.specs.Feeding.{Told, ready, holding, fed, ending}
 use Rattle.lister.proofs.Enough.{Whole, whole-now, how-many, whole-words, not-over}
 use Rattle.lister.proofs.Behind.{rowFor, rowsOn, oddOn, rows-taken, rows-refused, odd-taken, odd-refused}
@@ -52,7 +53,7 @@ at-end (b ∷ held) n i s x S e =
     record {
       whole =
           ending-held b held i s x S
-          ∙ sym (append-nil (lineFor (lastRow i 18 (s .runs))))
+          ∙ sym (append-nil (lineOf (lastRow i 18 (s .runs))))
           ∙ sym (ap linesOf (v .last));
       begun =
           record {
@@ -66,7 +67,7 @@ one-taken :
     (i : ℕ) (c : Call) (s : State) (u : Told) (rows odd : List Row) → Streams u rows odd
     → Streams (following (lineTold i c s) u) (rowFor i c s ∷ rows) odd
 one-taken i c s u rows odd v =
-    let line = lineFor (rowFor i c s) in
+    let line = lineOf (rowFor i c s) in
     let more = v .begun .more in
     record {
       whole = append-assoc line (u .text) (ending (u .after)) ∙ ap (λ (l : List ℕ). line ++ l) (v .whole);
@@ -85,7 +86,7 @@ one-refused :
     (i code : ℕ) (s : State) (x bytes : List ℕ)
     → Streams (following (lastTold i code s x) (fed bytes (stopped i s x))) (lastRow i code (s .runs) ∷ []) []
 one-refused i code s x bytes =
-    let line = lineFor (lastRow i code (s .runs)) in
+    let line = lineOf (lastRow i code (s .runs)) in
     let stands = stopped i s x in
     alike (ap (following (lastTold i code s x)) (fed-stopped bytes stands refl)) refl refl
     (record {

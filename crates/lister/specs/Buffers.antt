@@ -4,7 +4,7 @@ use mathlib.Core.Path.{_≡_}
 use mathlib.Core.Bool.{Bool}
 use mathlib.Core.List.{List}
 use lib.ListN.{take, set}
-use Rattle.listing.specs.Buffer.{Wrote}
+use Rattle.texts.specs.Buffer.{Wrote}
 use Rattle.journal.specs.Words.{readAt}
 use Rattle.lent_tables.specs.Entries.{Lent}
 use Rattle.input.specs.Words.{wordsIn}

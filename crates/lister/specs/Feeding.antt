@@ -7,7 +7,7 @@ use lib.Dec.{leb}
 use lib.ListN.{length}
 use Rattle.machine.specs.Calls.{numberOf}
 use Rattle.machine.specs.Lists.{pick}
-use Rattle.machine.specs.Results.{plain, threadOf}
+use Rattle.machine.specs.Results.{threadOf}
 use Rattle.journal.specs.Words.{topByte, wordsTaken, readAt}
 use Rattle.listing.specs.Line.{lineOf}
 use Rattle.lent_tables.specs.Entries.{Lent, lent, freshened, runnerIn}
@@ -15,6 +15,7 @@ use Rattle.input.specs.Words.{littleEndian, wordsIn}
 use Rattle.rows.specs.declared.Turn.{Turn}
 use Rattle.rows.specs.declared.Turn.the-variants.{Took, Stopped, Over}
 use Rattle.rows.specs.Taking.{Turned, turned}
+use Rattle.lister.specs.Listing.{lastRow}
 
 -- Between two bytes: those of a call that is not yet whole, the next line's index, whether the listing goes on, and
 -- the lent memory.
@@ -46,12 +47,12 @@ abbrev pub toldOf : Turn → Lent → Progress → Told
 toldOf (Took c a who next) m s =
     record {
       after = record { held = []; index = (s .index + 1) % 2 ^ 64; going = s .going; lent = m };
-      text = lineOf (s .index) (numberOf c) a (threadOf who);
+      text = lineOf (record { index = s .index; call = numberOf c; answer = a; running = threadOf who });
     }
 toldOf (Stopped code who) m s =
     record {
       after = record { held = []; index = s .index; going = false; lent = m };
-      text = lineOf (s .index) 0 (plain code) (threadOf who);
+      text = lineOf (lastRow (s .index) code (threadOf who));
     }
 toldOf Over m s = record {
   after = record { held = []; index = s .index; going = s .going; lent = m };
@@ -81,7 +82,7 @@ fed (b ∷ part) s = record {
 -- The bytes have ended: those still held are odd bytes, or a call that lacks words, which both are 18.
 abbrev pub endingWith : List ℕ → Progress → List ℕ
 endingWith [] s = []
-endingWith (b ∷ held) s = lineOf (s .index) 0 (plain 18) (threadOf (runnerIn (s .lent .tables)))
+endingWith (b ∷ held) s = lineOf (lastRow (s .index) 18 (threadOf (runnerIn (s .lent .tables))))
 
 unfoldable pub ending : Progress → List ℕ
 ending s = pick (s .going) (endingWith (s .held) s) []

@@ -11,13 +11,10 @@ use Rattle.journal.specs.Rows.{Row, rowsOf}
 use Rattle.listing.specs.Line.{lineOf, header}
 use Rattle.input.specs.Words.{wordsIn}
 
-abbrev pub lineFor : Row → List ℕ
-lineFor r = lineOf (r .index) (r .call) (r .answer) (r .running)
-
 -- The lines of rows, one behind the other.
 abbrev pub linesOf : List Row → List ℕ
 linesOf [] = []
-linesOf (r ∷ rows) = lineFor r ++ linesOf rows
+linesOf (r ∷ rows) = lineOf r ++ linesOf rows
 
 -- "the next index, call 0, the reader's 18 or 19, three zeros, running thread"
 abbrev pub lastRow : ℕ → ℕ → Option ℕ → Row

@@ -4,15 +4,14 @@ ghost use mathlib.Core.Path.{_≡_};
 ghost use mathlib.Core.Bool.{true};
 ghost use mathlib.Core.List.{[]};
 ghost use lib.ListN.{length, replicate};
-ghost use Rattle.machine.specs.Results.{threadOf};
 ghost use Rattle.lent_tables.specs.Entries.{Lent, lent};
-ghost use Rattle.listing.specs.Line.{lineOf};
-ghost use Rattle.listing.specs.Buffer.{Counts, Wrote};
+ghost use Rattle.texts.specs.Buffer.{Counts, Wrote};
+ghost use Rattle.listing.specs.Line.{lineOf, rowOf};
+ghost use Rattle.listing.specs.Buffer.{lineRoom};
 ghost use Rattle.lister.specs.Feeding.{ready, byteTo, fed, ending};
 ghost use Rattle.lister.specs.Buffers.{progressOf, withByte, emptied, stopping, takesCall, Feeds};
 use journal::taken::words_taken;
-use machine::Answer;
-use machine::Runner;
+use listing::Listed;
 use rows::Turn;
 
 // The bytes held of a call that is not yet whole, the next line's index, whether the listing goes on.
@@ -29,9 +28,6 @@ pub struct Fed {
     pub used: usize,
 }
 
-// Room for every line.
-const ROOM: usize = 96;
-
 // Nothing held yet, and the first line's index.
 pub fn start() -> Lister
     ensures { λ r. ⌜ r ≡ record { bytes = replicate 12 0; held = 0; index = 0; going = true } ⌝ }
@@ -45,13 +41,13 @@ pub fn start() -> Lister
 }
 
 // A line behind the bytes used; how many are used then.
-fn add(out: &mut [u8], used: usize, index: u64, call: u32, answer: Answer, who: Runner) -> usize
-    requires { ⌜ used + 96 ≤ length (now out) ⌝ }
-    ensures { λ r. ⌜ r ≤ used + 96 ⌝ }
-    ensures { λ r. ⌜ Wrote (now (out .entry)) used (lineOf index call answer (threadOf who)) r (now (out .exit)) ⌝ }
+fn add(out: &mut [u8], used: usize, l: Listed) -> usize
+    requires { ⌜ used + lineRoom ≤ length (now out) ⌝ }
+    ensures { λ r. ⌜ r ≤ used + lineRoom ⌝ }
+    ensures { λ r. ⌜ Wrote (now (out .entry)) used (lineOf (rowOf l)) r (now (out .exit)) ⌝ }
 {
-    let end = used + ROOM;
-    used + listing::line(&mut out[used..end], index, call, answer, who)
+    let end = used + listing::ROOM;
+    used + listing::line(&mut out[used..end], l)
 }
 
 // Whether the bytes have all the words that their first word asks for.
@@ -96,8 +92,8 @@ fn empty(l: Lister, index: u64, going: bool) -> Lister
 
 // Ends a turn that took no call: the last line, which stops the listing; nothing where the journal is over.
 fn stop(l: Lister, turn: Turn, out: &mut [u8], used: usize) -> Fed
-    requires { ⌜ used + 96 ≤ length (now out) ⌝ }
-    ensures { λ r. ⌜ (r .lister .held ≡ 0) × (r .lister .bytes ≡ l .bytes) × (r .used ≤ used + 96) ⌝ }
+    requires { ⌜ used + lineRoom ≤ length (now out) ⌝ }
+    ensures { λ r. ⌜ (r .lister .held ≡ 0) × (r .lister .bytes ≡ l .bytes) × (r .used ≤ used + lineRoom) ⌝ }
     ensures { λ r. ⌜ ((m : Lent) →
         Feeds (stopping turn (progressOf l m)) (now (out .entry)) used r m (now (out .exit))) ⌝ }
 {
@@ -107,16 +103,22 @@ fn stop(l: Lister, turn: Turn, out: &mut [u8], used: usize) -> Fed
             used,
         };
     };
+    let last = Listed {
+        index: l.index,
+        call: 0,
+        answer: machine::plain(code),
+        running: who,
+    };
     Fed {
         lister: empty(l, l.index, false),
-        used: add(out, used, l.index, 0, machine::plain(code), who),
+        used: add(out, used, last),
     }
 }
 
 // Reads the bytes held, which are ready, and takes their call.
 fn answer(l: Lister, tables: &mut [u32], scratch: &mut [u32], out: &mut [u8], used: usize) -> Fed
-    requires { ⌜ (l .held ≤ 12) × (length (l .bytes) ≡ 12) × (used + 96 ≤ length (now out)) ⌝ }
-    ensures { λ r. ⌜ (r .lister .held ≡ 0) × (r .lister .bytes ≡ l .bytes) × (r .used ≤ used + 96) ⌝ }
+    requires { ⌜ (l .held ≤ 12) × (length (l .bytes) ≡ 12) × (used + lineRoom ≤ length (now out)) ⌝ }
+    ensures { λ r. ⌜ (r .lister .held ≡ 0) × (r .lister .bytes ≡ l .bytes) × (r .used ≤ used + lineRoom) ⌝ }
     ensures { λ r. ⌜ Feeds (takesCall (progressOf l (lent (now (tables .entry)) (now (scratch .entry)))))
         (now (out .entry)) used r (lent (now (tables .exit)) (now (scratch .exit))) (now (out .exit)) ⌝ }
 {
@@ -134,12 +136,17 @@ fn answer(l: Lister, tables: &mut [u32], scratch: &mut [u32], out: &mut [u8], us
     else {
         return stop(l, turn, out, used);
     };
-    let number = machine::number(call);
+    let listed = Listed {
+        index: l.index,
+        call: machine::number(call),
+        answer,
+        running: who,
+    };
     // No run makes so many calls that it wraps.
     let next = std::num::wrapping_add_u64(l.index, 1);
     Fed {
         lister: empty(l, next, l.going),
-        used: add(out, used, l.index, number, answer, who),
+        used: add(out, used, listed),
     }
 }
 
@@ -190,7 +197,7 @@ pub fn feed(l: Lister, part: &[u8], tables: &mut [u32], scratch: &mut [u32], out
 
 // The bytes have ended: those still held make no call.
 pub fn finish(l: Lister, tables: &[u32], out: &mut [u8]) -> usize
-    requires { ⌜ (l .held < 12) × (length (l .bytes) ≡ 12) × (96 ≤ length (now out)) ⌝ }
+    requires { ⌜ (l .held < 12) × (length (l .bytes) ≡ 12) × (lineRoom ≤ length (now out)) ⌝ }
     ensures { λ r. ⌜ Counts r (now (out .exit)) ⌝ }
     ensures { λ r. ⌜ Wrote (now (out .entry)) 0 (ending (progressOf l (lent (now (tables .entry)) []))) r
         (now (out .exit)) ⌝ }
@@ -201,12 +208,11 @@ pub fn finish(l: Lister, tables: &[u32], out: &mut [u8]) -> usize
     if l.held == 0 {
         return 0;
     }
-    add(
-        out,
-        0,
-        l.index,
-        0,
-        machine::plain(18),
-        kernel::running(tables),
-    )
+    let last = Listed {
+        index: l.index,
+        call: 0,
+        answer: machine::plain(18),
+        running: rows::running(tables),
+    };
+    add(out, 0, last)
 }

@@ -1,18 +1,25 @@
 // Lines of the listing, printed: the header, small and large numbers, a running thread and nobody.
 // The bytes that they must be stand in stdout.
 use libc::STDOUT_FILENO;
+use listing::Listed;
 use machine::Answer;
 use machine::Runner;
 
 fn show_head() {
-    let mut buffer = [0u8; 96];
+    let mut buffer = [0u8; listing::ROOM];
     let n = listing::head(&mut buffer);
     io::write_all(STDOUT_FILENO, &buffer[..n]);
 }
 
 fn show(index: u64, call: u32, answer: Answer, running: Runner) {
-    let mut buffer = [0u8; 96];
-    let n = listing::line(&mut buffer, index, call, answer, running);
+    let mut buffer = [0u8; listing::ROOM];
+    let listed = Listed {
+        index,
+        call,
+        answer,
+        running,
+    };
+    let n = listing::line(&mut buffer, listed);
     io::write_all(STDOUT_FILENO, &buffer[..n]);
 }
 
@@ -28,7 +35,13 @@ fn answer(code: u32, count: u32, badge: u32, message: u32) -> Answer {
 // A buffer of 95 bytes gets nothing.
 fn no_room() {
     let mut buffer = [0u8; 95];
-    let n = listing::line(&mut buffer, 1, 2, answer(3, 4, 5, 6), Runner::Thread(7));
+    let listed = Listed {
+        index: 1,
+        call: 2,
+        answer: answer(3, 4, 5, 6),
+        running: Runner::Thread(7),
+    };
+    let n = listing::line(&mut buffer, listed);
     check::expect(n == 0);
 }
 

@@ -28,7 +28,7 @@ plain n = record { code = n; count = 0; badge = 0; message = 0 }
 abbrev pub counted : ℕ → ℕ → Answer
 counted n k = record { code = n; count = k; badge = 0; message = 0 }
 
--- Badge and message are 0 except for a message taken by 8.
+-- "badge and message are 0 except for a receive that is done"
 abbrev pub receipt : ℕ → ℕ → Answer
 receipt b m = record { code = 0; count = 0; badge = b; message = m }
 

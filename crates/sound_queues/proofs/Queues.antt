@@ -10,7 +10,8 @@ use borrow.Author.Tests.{le-leb, lt-leb}
 use Rattle.layout.specs.Addresses.{word, linkAt, head, tail, next, prev}
 use Rattle.soundness.specs.Checks.{readyTest, levelFrom, levelTest, metFrom, met}
 use Rattle.sound_queues.specs.Met.{Meets, Follows}
-use Rattle.sound_queues.proofs.Walking.{and-right, MetSoFar, passed-none, passed-more, passed-all, met-more, met-done}
+use Rattle.sound_queues.proofs.Walking.{and-right, MetSoFar, passed-none, passed-more, passed-all, met-more}
+use Rattle.sound_queues.proofs.Walking.{met-done}
 
 -- What holds at the head of the walk's loop: it is at link y, behind x, with some turns left.
 pub record LevelAt (m : List ℕ) (p : ℕ) (before after : List ℕ) (x y left : ℕ) : Type 0 where

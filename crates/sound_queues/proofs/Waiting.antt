@@ -17,7 +17,8 @@ use Rattle.soundness.specs.Checks.{kindOf, bannedOf, waitersFrom, waitersTest, 
 use Rattle.soundness.specs.Checks.{metFrom, metBelow, met}
 use Rattle.sound_queues.specs.Met.{metIn, Meets, Follows, FollowsAll}
 use Rattle.sound_queues.specs.Steps.{waitersAs, kindFits}
-use Rattle.sound_queues.proofs.Walking.{and-right, MetSoFar, passed-none, passed-more, passed-all, met-more, met-done}
+use Rattle.sound_queues.proofs.Walking.{and-right, MetSoFar, passed-none, passed-more, passed-all, met-more}
+use Rattle.sound_queues.proofs.Walking.{met-done}
 use Rattle.sound_queues.proofs.Walking.{met-below}
 
 -- The phases of the code

@@ -21,7 +21,8 @@ use Rattle.layout.proofs.Addresses.{below?}
 use Rattle.layout.proofs.Codes.{PlaceSmall, place-back, DebtSmall}
 use Rattle.layout.proofs.Blocks.{NeatThread, absent-neat, thread-back, debt-in-range}
 use Rattle.layout.proofs.Neat.{seat-small}
-use Rattle.layout.proofs.Tests.{Decides, tells-map, tells-and, tells-or, tells-eqb, tells-leb, tells-some, tells-awaited}
+use Rattle.layout.proofs.Tests.{Decides, tells-map, tells-and, tells-or, tells-eqb, tells-leb, tells-some}
+use Rattle.layout.proofs.Tests.{tells-awaited}
 use Rattle.soundness.specs.Checks.{threadAt, endpointAt, absentTest, numbersTest, storedTest, waitsTest, owesTest}
 use Rattle.soundness.specs.Checks.{presentTest, blockTest}
 use Rattle.soundness.proofs.Tests.{tells-ltb, tells-pick, told}

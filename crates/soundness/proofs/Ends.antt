@@ -19,7 +19,8 @@ use Rattle.layout.specs.Decode.{linked, between, abortBy, endpointBy, endpointF
 use Rattle.layout.proofs.Chains.{chain-first, first-zero}
 use Rattle.layout.proofs.Codes.{within-same}
 use Rattle.layout.proofs.Ends.{NeatEndpoint, none-some}
-use Rattle.layout.proofs.Tests.{Decides, tells-true, tells-false, tells-map, tells-and, tells-agree, tells-eqb, tells-leb}
+use Rattle.layout.proofs.Tests.{Decides, tells-true, tells-false, tells-map, tells-and, tells-agree, tells-eqb}
+use Rattle.layout.proofs.Tests.{tells-leb}
 use Rattle.layout.proofs.Tests.{tells-owns}
 use Rattle.soundness.specs.Checks.{threadAt, endpointAt, ownerTest, abortTest, statusTest}
 use Rattle.soundness.proofs.Tests.{tells-ltb, told}

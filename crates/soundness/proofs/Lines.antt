@@ -19,7 +19,8 @@ use Rattle.layout.specs.Decode.{lineBy}
 use Rattle.layout.proofs.Codes.{line-small}
 use Rattle.layout.proofs.Tests.{Decides, tells-true, tells-false, tells-map, tells-and, tells-or, tells-eqb, tells-leb}
 use Rattle.layout.proofs.Tests.{tells-below}
-use Rattle.soundness.specs.Checks.{threadAt, lineFrom, lineTest, occupiedAt, summaryTest, runningFrom, runningTest}
+use Rattle.soundness.specs.Checks.{threadAt, lineFrom, lineTest, occupiedAt, summaryTest, runningFrom}
+use Rattle.soundness.specs.Checks.{runningTest}
 use Rattle.soundness.specs.Checks.{unusedTest}
 use Rattle.soundness.proofs.Tests.{tells-itself}
 use Rattle.soundness.proofs.Reading.{Reads, level-joined, same-occupied, same-word, same-top, tells-seat}

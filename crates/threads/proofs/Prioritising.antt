@@ -24,7 +24,8 @@ use Rattle.endings.specs.Results.{Asked, Performs}
 use Rattle.endings.proofs.Ends.{refused, performs-as, performs-for, performs-after, shown-for}
 use Rattle.endings.proofs.Conditions.{present-thread, ready-stands, moved-loose, mid-chooses}
 use Rattle.threads.specs.Threads.{InRange, readyIn, Changes, changing}
-use Rattle.threads.proofs.Runner.{RunnerApart, mid-apart, apart-chooses, apart-thread, apart-enqueue, apart-unqueue}
+use Rattle.threads.proofs.Runner.{RunnerApart, mid-apart, apart-chooses, apart-thread, apart-enqueue}
+use Rattle.threads.proofs.Runner.{apart-unqueue}
 use Rattle.threads.proofs.Places.{code-absent, code-present, ready-is}
 
 -- Changing the priority.

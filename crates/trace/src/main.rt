@@ -63,7 +63,7 @@ fn turn(l: Lister, tables: &mut [u32], scratch: &mut [u32]) -> Stage
 fn finish(l: Lister, tables: &[u32])
     requires { ⌜ (l .held < 12) × (length (l .bytes) ≡ 12) ⌝ }
 {
-    let mut out = [0u8; 96];
+    let mut out = [0u8; listing::ROOM];
     let n = lister::finish(l, tables, &mut out);
     output::show(&out[..n]);
 }

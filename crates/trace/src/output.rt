@@ -14,7 +14,7 @@ pub fn show(lines: &[u8]) -> bool {
 }
 
 pub fn header() -> bool {
-    let mut line = [0u8; 96];
+    let mut line = [0u8; listing::ROOM];
     let n = listing::head(&mut line);
     show(&line[..n])
 }

@@ -4,7 +4,7 @@ use mathlib.Core.Path.{_≡_, refl}
 use lib.ListN.{length}
 use borrow.Author.Needs.{needs}
 use Rattle.input.proofs.Filling.{WordsOf}
-use Rattle.listing.proofs.Parts.{counts}
+use Rattle.texts.proofs.Writing.{counts}
 use Rattle.input.proofs.Filling.{no-words, one-word-more, fewer-words, taken-words}
 use Rattle.input.proofs.words.Statement.{statement}
 use Rattle.input.proofs.words.Tie as tie

@@ -2,6 +2,7 @@
 use Prim.Native.Nat.{_+_, _-_}
 use mathlib.Core.Path.{refl}
 use borrow.Author.Needs.{needs}
+use Rattle.listing.specs.Buffer.{lineRoom}
 use Rattle.lister.proofs.Writing.{line-added}
 use Rattle.lister.proofs.add.Statement.{statement}
 use Rattle.lister.proofs.add.Tie as tie
@@ -33,7 +34,7 @@ returns c =
     let start = c .before .before .before .before .before in
     let a = start .args in (
       search needs,
-      line-added (a .out .now) (a .used) (a .used + 96 - a .used) (start .pre) (search needs) _ _ _ (line .result)
+      line-added (a .out .now) (a .used) (a .used + lineRoom - a .used) (start .pre) (search needs) _ _ _ (line .result)
           (line .ensures .0) (line .ensures .1 .0) (search needs) refl,
     )
 

@@ -2,7 +2,7 @@
 use mathlib.Core.List.{[]}
 use borrow.Author.Needs.{needs}
 use Rattle.lent_tables.specs.Entries.{lent}
-use Rattle.listing.proofs.Parts.{counts}
+use Rattle.texts.proofs.Writing.{counts}
 use Rattle.lister.proofs.Holding.{not-so, so}
 use Rattle.lister.proofs.Answering.{stopped-ends, nothing-ends, held-ends}
 use Rattle.lister.proofs.finish.Statement.{statement}
@@ -38,9 +38,9 @@ same-length c = search needs
 returns-3 : tie.Need-returns-3
 returns-3 c =
     let added = c .before .before .add in
-    let who = c .before .before .before in
+    let who = c .before .before .before .before in
     let said = who .before in
-    let some = said .before .before in
+    let some = said .before in
     let on = some .before .before in
     let start = on .before .before .before .before in
     let a = start .args in (

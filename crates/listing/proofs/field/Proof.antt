@@ -1,34 +1,40 @@
 -- The number, and then the space.
 use mathlib.Core.Path.{refl}
+use mathlib.Core.List.{[], _∷_}
 use native.Mathlib.Omega.{arith}
 use borrow.Author.Needs.{needs}
-use Rattle.listing.proofs.Texts.{wrote-byte}
-use Rattle.listing.proofs.Parts.{length-spaced, spaced-wrote}
+use Rattle.texts.specs.Decimal.{decimal, spaced}
+use Rattle.texts.specs.Buffer.{Room}
+use Rattle.texts.proofs.Writing.{front-room, rest-room, in-turn, wrote-byte}
 use Rattle.listing.proofs.field.Statement.{statement}
 use Rattle.listing.proofs.field.Tie as tie
 
 number-requires : tie.Need-number-requires
-number-requires c κs = omega (arith, length-spaced (c .before .before .args .n))
+unfolding spaced
+number-requires c κs = let start = c .before .before in front-room (decimal (start .args .n)) (32 ∷ []) (start .pre)
+
+-- Room for the space.
+space : (c : tie.After-number) → Room (c .number .last .0) (c .number .result) (32 ∷ [])
+unfolding spaced
+space c =
+    let start = c .before .before .before in
+    rest-room (decimal (start .args .n)) (32 ∷ []) (start .pre) (c .number .ensures)
 
 slice-write-out : tie.Need-slice-write-out
-slice-write-out c =
-    let start = c .before .before .before .before .before in
-    omega (arith, length-spaced (start .args .n))
+slice-write-out c = omega (arith, space (c .before .before) .fits)
 
 add-result : tie.Need-add-result
-add-result c =
-    let start = c .before .before .before .before .before in
-    omega (arith, length-spaced (start .args .n))
+add-result c = omega (arith, space (c .before .before) .fits)
 
 same-length : tie.Need-same-length
 same-length c = search needs
 
 returns : tie.Need-returns
+unfolding spaced
 returns c =
     let first = c .before .before in
     let start = first .before .before .before in
-    spaced-wrote _ (start .pre) (first .number .ensures)
-    (wrote-byte (omega (arith, length-spaced (start .args .n))) refl refl)
+    in-turn (start .pre) (first .number .ensures) (wrote-byte (omega (arith, space first .fits)) refl refl)
 
 pub field-spec : {M : Type 1} → statement M
 field-spec = tie.close (tie.spec number-requires slice-write-out add-result same-length returns)

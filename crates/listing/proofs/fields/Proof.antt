@@ -1,45 +1,68 @@
 -- The four numbers, one after the other.
-use native.Mathlib.Omega.{arith}
+use mathlib.Core.Path.{sym}
 use borrow.Author.Needs.{needs}
-use Rattle.listing.proofs.Parts.{length-answer, answer-wrote}
+use Rattle.texts.specs.Decimal.{spaced}
+use Rattle.texts.specs.Buffer.{Room}
+use Rattle.texts.proofs.Writing.{room-is, wrote-is, front-room, rest-room, in-turn}
+use Rattle.listing.proofs.Parts.{fromCount, fromBadge, answer-is}
 use Rattle.listing.proofs.fields.Statement.{statement}
 use Rattle.listing.proofs.fields.Tie as tie
+
+abbrev start : tie.After-field → tie.Start
+start c = c .before .before .before .before
+
+abbrev first : tie.After-field2 → tie.After-field
+first c = c .before .before .before .before .before
+
+abbrev second : tie.After-field3 → tie.After-field2
+second c = c .before .before .before .before .before
+
+-- Room for the numbers that follow each.
+
+room₁ :
+    (c : tie.After-field) → Room (c .field .last .0) (c .field .result) (fromCount (start c .args .a))
+room₁ c =
+    rest-room (spaced (start c .args .a .code)) (fromCount (start c .args .a)) (room-is (answer-is (start c .args .a)) (start c .pre))
+    (c .field .ensures)
+
+room₂ :
+    (c : tie.After-field2) → Room (c .field2 .last .0) (c .field2 .result) (fromBadge (start (first c) .args .a))
+room₂ c =
+    let a = start (first c) .args .a in
+    rest-room (spaced (a .count)) (fromBadge a) (room₁ (first c)) (c .field2 .ensures)
+
+room₃ :
+    (c : tie.After-field3)
+    → Room (c .field3 .last .0) (c .field3 .result) (spaced (start (first (second c)) .args .a .message))
+room₃ c =
+    let a = start (first (second c)) .args .a in
+    rest-room (spaced (a .badge)) (spaced (a .message)) (room₂ (second c)) (c .field3 .ensures)
 
 cast-field : tie.Need-cast-field
 cast-field c = search needs
 
 field-requires : tie.Need-field-requires
-field-requires c κs = omega (arith, length-answer (c .before .before .before .args .a))
+field-requires c κs =
+    let start = c .before .before .before in
+    front-room (spaced (start .args .a .code)) (fromCount (start .args .a)) (room-is (answer-is (start .args .a)) (start .pre))
 
 cast-field-2 : tie.Need-cast-field-2
 cast-field-2 c = search needs
 
 field-requires-2 : tie.Need-field-requires-2
-field-requires-2 c κs =
-    let first = c .before .before .before .before in
-    let start = first .before .before .before .before in
-    omega (arith, length-answer (start .args .a))
+field-requires-2 c κs = front-room _ _ (room₁ (c .before .before .before .before))
 
 cast-field-3 : tie.Need-cast-field-3
 cast-field-3 c = search needs
 
 field-requires-3 : tie.Need-field-requires-3
-field-requires-3 c κs =
-    let second = c .before .before .before .before in
-    let first = second .before .before .before .before .before in
-    let start = first .before .before .before .before in
-    omega (arith, length-answer (start .args .a))
+field-requires-3 c κs = front-room _ _ (room₂ (c .before .before .before .before))
 
 cast-field-4 : tie.Need-cast-field-4
 cast-field-4 c = search needs
 
 field-requires-4 : tie.Need-field-requires-4
-field-requires-4 c κs =
-    let third = c .before .before .before .before in
-    let second = third .before .before .before .before .before in
-    let first = second .before .before .before .before .before in
-    let start = first .before .before .before .before in
-    omega (arith, length-answer (start .args .a))
+field-requires-4 c κs = room₃ (c .before .before .before .before)
 
 same-length : tie.Need-same-length
 same-length c = search needs
@@ -48,11 +71,12 @@ returns : tie.Need-returns
 returns c =
     let fourth = c .before .before in
     let third = fourth .before .before .before .before .before in
-    let second = third .before .before .before .before .before in
-    let first = second .before .before .before .before .before in
-    let start = first .before .before .before .before in
-    answer-wrote _ (start .pre) (first .field .ensures) (second .field2 .ensures) (third .field3 .ensures)
-    (fourth .field4 .ensures)
+    let f = first (second third) in
+    let e = answer-is (start f .args .a) in
+    wrote-is (sym e)
+    (in-turn (room-is e (start f .pre)) (f .field .ensures)
+    (in-turn (room₁ f) (second third .field2 .ensures)
+    (in-turn (room₂ (second third)) (third .field3 .ensures) (fourth .field4 .ensures))))
 
 pub fields-spec : {M : Type 1} → statement M
 fields-spec =

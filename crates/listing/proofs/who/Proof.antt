@@ -1,24 +1,29 @@
--- By the two cases of `Runner`: one byte, or a word's digits, ten at most.
-use mathlib.Core.Path.{refl, ap}
-use native.Mathlib.Nat.{lt-trans}
+-- By the two cases of `Runner`: one byte, or a number's digits.
+use Prim.Native.Nat.{ℕ}
+use mathlib.Core.Path.{refl, sym, ap}
+use mathlib.Core.List.{List}
 use native.Mathlib.Omega.{arith}
-use lib.Dec.{lit<}
 use borrow.Author.Needs.{needs}
+use Rattle.machine.specs.declared.Runner.{Runner}
 use Rattle.machine.specs.Results.{threadOf}
-use Rattle.listing.proofs.Digits.{length-below}
-use Rattle.listing.proofs.Texts.{wrote-byte}
-use Rattle.listing.proofs.Parts.{nobody-wrote, thread-wrote}
+use Rattle.texts.proofs.Writing.{room-is, wrote-is, wrote-byte}
+use Rattle.listing.specs.Line.{runner}
 use Rattle.listing.proofs.who.Statement.{statement}
 use Rattle.listing.proofs.who.Tie as tie
+
+abbrev said : Runner → List ℕ
+said who = runner (threadOf who)
 
 enum-told : tie.Need-enum-told
 enum-told c = search needs
 
 slice-write-out : tie.Need-slice-write-out
-slice-write-out c = omega arith
+unfolding runner
+slice-write-out c =
+    omega (arith, room-is (ap said (c .enum-told .given .1)) (c .before .before .before .pre) .fits)
 
 add-result : tie.Need-add-result
-add-result c = omega arith
+add-result c = search needs
 
 enum-known-running : tie.Need-enum-known-running
 enum-known-running c = search needs
@@ -27,27 +32,29 @@ cast-number : tie.Need-cast-number
 cast-number c = search needs
 
 number-requires : tie.Need-number-requires
+unfolding runner
 number-requires c κs =
-    let t = c .before .before .running .given .0 .0 in
-    omega (arith, length-below 9 t (lt-trans (c .before .known-told .given .0 .1) (lit< tt)))
+    let known = c .before .before in
+    room-is (ap said (known .running .given .1)) (known .before .before .before .pre)
 
 same-length : tie.Need-same-length
 same-length c = search needs
 
 returns : tie.Need-returns
+unfolding runner
 returns c =
-    (nobody-wrote _ (ap threadOf (c .enum-told .given .1)) (wrote-byte (omega arith) refl refl), omega arith)
+    let nobody = ap said (c .enum-told .given .1) in
+    wrote-is (sym nobody)
+    (wrote-byte (omega (arith, room-is nobody (c .before .before .before .pre) .fits)) refl refl)
 
 same-length-2 : tie.Need-same-length-2
 same-length-2 c = search needs
 
 returns-2 : tie.Need-returns-2
+unfolding runner
 returns-2 c =
-    let known = c .before .before .before .before in
-    let thread = known .before .running .given in
-    let w = c .before .before .number .ensures in
-    let h = length-below 9 (thread .0 .0) (lt-trans (known .known-told .given .0 .1) (lit< tt)) in
-    (thread-wrote _ _ (ap threadOf (thread .1)) w, omega (arith, w .next))
+    let written = c .before .before in
+    wrote-is (sym (ap said (written .before .before .before .running .given .1))) (written .number .ensures)
 
 pub who-spec : {M : Type 1} → statement M
 who-spec =

@@ -3,15 +3,15 @@ use mathlib.Core.Path.{_∙_, sym}
 use lib.Dec.{lit<}
 use borrow.Author.Needs.{needs}
 use borrow.Author.Tests.{eq-eqb}
-use Rattle.listing.proofs.Parts.{short-written}
+use Rattle.listing.proofs.Fronts.{short-length}
 use Rattle.listing_edges.proofs.no_room.Statement.{statement}
 use Rattle.listing_edges.proofs.no_room.Tie as tie
 
-slice-aggregate-line : tie.Need-slice-aggregate-line
-slice-aggregate-line c = search needs
-
 answer-requires : tie.Need-answer-requires
 answer-requires c κs = search needs
+
+slice-aggregate-line : tie.Need-slice-aggregate-line
+slice-aggregate-line c = search needs
 
 line-requires : tie.Need-line-requires
 line-requires c κs = search needs
@@ -19,11 +19,11 @@ line-requires c κs = search needs
 expect-requires : tie.Need-expect-requires
 expect-requires c κs =
     let l = c .before .line in
-    eq-eqb (l .result) 0 (l .ensures .0 ∙ sym (short-written _ _ (lit< tt)))
+    eq-eqb (l .result) 0 (l .ensures .0 ∙ sym (short-length _ _ (lit< tt)))
 
 returns : tie.Need-returns
 returns c = search needs
 
 pub no-room-spec : {M : Type 1} → statement M
 no-room-spec =
-    tie.close (tie.spec slice-aggregate-line answer-requires line-requires expect-requires returns)
+    tie.close (tie.spec answer-requires slice-aggregate-line line-requires expect-requires returns)

@@ -34,7 +34,7 @@ use Rattle.machine.proofs.Sublists.{sub-only, rising-sub, entry-last}
 use Rattle.machine.proofs.Preserved.Mid.{sound-mid}
 use Rattle.machine.proofs.Preserved.Statuses.{keeps-self, keeps-debt}
 use Rattle.machine.proofs.Preserved.Aborts.{both-true}
-use Rattle.machine.proofs.Demand3.Standing.{Core, core-grow}
+use Rattle.machine.proofs.Demand3.Standing.{Stage, within, Core, core-grow}
 use Rattle.machine.proofs.Demand3.Owing.{still-self, tied-still, tied-drop}
 use Rattle.machine.proofs.Demand3.Leaving.{leaves-self, leaves-debt}
 use Rattle.machine.proofs.Demand3.Blocking.{stays-choose, leaves-choose, still-choose}
@@ -42,7 +42,7 @@ use Rattle.machine.proofs.Demand3.EachLook.{Frame, frame-keeps}
 use Rattle.machine.proofs.Demand3.OwnAbort.{Ran}
 use Rattle.machine.proofs.Demand3.Joining.{ran}
 use Rattle.machine.proofs.Preserved.Steps.{step-sound}
-use Rattle.machine.proofs.Demand3.Invariant.{Called, Inv}
+use Rattle.machine.proofs.Demand3.Invariant.{stageOf, Called, Inv}
 use Rattle.machine.proofs.Demand3.Recording.{abortCallOf}
 use Rattle.machine.proofs.Demand3.OtherCalls.{fits, idle-core}
 use Rattle.machine.proofs.Demand3.Breakable.{next}
@@ -66,10 +66,10 @@ frame-choose since e s q l F =
     }
 
 core-choose :
-    (past : List Call) (answers : List Answer) (n : ℕ) (since : ℕ → ℕ) (s : State) (standing : ℕ → Option Aborting)
-    (ended : List Ended) → Core past answers n since (s .threads) (s .endpoints) standing ended
-    → Core past answers n since (choose s .threads) (choose s .endpoints) standing ended
-core-choose past answers n since s standing ended C = rw (stays-choose s .threads, stays-choose s .endpoints) C
+    {stage : Stage} {standing : ℕ → Option Aborting} {ended : List Ended} (s : State)
+    → Core stage (s .threads) (s .endpoints) standing ended
+    → Core stage (choose s .threads) (choose s .endpoints) standing ended
+core-choose s C = rw (stays-choose s .threads, stays-choose s .endpoints) C
 
 -- The queues ascend still where the looks have removed from them.
 frame-rising :
@@ -223,8 +223,7 @@ module _ (past : List Call) (s : State) (h : History) (I : Inv past s h) (e a b 
       (record {
         sound = S;
         core =
-            core-grow past (Abort e a b) (suc (h .now)) (fits past s h I) (h .since) (r .state .threads) (h .answers)
-            (r .answer) (r .state .endpoints) (put (h .aborts .standing) e (R .stands)) (R .gone .ended) core;
+            core-grow (within (stageOf past h)) (Abort e a b) (r .answer) (fits past s h I) core;
         tied = subst (λ (x : State). Tied (x .threads) (x .endpoints) (R .gone .debts) (R .gone .ended))
             (sym (R .chosen)) (tied-still (still-choose (R .state) (R .state) (still-self (R .state))) (λ z i. i)
             (R .tied));
@@ -239,11 +238,11 @@ module _ (past : List Call) (s : State) (h : History) (I : Inv past s h) (e a b 
       r : Result
       r = abortOpen t e a b (dropOther t e b s)
 
-      R : Ran past (h .answers) (h .since) (h .aborts .standing) t e b (h .now) s a (startAt t e b s h)
+      R : Ran (stageOf past h) (h .aborts .standing) t e b s a (startAt t e b s h)
           (abortOpen t e a b (dropOther t e b s))
       R =
-          ran past (h .answers) (h .since) (h .aborts .standing) (goneOf h) t e b (h .now) (I .now)
-          (range12 e a b range .1) s a (range12 e a b range .0) (sound-mid (I .sound)) (I .core) (I .tied) runs lives
+          ran (stageOf past h) (h .aborts .standing) (goneOf h) t e b (I .now) (range12 e a b range .1) s a
+          (range12 e a b range .0) (sound-mid (I .sound)) (I .core) (I .tied) runs lives
 
       o : Outcome
       o =
@@ -272,16 +271,15 @@ module _ (past : List Call) (s : State) (h : History) (I : Inv past s h) (e a b 
           ∙ walks-from t e a b s r h _ (ap (λ (w : Waiting). w .messages e) (I .waiting)) (I .stray) (R .closes)
 
       core :
-          Core past (h .answers) (suc (h .now)) (h .since) (r .state .threads) (r .state .endpoints)
+          Core (within (stageOf past h)) (r .state .threads) (r .state .endpoints)
           (put (h .aborts .standing) e (R .stands)) (R .gone .ended)
       core =
           subst
           (λ (x : State).
-          Core past (h .answers) (suc (h .now)) (h .since) (x .threads) (x .endpoints)
+          Core (within (stageOf past h)) (x .threads) (x .endpoints)
           (put (h .aborts .standing) e (R .stands)) (R .gone .ended))
           (sym (R .chosen))
-          (core-choose past (h .answers) (suc (h .now)) (h .since) (R .state)
-          (put (h .aborts .standing) e (R .stands)) (R .gone .ended) (R .core))
+          (core-choose (R .state) (R .core))
 
       reports :
           r .answer .code ≡ 0

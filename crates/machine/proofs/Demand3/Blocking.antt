@@ -19,8 +19,8 @@ use Rattle.machine.specs.History.{Aborting, Ended, queues?}
 use Rattle.machine.specs.Claim.{isOld}
 use Rattle.machine.proofs.Lists.{Same, same, other, same?, put-all, put-same, put-other}
 use Rattle.machine.proofs.Sublists.{Sub, map-agree, entry-below, entry-last}
-use Rattle.machine.proofs.Demand3.Standing.{callOf, Made, Stood, Both, Over, Core, not-old, made-grow, both-grow}
-use Rattle.machine.proofs.Demand3.Standing.{over-grow}
+use Rattle.machine.proofs.Demand3.Standing.{Stage, naming, grown, callOf, Made, Stood, Both, Over, Core, not-old}
+use Rattle.machine.proofs.Demand3.Standing.{made-grow, both-grow, over-grow}
 use Rattle.machine.proofs.Demand3.Owing.{Still}
 use Rattle.machine.proofs.Demand3.Leaving.{Leaves}
 
@@ -85,11 +85,10 @@ pub record Blocks (s : State) (c : Call) (r : Result) : Type 0 where
 
 -- Core reads of an endpoint its status and its abort.
 core-same :
-    (past : List Call) (answers : List Answer) (n : ℕ) (since : ℕ → ℕ) (f : ℕ → Thread) (x y : ℕ → Endpoint)
-    (standing : ℕ → Option Aborting) (ended : List Ended) → ((e : ℕ) → y e .abort ≡ x e .abort)
-    → ((e : ℕ) → y e .status ≡ x e .status) → Core past answers n since f x standing ended
-    → Core past answers n since f y standing ended
-core-same past answers n since f x y standing ended abort status C =
+    {stage : Stage} {f : ℕ → Thread} {x y : ℕ → Endpoint} {standing : ℕ → Option Aborting} {ended : List Ended}
+    → ((e : ℕ) → y e .abort ≡ x e .abort) → ((e : ℕ) → y e .status ≡ x e .status) → Core stage f x standing ended
+    → Core stage f y standing ended
+core-same abort status C =
     record {
       made = C .made;
       apart = C .apart;
@@ -101,12 +100,16 @@ core-same past answers n since f x y standing ended abort status C =
     }
 
 -- The new waiter t has a name that no abort has heard of.
-module _
-    (past : List Call) (n : ℕ) (fits : n ≤ suc (length past)) (since : ℕ → ℕ) (f : ℕ
-    → Thread) (t : ℕ) (x : Thread) where
+module _ (stage : Stage) (fits : stage .until ≤ suc (length (stage .past))) (f : ℕ → Thread) (t : ℕ) (x : Thread) where
+  abbrev place : ℕ
+  place = length (stage .past)
+
+  abbrev names : ℕ → ℕ
+  names = put (stage .since) t place
+
   stood-block :
-      (e : ℕ) (a : Abort) (z : Aborting) → (Mem t (a .pending) → ⊥) → Stood past n since f e a z
-      → Stood past n (put since t (length past)) (put f t x) e a z
+      (e : ℕ) (a : Abort) (z : Aborting) → (Mem t (a .pending) → ⊥) → Stood stage f e a z
+      → Stood (naming names stage) (put f t x) e a z
   stood-block e a z aside S =
       record {
         endpoint = S .endpoint;
@@ -116,37 +119,35 @@ module _
         once = S .once;
         part =
             subst (λ (k : List ℕ). Sub (z .looked ++ k) (z .onto))
-            (sym (map-agree (put since t (length past)) since (a .pending) keeps)) (S .part);
+            (sym (map-agree names (stage .since) (a .pending) keeps)) (S .part);
         left =
             put-all
-            (λ u y. y .place ≡ sending e → Mem (put since t (length past) u) (z .onto)
-            → Mem (put since t (length past) u) (z .looked) ⊎ Mem u (a .pending))
+            (λ u y. y .place ≡ sending e → Mem (names u) (z .onto) → Mem (names u) (z .looked) ⊎ Mem u (a .pending))
             f t x new
-            (λ u h p. rw (put-other since t u (length past) h) (S .left u p));
+            (λ u h p. rw (put-other (stage .since) t u place h) (S .left u p));
         removed = S .removed;
       }
     where
-      keeps : (u : ℕ) → Mem u (a .pending) → put since t (length past) u ≡ since u
-      keeps u m = put-other since t u (length past) (λ q. aside (subst (λ (v : ℕ). Mem v (a .pending)) q m))
+      keeps : (u : ℕ) → Mem u (a .pending) → put (stage .since) t place u ≡ stage .since u
+      keeps u m = put-other (stage .since) t u place (λ q. aside (subst (λ (v : ℕ). Mem v (a .pending)) q m))
 
-      new :
-          x .place ≡ sending e → Mem (put since t (length past) t) (z .onto)
-          → Mem (put since t (length past) t) (z .looked) ⊎ Mem t (a .pending)
+      new : x .place ≡ sending e → Mem (put (stage .since) t place t) (z .onto)
+          → Mem (put (stage .since) t place t) (z .looked) ⊎ Mem t (a .pending)
       new p m =
-          let w = S .old (length past) (rw (put-same since t (length past)) at m) in absurd (omega (arith, S .began))
+          let w = S .old place (rw (put-same (stage .since) t place) at m) in absurd (omega (arith, S .began))
 
   both-block :
       (e : ℕ) (o : Option Abort) (p : Option Aborting) → ((a : Abort) → o ≡ some a → Mem t (a .pending) → ⊥)
-      → Both past n since f e o p → Both past n (put since t (length past)) (put f t x) e o p
+      → Both stage f e o p → Both (naming names stage) (put f t x) e o p
   both-block e none none aside B = B
   both-block e none (some z) aside B = B
   both-block e (some a) none aside B = B
   both-block e (some a) (some z) aside B = stood-block e a z (aside a refl) B
 
   over-block :
-      (endpoints : ℕ → Endpoint) (z : Ended) → Over past n since f endpoints z
-      → Over past n (put since t (length past)) (put f t x) endpoints z
-  over-block endpoints z O =
+      {endpoints : ℕ → Endpoint} (z : Ended) → Over stage f endpoints z
+      → Over (naming names stage) (put f t x) endpoints z
+  over-block {endpoints} z O =
       let E = O .exact in
       record {
         exact = E;
@@ -154,68 +155,68 @@ module _
         clean =
             put-all
             (λ u y. (e : ℕ) → y .place ≡ sending e → endpoints e .status ≡ live
-            → isOld past (z .abort) (put since t (length past) u) ≡ false)
+            → isOld (stage .past) (z .abort) (names u) ≡ false)
             f t x
-            (λ e p l. rw (put-same since t (length past)) (not-old past (z .abort) (length past) (omega arith)))
-            (λ u h. rw (put-other since t u (length past) h) (O .clean u));
+            (λ e p l. rw (put-same (stage .since) t place)
+            (not-old (stage .past) (z .abort) place (omega (arith, E .began))))
+            (λ u h. rw (put-other (stage .since) t u place h) (O .clean u));
       }
 
-  module _ (answers : List Answer) (c : Call) (able : callOf (f t) ≡ none) (calls : callOf x ≡ some c)
-      (whole : length answers ≡ length past) where
+  module _ (c : Call) (able : callOf (f t) ≡ none) (calls : callOf x ≡ some c)
+      (whole : length (stage .answers) ≡ length (stage .past)) where
     -- Of two waiters, u one that waited before.
     unlike :
-        (u : ℕ) (d : Call) → ((u : ℕ) (c : Call) → callOf (f u) ≡ some c → Made past answers (since u) c)
-        → callOf (f u) ≡ some d → since u ≡ length past → ⊥
-    unlike u d made h q = let k = entry-below past (since u) d (made u d h .call) in omega arith
+        (u : ℕ) (d : Call)
+        → ((u : ℕ) (c : Call) → callOf (f u) ≡ some c → Made (stage .past) (stage .answers) (stage .since u) c)
+        → callOf (f u) ≡ some d → stage .since u ≡ place → ⊥
+    unlike u d made h q = let k = entry-below (stage .past) (stage .since u) d (made u d h .call) in omega arith
 
     -- t waits, by the call c, answered 1.
     core-block :
-        (endpoints : ℕ → Endpoint) (standing : ℕ → Option Aborting) (ended : List Ended)
+        {endpoints : ℕ → Endpoint} {standing : ℕ → Option Aborting} {ended : List Ended}
         → ((e : ℕ) (a : Abort) → endpoints e .abort ≡ some a → Mem t (a .pending) → ⊥)
-        → Core past answers n since f endpoints standing ended
-        → Core (past ++ (c ∷ [])) (answers ++ (plain 1 ∷ [])) n (put since t (length past)) (put f t x) endpoints
-        standing ended
-    core-block endpoints standing ended aside C =
+        → Core stage f endpoints standing ended
+        → Core (grown c (plain 1) (naming names stage)) (put f t x) endpoints standing ended
+    core-block {endpoints} {standing} aside C =
         record {
           made =
               put-all
               (λ u y. (d : Call) → callOf y ≡ some d
-              → Made (past ++ (c ∷ [])) (answers ++ (plain 1 ∷ [])) (put since t (length past) u) d)
+              → Made (stage .past ++ (c ∷ [])) (stage .answers ++ (plain 1 ∷ [])) (names u) d)
               f t x mine
-              (λ u h d k. rw (put-other since t u (length past) h)
-              (made-grow past answers c d (plain 1) (since u) (C .made u d k)));
+              (λ u h d k. rw (put-other (stage .since) t u place h)
+              (made-grow (stage .past) (stage .answers) c d (plain 1) (stage .since u) (C .made u d k)));
           apart = apart;
           stands =
-              λ e. both-grow past c n fits (put since t (length past)) (put f t x) e (endpoints e .abort) (standing e)
+              λ e.
+              both-grow (naming names stage) c (plain 1) fits (put f t x) e (endpoints e .abort) (standing e)
               (both-block e (endpoints e .abort) (standing e) (aside e) (C .stands e));
-          over =
-              λ z i. over-grow past c n fits (put since t (length past)) (put f t x) endpoints z
-              (over-block endpoints z (C .over z i));
+          over = λ z i. over-grow (naming names stage) c (plain 1) fits z (over-block z (C .over z i));
         }
       where
         mine :
             (d : Call) → callOf x ≡ some d
-            → Made (past ++ (c ∷ [])) (answers ++ (plain 1 ∷ [])) (put since t (length past) t) d
+            → Made (stage .past ++ (c ∷ [])) (stage .answers ++ (plain 1 ∷ [])) (put (stage .since) t place t) d
         mine d h =
             let same : c ≡ d = cc in
-            rw (put-same since t (length past), ← same)
+            rw (put-same (stage .since) t place, ← same)
             (record {
-              call = entry-last past c;
-              answer = rw (← whole) (entry-last answers (plain 1));
+              call = entry-last (stage .past) c;
+              answer = rw (← whole) (entry-last (stage .answers) (plain 1));
             })
 
-        old : (u : ℕ) → (u ≡ t → ⊥) → put since t (length past) u ≡ since u
-        old u h = put-other since t u (length past) h
+        old : (u : ℕ) → (u ≡ t → ⊥) → put (stage .since) t place u ≡ stage .since u
+        old u h = put-other (stage .since) t u place h
 
-        new : (u : ℕ) → u ≡ t → put since t (length past) u ≡ length past
-        new u h = ap (put since t (length past)) h ∙ put-same since t (length past)
+        new : (u : ℕ) → u ≡ t → put (stage .since) t place u ≡ place
+        new u h = ap (put (stage .since) t place) h ∙ put-same (stage .since) t place
 
         was : (u : ℕ) (d : Call) → (u ≡ t → ⊥) → callOf (put f t x u) ≡ some d → callOf (f u) ≡ some d
         was u d h k = ap callOf (sym (put-other f t u x h)) ∙ k
 
         apart :
             (u v : ℕ) (k d : Call) → callOf (put f t x u) ≡ some k → callOf (put f t x v) ≡ some d
-            → put since t (length past) u ≡ put since t (length past) v → u ≡ v
+            → put (stage .since) t place u ≡ put (stage .since) t place v → u ≡ v
         apart u v k d p q e = go (same? u t) (same? v t)
           where
             go : Same u t → Same v t → u ≡ v
@@ -227,13 +228,10 @@ module _
 
     -- The same, of what the call left.
     pub core-blocks :
-        (place : ℕ) → place ≡ length past → (g : ℕ → Thread) → g ≡ put f t x → (a : Answer) → a ≡ plain 1
-        → (endpoints y : ℕ → Endpoint) → ((e : ℕ) → y e .abort ≡ endpoints e .abort)
-        → ((e : ℕ) → y e .status ≡ endpoints e .status) → (standing : ℕ → Option Aborting) (ended : List Ended)
+        (here : ℕ) → here ≡ length (stage .past) → (g : ℕ → Thread) → g ≡ put f t x → (a : Answer) → a ≡ plain 1
+        → {endpoints y : ℕ → Endpoint} {standing : ℕ → Option Aborting} {ended : List Ended}
+        → ((e : ℕ) → y e .abort ≡ endpoints e .abort) → ((e : ℕ) → y e .status ≡ endpoints e .status)
         → ((e : ℕ) (a : Abort) → endpoints e .abort ≡ some a → Mem t (a .pending) → ⊥)
-        → Core past answers n since f endpoints standing ended
-        → Core (past ++ (c ∷ [])) (answers ++ (a ∷ [])) n (put since t place) g y standing ended
-    core-blocks place p g q a r endpoints y abort status standing ended aside C =
-        rw (p, q, r)
-        (core-same (past ++ (c ∷ [])) (answers ++ (plain 1 ∷ [])) n (put since t (length past)) (put f t x) endpoints y
-        standing ended abort status (core-block endpoints standing ended aside C))
+        → Core stage f endpoints standing ended
+        → Core (grown c a (naming (put (stage .since) t here) stage)) g y standing ended
+    core-blocks here p g q a r abort status aside C = rw (p, q, r) (core-same abort status (core-block aside C))

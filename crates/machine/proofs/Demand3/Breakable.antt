@@ -1,5 +1,5 @@
 -- Calls 11 and 12 carry what holds of the history from the list so far to the list with one more call.
-use Prim.Native.Nat.{ℕ, suc, _≤_}
+use Prim.Native.Nat.{ℕ, _≤_}
 use mathlib.Core.Path.{_≡_, refl, sym, _∙_, ap, subst}
 use mathlib.Core.Logic.{_⊎_, inl, inr}
 use mathlib.Core.Bool.{Bool, true, false}
@@ -9,7 +9,7 @@ use native.Mathlib.Omega.{arith}
 use Rattle.machine.specs.declared.Call.{Call}
 use Rattle.machine.specs.declared.Call.the-variants.{Delete}
 use Rattle.machine.specs.Calls.{inRange}
-use Rattle.machine.specs.Lists.{put, Rising}
+use Rattle.machine.specs.Lists.{Rising}
 use Rattle.machine.specs.State.{State, Status, missing, live, closing}
 use Rattle.machine.specs.Endpoints.{dropDebt, endAbort}
 use Rattle.machine.specs.Results.{Look, Result, plain, refuse}
@@ -22,12 +22,12 @@ use Rattle.machine.specs.Outcomes.{Outcome, unchanged, deletes, outcomeO
 use Rattle.machine.specs.Recorded.{recorded, told}
 use Rattle.machine.specs.Claim.{In}
 use Rattle.machine.proofs.Preserved.Mid.{sound-mid}
-use Rattle.machine.proofs.Demand3.Standing.{core-grow}
+use Rattle.machine.proofs.Demand3.Standing.{within, core-grow}
 use Rattle.machine.proofs.Demand3.Leaving.{leaves-self}
 use Rattle.machine.proofs.Demand3.Deletions.{delete-accepted, delete-looks, delete-queues, delete-none}
 use Rattle.machine.proofs.Demand3.Deletions.{tied-none, delete-some, tied-some}
 use Rattle.machine.proofs.Preserved.Steps.{step-sound}
-use Rattle.machine.proofs.Demand3.Invariant.{Inv}
+use Rattle.machine.proofs.Demand3.Invariant.{stageOf, Inv}
 use Rattle.machine.proofs.Demand3.Recording.{Goes, goes}
 use Rattle.machine.proofs.Demand3.OtherCalls.{fits, idle-core, idle-rising}
 
@@ -81,8 +81,7 @@ module _ (past : List Call) (s : State) (h : History) (I : Inv past s h) where
       rising : (f : ℕ) → Rising (map (h .since) (r .state .endpoints f .waiters))
       rising =
           idle-rising past s h I (r .state)
-          (delete-queues past (h .answers) (h .since) (h .aborts .standing) (h .aborts .ended) (h .aborts .debts) t e a
-          (h .now) s (sound-mid (I .sound)) (I .core) (I .tied))
+          (delete-queues (stageOf past h) t e a s (sound-mid (I .sound)) (I .core) (I .tied))
 
       deletes-on :
           (k : Option Aborting) → h .aborts .standing e ≡ k
@@ -92,13 +91,10 @@ module _ (past : List Call) (s : State) (h : History) (I : Inv past s h) where
           record {
             sound = S;
             core =
-                core-grow past (Delete e a) (suc (h .now)) (fits past s h I) (h .since) _ (h .answers) _ _
-                (h .aborts .standing) (h .aborts .ended)
-                (delete-none past (h .answers) (h .since) (h .aborts .standing) (h .aborts .ended) (h .aborts .debts) t
-                e a (h .now) s (sound-mid (I .sound)) (I .core) (I .tied) p);
+                core-grow (within (stageOf past h)) (Delete e a) _ (fits past s h I)
+                (delete-none (stageOf past h) t e a s (sound-mid (I .sound)) (I .core) (I .tied) p);
             tied =
-                tied-none past (h .answers) (h .since) (h .aborts .standing) (h .aborts .ended) (h .aborts .debts) t e
-                a (h .now) s (sound-mid (I .sound)) (I .core) (I .tied) p;
+                tied-none (stageOf past h) t e a s (sound-mid (I .sound)) (I .core) (I .tied) p;
             rising = rising;
             stray = no-stray;
             new = λ z i. inl i;
@@ -110,13 +106,10 @@ module _ (past : List Call) (s : State) (h : History) (I : Inv past s h) where
           record {
             sound = S;
             core =
-                core-grow past (Delete e a) (suc (h .now)) (fits past s h I) (h .since) _ (h .answers) _ _
-                (put (h .aborts .standing) e none) _
-                (delete-some past (h .answers) (h .since) (h .aborts .standing) (h .aborts .ended) (h .aborts .debts) t
-                e a (h .now) s (sound-mid (I .sound)) (I .core) (I .tied) x p);
+                core-grow (within (stageOf past h)) (Delete e a) _ (fits past s h I)
+                (delete-some (stageOf past h) t e a s (sound-mid (I .sound)) (I .core) (I .tied) x p);
             tied =
-                tied-some past (h .answers) (h .since) (h .aborts .standing) (h .aborts .ended) (h .aborts .debts) t e
-                a (h .now) s (sound-mid (I .sound)) (I .core) (I .tied) x p;
+                tied-some (stageOf past h) t e a s (sound-mid (I .sound)) (I .core) (I .tied) x p;
             rising = rising;
             stray = no-stray;
             new = new;

@@ -5,8 +5,6 @@ use mathlib.Core.Bool.{true}
 use mathlib.Core.Option.{Option, none, some}
 use mathlib.Core.List.{List, [], _∷_}
 use native.Mathlib.Omega.{arith}
-use Rattle.machine.specs.declared.Answer.{Answer}
-use Rattle.machine.specs.declared.Call.{Call}
 use Rattle.machine.specs.Lists.{put}
 use Rattle.machine.specs.State.{State, Thread, Abort, closing, Endpoint, missingEndpoint, setEndpoint}
 use Rattle.machine.specs.Endpoints.{ownerOf, wakeFrom, dropDebt, note, endAbort}
@@ -19,7 +17,7 @@ use Rattle.machine.proofs.Preserved.Debts.{live-present, closing-live, 
 use Rattle.machine.proofs.Preserved.Debts.{endAbort-entry}
 use Rattle.machine.proofs.Preserved.Ready.{none-some}
 use Rattle.machine.proofs.Sublists.{Sub, sub-refl, sub-none}
-use Rattle.machine.proofs.Demand3.Standing.{Both, Core}
+use Rattle.machine.proofs.Demand3.Standing.{Stage, within, Both, Core}
 use Rattle.machine.proofs.Demand3.Leaving.{Leaves, Passes, leaves-self, leaves-then, leaves-endpoint}
 use Rattle.machine.proofs.Demand3.Leaving.{leaves-wakeFrom, leaves-dropDebt, core-leaves}
 use Rattle.machine.proofs.Demand3.Owing.{Still, still-self, still-then, still-endpoint, still-wakeFrom}
@@ -117,10 +115,11 @@ delete-looks e a s = go (removeUpTo a (s .endpoints e .waiters) e s .state .endp
     go (w ∷ l) = refl
 
 module _
-    (past : List Call) (answers : List Answer) (since : ℕ → ℕ) (standing : ℕ → Option Aborting) (d : List Ended)
-    (owed : Debts) (t e a place : ℕ) (s : State) (M : Mid s)
-    (C : Core past answers place since (s .threads) (s .endpoints) standing d)
-    (T : Tied (s .threads) (s .endpoints) owed d) where
+    (stage : Stage) {standing : ℕ → Option Aborting} {d : List Ended} {owed : Debts} (t e a : ℕ) (s : State) (M : Mid s)
+    (C : Core stage (s .threads) (s .endpoints) standing d) (T : Tied (s .threads) (s .endpoints) owed d) where
+  abbrev place : ℕ
+  place = stage .until
+
   abbrev q : State
   q = dropDebt t s
 
@@ -140,40 +139,33 @@ module _
   dropped-tied : Tied (q .threads) (q .endpoints) (letsGo t owed) d
   dropped-tied = tied-drop s T t (M .owners)
 
-  dropped-core : Core past answers (suc place) since (q .threads) (q .endpoints) standing d
+  dropped-core : Core (within stage) (q .threads) (q .endpoints) standing d
   dropped-core =
-      core-leaves past place (suc place) (omega arith) since (s .threads) (q .threads) answers standing d
-      (leaves-dropDebt t s) C
+      core-leaves stage (suc place) (omega arith) (leaves-dropDebt t s) C
 
   removes :
       (f : ℕ → Option Aborting) (more : List Ended)
-      → Core past answers (suc place) since (endAbort closing e q .threads) (endAbort closing e q .endpoints) f more
-      → Core past answers (suc place) since (deleteFrom e a (endAbort closing e q) .state .threads)
-      (deleteFrom e a (endAbort closing e q) .state .endpoints) f more
+      → Core (within stage) (endAbort closing e q .threads) (endAbort closing e q .endpoints) f more
+      → Core (within stage) (r .threads) (r .endpoints) f more
   removes f more K =
-      core-leaves past (suc place) (suc place) (omega arith) since (endAbort closing e q .threads)
-      (deleteFrom e a (endAbort closing e q) .state .threads) answers f more
-      (leaves-delete e a (endAbort closing e q) bare-after) K
+      core-leaves (within stage) (suc place) (omega arith) (leaves-delete e a (endAbort closing e q) bare-after) K
 
   -- No abort stood.
   pub delete-none :
       standing e ≡ none
-      → Core past answers (suc place) since (deleteFrom e a (endAbort closing e q) .state .threads)
-      (deleteFrom e a (endAbort closing e q) .state .endpoints) standing d
+      → Core (within stage) (r .threads) (r .endpoints) standing d
   delete-none told = removes standing d (bare (q .endpoints e .abort) refl (rw told at (dropped-core .stands e)))
     where
-      bare : (k : Option Abort) → q .endpoints e .abort ≡ k → Both past (suc place) since (q .threads) e k none
-          → Core past answers (suc place) since (endAbort closing e q .threads)
-          (endAbort closing e q .endpoints) standing d
+      bare : (k : Option Abort) → q .endpoints e .abort ≡ k → Both (within stage) (q .threads) e k none
+          → Core (within stage) (endAbort closing e q .threads) (endAbort closing e q .endpoints) standing d
       bare none h B =
-          core-leaves past (suc place) (suc place) (omega arith) since (q .threads) (endAbort closing e q .threads)
-          answers standing d (leaves-closing e q h) dropped-core
+          core-leaves (within stage) (suc place) (omega arith) (leaves-closing e q h) dropped-core
       bare (some k) h B = absurd B
 
   pub tied-none : standing e ≡ none → Tied (r .threads) (r .endpoints) (letsGo t owed) d
   tied-none told = go (q .endpoints e .abort) refl (rw told at (dropped-core .stands e))
     where
-      go : (k : Option Abort) → q .endpoints e .abort ≡ k → Both past (suc place) since (q .threads) e k none
+      go : (k : Option Abort) → q .endpoints e .abort ≡ k → Both (within stage) (q .threads) e k none
           → Tied (r .threads) (r .endpoints) (letsGo t owed) d
       go none h B =
           tied-still
@@ -184,19 +176,18 @@ module _
   -- The abort x stood, and ends.
   pub delete-some :
       (x : Aborting) → standing e ≡ some x
-      → Core past answers (suc place) since (deleteFrom e a (endAbort closing e q) .state .threads)
-      (deleteFrom e a (endAbort closing e q) .state .endpoints) (put standing e none)
+      → Core (within stage) (r .threads) (r .endpoints) (put standing e none)
       (record { abort = x; by = place } ∷ d)
   delete-some x told =
       removes (put standing e none) _ (over (q .endpoints e .abort) refl (rw told at (dropped-core .stands e)))
     where
       over :
-          (k : Option Abort) → q .endpoints e .abort ≡ k → Both past (suc place) since (q .threads) e k (some x)
-          → Core past answers (suc place) since (endAbort closing e q .threads) (endAbort closing e q .endpoints)
+          (k : Option Abort) → q .endpoints e .abort ≡ k → Both (within stage) (q .threads) e k (some x)
+          → Core (within stage) (endAbort closing e q .threads) (endAbort closing e q .endpoints)
           (put standing e none) (record { abort = x; by = place } ∷ d)
       over none h B = absurd B
       over (some k) h B =
-          core-end past answers (suc place) since q standing d dropped-core e (mid-dropDebt s t M) closing k x place
+          core-end (within stage) q dropped-core e (mid-dropDebt s t M) closing k x place
           h told (omega arith) (λ i. absurd (closing-live refl i)) (λ i. absurd (closing-live refl i))
 
   pub tied-some :
@@ -204,7 +195,7 @@ module _
       → Tied (r .threads) (r .endpoints) (hears e (reportOf x) (letsGo t owed)) (record { abort = x; by = place } ∷ d)
   tied-some x told = go (q .endpoints e .abort) refl (rw told at (dropped-core .stands e))
     where
-      go : (k : Option Abort) → q .endpoints e .abort ≡ k → Both past (suc place) since (q .threads) e k (some x)
+      go : (k : Option Abort) → q .endpoints e .abort ≡ k → Both (within stage) (q .threads) e k (some x)
           → Tied (r .threads) (r .endpoints) (hears e (reportOf x) (letsGo t owed))
           (record { abort = x; by = place } ∷ d)
       go none h B = absurd B

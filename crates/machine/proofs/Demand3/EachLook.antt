@@ -7,7 +7,6 @@ use mathlib.Core.Option.{Option, some}
 use mathlib.Core.List.{List, [], _∷_, _++_, map}
 use native.Mathlib.Omega.{arith}
 use lib.ListN.{length}
-use Rattle.machine.specs.declared.Answer.{Answer}
 use Rattle.machine.specs.declared.Call.{Call}
 use Rattle.machine.specs.declared.Call.the-variants.{Receive}
 use Rattle.machine.specs.Lists.{pick, without, Mem}
@@ -23,7 +22,7 @@ use Rattle.machine.specs.Claim.{In, removedBy, less}
 use Rattle.machine.proofs.Lists.{put-same, put-other}
 use Rattle.machine.proofs.Sublists.{sub-mem, sub-only, less-none, less-more, less-append, mem-map, map-without}
 use Rattle.machine.proofs.Preserved.Statuses.{Keeps, keeps-self}
-use Rattle.machine.proofs.Demand3.Standing.{callAt, callOf, sends-call, Stood}
+use Rattle.machine.proofs.Demand3.Standing.{Stage, callAt, callOf, sends-call, Stood}
 use Rattle.machine.proofs.Demand3.Together.{Gone, walkAt, Going, going-abort, settle-pending, going-look}
 use Rattle.machine.proofs.Demand3.Together.{walk-look}
 
@@ -110,10 +109,12 @@ frame-then since e s r q k l F H =
         → Mem (v .waiter) (map since (s .endpoints e .waiters))
     before v m = sub-mem (sub-only _ (map since (s .endpoints e .waiters))) (v .waiter) (rw (F .own) at m)
 
-module _
-    (past : List Call) (answers : List Answer) (n : ℕ) (since : ℕ → ℕ) (standing : ℕ → Option Aborting) (e : ℕ) where
+module _ (stage : Stage) (standing : ℕ → Option Aborting) (e : ℕ) where
+  abbrev since : ℕ → ℕ
+  since = stage .since
+
   frame-look :
-      (s : State) (o : Option Aborting) (d : Gone) → Going past answers n since standing e s o d → (u : ℕ)
+      (s : State) (o : Option Aborting) (d : Gone) → Going stage standing e s o d → (u : ℕ)
       → Mem u (s .endpoints e .waiters) → (b : Bool)
       → Frame since e s (lookAt b e u s) (record { waiter = u; removed = b } ∷ [])
   unfolding lookAt wakeFrom wake enqueue leaveEndpoint
@@ -145,7 +146,7 @@ module _
       }
 
   frame-looked :
-      (s : State) (o : Option Aborting) (d : Gone) → Going past answers n since standing e s o d → (u : ℕ)
+      (s : State) (o : Option Aborting) (d : Gone) → Going stage standing e s o d → (u : ℕ)
       → Mem u (s .endpoints e .waiters)
       → Frame since e s (look e u s) (record { waiter = u; removed = hits e u s } ∷ [])
   unfolding look
@@ -154,7 +155,7 @@ module _
   -- What looks from s with x standing have come to, whatever looks come after them.
   pub record Walked (s : State) (x : Aborting) (d : Gone) (m : ℕ) (c : Course) (r : Looked) : Type 0 where
     pub abort : Aborting
-    pub going : Going past answers n since standing e (r .state) (some abort) d
+    pub going : Going stage standing e (r .state) (some abort) d
     pub report : reportOf abort ≡ reportOf x
     pub walks :
         (rest : List NamedLook)
@@ -164,7 +165,7 @@ module _
 
   walked-none :
       (m : ℕ) (s : State) (x : Aborting) (d : Gone) (c : Course)
-      → Going past answers n since standing e s (some x) d
+      → Going stage standing e s (some x) d
       → Walked s x d m c (record { state = s; looks = [] })
   walked-none m s x d c G =
       let same : m - 0 ≡ m = omega arith in
@@ -179,7 +180,7 @@ module _
   -- One more look, before those that come to r.
   walked-after :
       (m : ℕ) (s : State) (x : Aborting) (d : Gone) (c : Course) (u : ℕ) (l : List ℕ)
-      (r : Looked) → pendingAt e s ≡ u ∷ l → Going past answers n since standing e s (some x) d
+      (r : Looked) → pendingAt e s ≡ u ∷ l → Going stage standing e s (some x) d
       → Walked (look e u s) (lookedAt (record { waiter = since u; removed = hits e u s }) x) d m c r
       → Walked s x d (suc m) c (afterLook (record { waiter = u; removed = hits e u s }) r)
   unfolding afterLook
@@ -192,8 +193,8 @@ module _
             λ rest.
             walk-cons _ (namedLooks since (r .looks) ++ rest) (suc m) c (walkAt since e s (some x) d)
             ∙ rw (
-              settle-pending past answers n since standing e s x d G a was S u l (suc m) c first,
-              walk-look past answers n since standing e s x d G a was S u l first,
+              settle-pending stage standing e s x d G a was S u l (suc m) c first,
+              walk-look stage standing e s x d G a was S u l first,
               less-one,
             )
             (W .walks rest ∙ ap (λ (k : ℕ). walk rest k c (walkAt since e (r .state) (some (W .abort)) d)) fewer);
@@ -202,8 +203,8 @@ module _
             looks (W .frame);
       }
     where
-      A : (a : Abort) × (s .endpoints e .abort ≡ some a) × Stood past n since (s .threads) e a x
-      A = going-abort past answers n since standing e s (some x) d x refl G
+      A : (a : Abort) × (s .endpoints e .abort ≡ some a) × Stood stage (s .threads) e a x
+      A = going-abort stage standing e s (some x) d x refl G
 
       a : Abort
       a = A .0
@@ -211,7 +212,7 @@ module _
       was : s .endpoints e .abort ≡ some (A .0)
       was = A .1
 
-      S : Stood past n since (s .threads) e (A .0) x
+      S : Stood stage (s .threads) e (A .0) x
       S = A .2
 
       first : A .0 .pending ≡ u ∷ l
@@ -234,14 +235,14 @@ module _
 
   pub walked :
       (m : ℕ) (l : List ℕ) (s : State) (x : Aborting) (d : Gone) (c : Course)
-      → pendingAt e s ≡ l → Going past answers n since standing e s (some x) d
+      → pendingAt e s ≡ l → Going stage standing e s (some x) d
       → Walked s x d m c (lookUpTo m l e s)
   unfolding lookUpTo
   walked zero l s x d c h G = walked-none zero s x d c G
   walked (suc m) [] s x d c h G = walked-none (suc m) s x d c G
   walked (suc m) (u ∷ l) s x d c h G =
-      let A = going-abort past answers n since standing e s (some x) d x refl G in
+      let A = going-abort stage standing e s (some x) d x refl G in
       walked-after m s x d c u l (lookUpTo m (pendingAt e (look e u s)) e (look e u s)) h G
       (walked m (pendingAt e (look e u s)) (look e u s)
       (lookedAt (record { waiter = since u; removed = hits e u s }) x) d c refl
-      (going-look past answers n since standing e s x d G (A .0) (A .1) (A .2) u l (ap pendingOf (sym (A .1)) ∙ h)))
+      (going-look stage standing e s x d G (A .0) (A .1) (A .2) u l (ap pendingOf (sym (A .1)) ∙ h)))

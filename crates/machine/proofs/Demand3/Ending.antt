@@ -8,7 +8,6 @@ use mathlib.Core.List.{List, [], _∷_, map}
 use native.Mathlib.Omega.{arith}
 use lib.Dec.{eqb, ltb}
 use lib.ListN.{length, getElem?}
-use Rattle.machine.specs.declared.Answer.{Answer}
 use Rattle.machine.specs.declared.Call.{Call}
 use Rattle.machine.specs.declared.Call.the-variants.{Send}
 use Rattle.machine.specs.Lists.{put, only, Mem}
@@ -22,7 +21,8 @@ use Rattle.machine.proofs.Lists.{Same, same, other, same?, clash, mem-o
 use Rattle.machine.proofs.Lists.{put-same}
 use Rattle.machine.proofs.Sublists.{sub-refl, map-mem, distinct-map, entry-below}
 use Rattle.machine.specs.Mid.{Mid}
-use Rattle.machine.proofs.Demand3.Standing.{callOf, sends-call, Made, Stood, Both, Over, Core, stood-exact}
+use Rattle.machine.proofs.Demand3.Standing.{Stage, callOf, sends-call, Made, Stood, Both, Over, Core}
+use Rattle.machine.proofs.Demand3.Standing.{stood-exact}
 use Rattle.machine.proofs.Demand3.Leaving.{Fewer, core-at}
 
 -- The waiter's call was of another endpoint or badge.
@@ -71,17 +71,20 @@ begunOn since s e b place =
 
 -- What stands together, both ways.
 pub stands-both :
-    (past : List Call) (n : ℕ) (since : ℕ → ℕ) (f : ℕ → Thread) (e : ℕ) {o : Option Abort} {p : Option Aborting}
-    {a : Abort} {x : Aborting} → o ≡ some a → p ≡ some x → Both past n since f e o p → Stood past n since f e a x
-stands-both past n since f e h k B = rw (h, k) at B
+    (stage : Stage) (f : ℕ → Thread) (e : ℕ) {o : Option Abort} {p : Option Aborting} {a : Abort} {x : Aborting}
+    → o ≡ some a → p ≡ some x → Both stage f e o p → Stood stage f e a x
+stands-both stage f e h k B = rw (h, k) at B
 
 module _
-    (past : List Call) (answers : List Answer) (n : ℕ) (since : ℕ → ℕ) (s : State) (standing : ℕ → Option Aborting)
-    (ended : List Ended) (C : Core past answers n since (s .threads) (s .endpoints) standing ended) (e : ℕ) where
+    (stage : Stage) (s : State) {standing : ℕ → Option Aborting} {ended : List Ended}
+    (C : Core stage (s .threads) (s .endpoints) standing ended) (e : ℕ) where
+  abbrev since : ℕ → ℕ
+  since = stage .since
+
   -- The abort z ends, its status with it; where the endpoint stays live, nothing was left to look at.
   module _
       (M : Mid s) (status : Status) (a : Abort) (z : Aborting) (by : ℕ) (was : s .endpoints e .abort ≡ some a)
-      (told : standing e ≡ some z) (soon : by < n) (spent : status ≡ live → a .pending ≡ [])
+      (told : standing e ≡ some z) (soon : by < stage .until) (spent : status ≡ live → a .pending ≡ [])
       (lives : status ≡ live → s .endpoints e .status ≡ live) where
     abbrev closed : Endpoint
     closed = record { status = status; waiters = s .endpoints e .waiters; abort = none }
@@ -89,8 +92,8 @@ module _
     abbrev record-of : Ended
     record-of = record { abort = z; by = by }
 
-    end-stood : Stood past n since (s .threads) e a z
-    end-stood = stands-both past n since (s .threads) e was told (C .stands e)
+    end-stood : Stood stage (s .threads) e a z
+    end-stood = stands-both stage (s .threads) e was told (C .stands e)
 
     end-live : (f : ℕ) → put (s .endpoints) e closed f .status ≡ live → s .endpoints f .status ≡ live
     end-live =
@@ -98,9 +101,9 @@ module _
 
     end-clean :
         (t f : ℕ) → s .threads t .place ≡ sending f → put (s .endpoints) e closed f .status ≡ live
-        → isOld past z (since t) ≡ false
+        → isOld (stage .past) z (since t) ≡ false
     end-clean t f p l =
-        isOld-other past z (since t) f (s .threads t .badge) (s .threads t .message)
+        isOld-other (stage .past) z (since t) f (s .threads t .badge) (s .threads t .message)
         (C .made t _ (sends-call (s .threads t) f p) .call)
         (λ i j. out (i ∙ end-stood .endpoint) (j ∙ end-stood .badge))
       where
@@ -119,17 +122,16 @@ module _
     core-closed :
         (g : ℕ → Thread) → ((t : ℕ) → callOf (g t) ≡ callOf (s .threads t))
         → ((t : ℕ) → (f : ℕ) → g t .place ≡ sending f → s .threads t .place ≡ sending f)
-        → Core past answers n since g (put (s .endpoints) e closed) (put standing e none) (record-of ∷ ended)
+        → Core stage g (put (s .endpoints) e closed) (put standing e none) (record-of ∷ ended)
     core-closed g calls places =
-        core-at past n n (omega arith) since (s .threads) g answers standing ended (record-of ∷ ended) e closed none
-        (end-fewer g calls) tt new C
+        core-at (record-of ∷ ended) e closed none (end-fewer g calls) tt new C
       where
-        new : (y : Ended) → In y (record-of ∷ ended) → In y ended ⊎ Over past n since g (put (s .endpoints) e closed) y
+        new : (y : Ended) → In y (record-of ∷ ended) → In y ended ⊎ Over stage g (put (s .endpoints) e closed) y
         new y (inl i) =
             inr
             (rw i
             (record {
-              exact = stood-exact past n since (s .threads) e a z end-stood;
+              exact = stood-exact stage (s .threads) e a z end-stood;
               by = soon;
               clean = λ t f p. end-clean t f (places t f p);
             }))
@@ -137,8 +139,8 @@ module _
 
     core-note :
         (u : Option ℕ)
-        → Core past answers n since (noteTo u e (a .badge) s .threads)
-        (put (noteTo u e (a .badge) s .endpoints) e closed) (put standing e none) (record-of ∷ ended)
+        → Core stage (noteTo u e (a .badge) s .threads) (put (noteTo u e (a .badge) s .endpoints) e closed)
+        (put standing e none) (record-of ∷ ended)
     unfolding noteTo
     core-note none = core-closed (s .threads) (λ t. refl) (λ t f p. p)
     core-note (some u) =
@@ -148,16 +150,16 @@ module _
         (λ t i f p. p))
 
     pub core-end :
-        Core past answers n since (endAbort status e s .threads) (endAbort status e s .endpoints) (put standing e none)
+        Core stage (endAbort status e s .threads) (endAbort status e s .endpoints) (put standing e none)
         (record-of ∷ ended)
     unfolding endAbort note
     core-end = rw was (core-note (a .owner))
 
   -- An abort of badge b begins on the senders queued there, the caller t its owner.
-  module _ (M : Mid s) (t b place : ℕ) (now : length past ≤ place) (soon : place < n) where
+  module _ (M : Mid s) (t b place : ℕ) (now : length (stage .past) ≤ place) (soon : place < stage .until) where
     begun-stood :
         (g : ℕ → Thread) → ((u : ℕ) → g u .place ≡ s .threads u .place)
-        → Stood past n since g e
+        → Stood stage g e
         (record { badge = b; owner = some t; pending = senders (s .threads) (s .endpoints e .waiters) })
         (begunOn since s e b place)
     unfolding only
@@ -169,7 +171,7 @@ module _
           old =
               λ w m.
               let r = map-mem since w (senders (s .threads) (s .endpoints e .waiters)) m in
-              let k = entry-below past (since (r .0)) _ (sent (r .0) (r .1) .call) in
+              let k = entry-below (stage .past) (since (r .0)) _ (sent (r .0) (r .1) .call) in
               omega (arith, r .2);
           once =
               distinct-map since (senders (s .threads) (s .endpoints e .waiters))
@@ -188,7 +190,7 @@ module _
 
         sent :
             (u : ℕ) → Mem u (senders (s .threads) (s .endpoints e .waiters))
-            → Made past answers (since u) (Send e (s .threads u .badge) (s .threads u .message))
+            → Made (stage .past) (stage .answers) (since u) (Send e (s .threads u .badge) (s .threads u .message))
         sent u m = C .made u _ (call u m)
 
     abbrev begin-entry : Endpoint
@@ -200,12 +202,11 @@ module _
         }
 
     pub core-begin :
-        Core past answers n since (begin t e b s .threads) (begin t e b s .endpoints)
+        Core stage (begin t e b s .threads) (begin t e b s .endpoints)
         (put standing e (some (begunOn since s e b place))) ended
     unfolding begin
     core-begin =
-        core-at past n n (omega arith) since (s .threads) g answers standing ended ended e begin-entry
-        (some (begunOn since s e b place))
+        core-at ended e begin-entry (some (begunOn since s e b place))
         (record { calls = λ u c h. sym (calls u) ∙ h; live = λ u f p. lives f }) (begun-stood g places)
         (λ z i. inl i) C
       where

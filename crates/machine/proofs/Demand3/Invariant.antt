@@ -22,7 +22,7 @@ use Rattle.machine.specs.Claim.{WaitsOn, Claim}
 use Rattle.machine.specs.Tied.{Tied}
 use Rattle.machine.proofs.Sublists.{Apart, map-mem, map-only, distinct-map, entry-grow}
 use Rattle.machine.proofs.Preserved.Ready.{none-some}
-use Rattle.machine.proofs.Demand3.Standing.{callAt, callOf, sends-call, Exact, Both, Core, stood-exact}
+use Rattle.machine.proofs.Demand3.Standing.{Stage, callAt, callOf, sends-call, Exact, Both, Core, stood-exact}
 use Rattle.machine.proofs.Demand3.Standing.{isOld-grow}
 use Rattle.machine.proofs.Demand3.EachLook.{queued-call}
 
@@ -55,13 +55,16 @@ Recorded8 h i e a =
     (d : Delivery) × In d (h .deliveries) × (d .place ≡ i) × (d .endpoint ≡ e) × (d .badge ≡ a .badge)
     × (d .message ≡ a .message)
 
+-- The stage that a history has come to.
+abbrev pub stageOf : List Call → History → Stage
+stageOf past h = record { past = past; answers = h .answers; until = h .now; since = h .since }
+
 pub record Inv (past : List Call) (s : State) (h : History) : Type 0 where
   pub sound : Sound s
   pub now : h .now ≡ length past
   pub answered : length (h .answers) ≡ length past
   pub waiting : h .waiting ≡ waitingIn (h .since) s
-  pub core :
-      Core past (h .answers) (h .now) (h .since) (s .threads) (s .endpoints) (h .aborts .standing) (h .aborts .ended)
+  pub core : Core (stageOf past h) (s .threads) (s .endpoints) (h .aborts .standing) (h .aborts .ended)
   pub tied : Tied (s .threads) (s .endpoints) (h .aborts .debts) (h .aborts .ended)
   pub rising : (e : ℕ) → Rising (map (h .since) (s .endpoints e .waiters))
   pub stray : h .aborts .stray ≡ []
@@ -137,9 +140,9 @@ module _ (past : List Call) (s : State) (h : History) (I : Inv past s h) where
   exact : (x : Aborting) → IsAbort h x → Exact past (h .now) x
   exact x (inl (e, p)) = go (s .endpoints e .abort) (rw p at (I .core .stands e))
     where
-      go : (k : Option Standing) → Both past (h .now) (h .since) (s .threads) e k (some x) → Exact past (h .now) x
+      go : (k : Option Standing) → Both (stageOf past h) (s .threads) e k (some x) → Exact past (h .now) x
       go none B = absurd B
-      go (some a) B = stood-exact past (h .now) (h .since) (s .threads) e a x B
+      go (some a) B = stood-exact (stageOf past h) (s .threads) e a x B
   exact x (inr (z, i, p)) = subst (λ (y : Aborting). Exact past (h .now) y) p (I .core .over z i .exact)
 
   pub queue : (e : ℕ) → h .waiting .queues e ≡ map (h .since) (s .endpoints e .waiters)

@@ -3,13 +3,11 @@ use Prim.Native.Nat.{ℕ, zero, suc, _≤_, _<_, _^_}
 use mathlib.Core.Path.{_≡_, refl, sym, _∙_, ap, subst}
 use mathlib.Core.Bool.{Bool, true, false, _&&_, _||_}
 use mathlib.Core.Option.{Option, none, some}
-use mathlib.Core.List.{List, []}
+use mathlib.Core.List.{[]}
 use native.Mathlib.Omega.{arith}
 use lib.Dec.{eqb}
 use lib.ListN.{length}
 use borrow.Author.Tests.{eqb-true, eq-eqb}
-use Rattle.machine.specs.declared.Answer.{Answer}
-use Rattle.machine.specs.declared.Call.{Call}
 use Rattle.machine.specs.Lists.{pick, put}
 use Rattle.machine.specs.State.{State, Thread, owns, Abort, live, setThread, withDebt}
 use Rattle.machine.specs.Endpoints.{underAbort, ownerOf, dropDebt}
@@ -26,7 +24,7 @@ use Rattle.machine.proofs.Preserved.Statuses.{Keeps, keeps-self, keeps-
 use Rattle.machine.proofs.Preserved.Debts.{mid-dropDebt, dropDebt-drops}
 use Rattle.machine.proofs.Preserved.AbortSteps.{mid-join}
 use Rattle.machine.proofs.Preserved.Aborts.{running-present, join-status, unowed, unowned, owns-this}
-use Rattle.machine.proofs.Demand3.Standing.{Both, Core}
+use Rattle.machine.proofs.Demand3.Standing.{Stage, within, Both, Core}
 use Rattle.machine.proofs.Demand3.Leaving.{Leaves, leaves-self, leaves-then, leaves-debt, leaves-endpoint}
 use Rattle.machine.proofs.Demand3.Leaving.{passes-owner, leaves-dropDebt, core-leaves}
 use Rattle.machine.proofs.Demand3.Owing.{tied-drop, tied-join}
@@ -132,20 +130,25 @@ module _ (t e b : ℕ) (o : Option Aborting) (d : Gone) (s : State) (M : Mid s)
 
 -- The badge under abort, in the machine and in the history.
 under-both :
-    (past : List Call) (n : ℕ) (since : ℕ → ℕ) (f : ℕ → Thread) (e b : ℕ) (k : Option Abort) (o : Option Aborting)
-    → Both past n since f e k o → isUnder b o ≡ underAbort b k
-under-both past n since f e b none none B = refl
-under-both past n since f e b none (some x) B = absurd B
-under-both past n since f e b (some a) none B = absurd B
-under-both past n since f e b (some a) (some x) B = ap (λ (c : ℕ). eqb c b) (B .badge)
+    (stage : Stage) (f : ℕ → Thread) (e b : ℕ) (k : Option Abort) (o : Option Aborting) → Both stage f e k o
+    → isUnder b o ≡ underAbort b k
+under-both stage f e b none none B = refl
+under-both stage f e b none (some x) B = absurd B
+under-both stage f e b (some a) none B = absurd B
+under-both stage f e b (some a) (some x) B = ap (λ (c : ℕ). eqb c b) (B .badge)
 
 module _
-    (past : List Call) (answers : List Answer) (since : ℕ → ℕ) (standing : ℕ → Option Aborting) (d : Gone)
-    (t e b place : ℕ) (now : place ≡ length past) (small : b < 2 ^ 28) (s : State) (a : ℕ) (some-looks : 1 ≤ a)
-    (M : Mid s)
-    (C : Core past answers place since (s .threads) (s .endpoints) standing (d .ended))
+    (stage : Stage) (standing : ℕ → Option Aborting) (d : Gone) (t e b : ℕ)
+    (now : stage .until ≡ length (stage .past)) (small : b < 2 ^ 28) (s : State) (a : ℕ) (some-looks : 1 ≤ a)
+    (M : Mid s) (C : Core stage (s .threads) (s .endpoints) standing (d .ended))
     (T : Tied (s .threads) (s .endpoints) (d .debts) (d .ended)) (runs : s .runs ≡ some t)
     (lives : s .endpoints e .status ≡ live) where
+  abbrev since : ℕ → ℕ
+  since = stage .since
+
+  abbrev place : ℕ
+  place = stage .until
+
   abbrev start : Walk
   start = walkAt since e s (standing e) (came-in t e b (standing e) d)
 
@@ -162,17 +165,16 @@ module _
 
     going :
         (o : Option Aborting) → standing e ≡ o
-        → Going past answers (suc place) since standing e q o (other-gone t e b o d)
+        → Going (within stage) standing e q o (other-gone t e b o d)
     going o h =
         record {
           mid = O .mid;
           core =
               subst
               (λ (f : ℕ → Option Aborting).
-              Core past answers (suc place) since (q .threads) (q .endpoints) f (d .ended))
+              Core (within stage) (q .threads) (q .endpoints) f (d .ended))
               (sym (ap (put standing e) (sym h) ∙ put-self standing e))
-              (core-leaves past place (suc place) (omega arith) since (s .threads) (q .threads) answers standing
-              (d .ended) (O .leaves) C);
+              (core-leaves stage (suc place) (omega arith) (O .leaves) C);
           tied =
               subst
               (λ (p : Option Aborting). Tied (q .threads) (q .endpoints) (letsOther t e b p (d .debts)) (d .ended)) h
@@ -188,23 +190,22 @@ module _
     -- The same badge is joined.
     joins :
         (k : Abort) (x : Aborting) → q .endpoints e .abort ≡ some k → standing e ≡ some x → x .badge ≡ b
-        → Ran past answers since standing t e b place s a start (workOwn t e a [] (join t e q))
+        → Ran stage standing t e b s a start (workOwn t e a [] (join t e q))
     unfolding join
     joins k x was told badge =
-        own-works past answers since standing t e b place (omega arith) s a start a [] (join t e q) x g
+        own-works stage standing t e b (omega arith) s a start a [] (join t e q) x g
         (record {
           mid =
               mid-join t e q k was (O .mid) (running-present (O .mid) runs-still)
               (λ n. unowned (O .mid) (O .owed) (ap ownerOf was ∙ n));
           core =
-              core-leaves past (suc place) (suc place) (omega arith) since (q .threads) (join t e q .threads) answers
-              (put standing e (some x)) (d .ended) (leaves-joinAs (ownerOf (q .endpoints e .abort)) t e q)
-              (going (some x) told .core);
+              core-leaves (within stage) (suc place) (omega arith)
+              (leaves-joinAs (ownerOf (q .endpoints e .abort)) t e q) (going (some x) told .core);
           tied = tied-join q (going (some x) told .tied) t e k was (unowned (O .mid) (O .owed));
         })
         badge (join-status t e q ∙ lives-still) (frame-keep since e s q (join t e q) [] frame joined)
         (λ l.
-        ap (walk l a (course past answers since standing t e b place))
+        ap (walk l a (course stage standing t e b))
         (began-at (some x) g told came ∙ sym (walk-keeps since e q (join t e q) (some x) g joined)))
         (more-self place (d .ended))
       where
@@ -227,11 +228,11 @@ module _
     under :
         (y : Bool) (k : Abort) (x : Aborting) → eqb (k .badge) b ≡ y → q .endpoints e .abort ≡ some k
         → standing e ≡ some x → x .badge ≡ k .badge
-        → Ran past answers since standing t e b place s a start (underBadge y t e a b q)
+        → Ran stage standing t e b s a start (underBadge y t e a b q)
     unfolding underBadge
     under true k x h was told badge = joins k x was told (badge ∙ eqb-true (k .badge) b h)
     under false k x h was told badge =
-        other-works past answers since standing t e b place (omega arith) (omega arith) small s a start q x
+        other-works stage standing t e b (omega arith) (omega arith) small s a start q x
         (other-gone t e b (some x) d) (going (some x) told) differs
         (unowed (O .owed) (ap (underAbort b) was ∙ h)) runs-still lives-still frame
         (began-at (some x) (other-gone t e b (some x) d) told came) (more-self place (d .ended))
@@ -251,37 +252,37 @@ module _
 
     begins :
         (m : ℕ) → a ≡ m → 1 ≤ m → q .endpoints e .abort ≡ none → standing e ≡ none
-        → Ran past answers since standing t e b place s a start (workOwn t e m [] (begin t e b q))
+        → Ran stage standing t e b s a start (workOwn t e m [] (begin t e b q))
     begins zero h i was told = absurd (omega arith)
     begins (suc m) h i was told =
-        own-begins past answers since standing t e b place (omega arith) s a start m [] q (other-gone t e b none d)
+        own-begins stage standing t e b (omega arith) s a start m [] q (other-gone t e b none d)
         (going none told) was (unowed (O .owed) (ap (underAbort b) was)) (running-present (O .mid) runs-still) small
         (omega arith) lives-still frame
         (λ l.
-        ap (λ (k : ℕ). walk l k (course past answers since standing t e b place) start) h
-        ∙ ap (walk l (suc m) (course past answers since standing t e b place))
+        ap (λ (k : ℕ). walk l k (course stage standing t e b) start) h
+        ∙ ap (walk l (suc m) (course stage standing t e b))
         (began-at none (other-gone t e b none d) told refl))
         (more-self place (d .ended))
 
     together :
         (k : Option Abort) → q .endpoints e .abort ≡ k → (o : Option Aborting) → standing e ≡ o
-        → Both past (suc place) since (q .threads) e k o
+        → Both (within stage) (q .threads) e k o
     together k was o told = rw (was, put-same standing e o) at (going o told .core .stands e)
 
-    opens : Ran past answers since standing t e b place s a start (abortOpen t e a b q)
+    opens : Ran stage standing t e b s a start (abortOpen t e a b q)
     unfolding abortOpen abortFrom
     opens = go (q .endpoints e .abort) refl (standing e) refl
       where
         go : (k : Option Abort) → q .endpoints e .abort ≡ k → (o : Option Aborting) → standing e ≡ o
-            → Ran past answers since standing t e b place s a start (abortFrom k t e a b q)
+            → Ran stage standing t e b s a start (abortFrom k t e a b q)
         go none was none told = begins a refl some-looks was told
         go none was (some x) told = absurd (together none was (some x) told)
         go (some k) was none told = absurd (together (some k) was none told)
         go (some k) was (some x) told =
             under (eqb (k .badge) b) k x refl was told (together (some k) was (some x) told .badge)
 
-  pub ran : Ran past answers since standing t e b place s a start (abortOpen t e a b (dropOther t e b s))
+  pub ran : Ran stage standing t e b s a start (abortOpen t e a b (dropOther t e b s))
   ran =
       opens (dropOther t e b s)
       (opened t e b (standing e) d s M T
-      (under-both past place since (s .threads) e b (s .endpoints e .abort) (standing e) (C .stands e)))
+      (under-both stage (s .threads) e b (s .endpoints e .abort) (standing e) (C .stands e)))

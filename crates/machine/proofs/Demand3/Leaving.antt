@@ -5,7 +5,6 @@ use mathlib.Core.Logic.{_⊎_, inl, inr, ⊎-elim}
 use mathlib.Core.Option.{Option, none, some}
 use mathlib.Core.List.{List}
 use native.Mathlib.Omega.{arith}
-use Rattle.machine.specs.declared.Answer.{Answer}
 use Rattle.machine.specs.declared.Call.{Call}
 use Rattle.machine.specs.Lists.{put, Mem}
 use Rattle.machine.specs.State.{State, Thread, able, sending, Debt, nothing, owns, noted, Abort, live, Endpoint}
@@ -16,7 +15,7 @@ use Rattle.machine.specs.History.{Aborting, Ended}
 use Rattle.machine.specs.Claim.{In}
 use Rattle.machine.proofs.Lists.{Same, same, other, same?, put-all, put-same, put-other, mem-keep}
 use Rattle.machine.proofs.Sublists.{Sub, sub-refl, sub-trans, sub-map, sub-after, sub-without}
-use Rattle.machine.proofs.Demand3.Standing.{callOf, sends-call, call-sends, Stood, Both, Over, Core}
+use Rattle.machine.proofs.Demand3.Standing.{Stage, reaching, callOf, sends-call, call-sends, Both, Over, Core}
 
 -- Who waits waited before, and whoever sends at a live endpoint sent at a live endpoint.
 pub record Fewer (f g : ℕ → Thread) (x y : ℕ → Endpoint) : Type 0 where
@@ -201,78 +200,81 @@ leaves-dropDebt t s = leaves-dropped (s .threads t .debt) t s
 
 -- Core
 
-module _ (past : List Call) (n m : ℕ) (later : n ≤ m) (since : ℕ → ℕ) (f g : ℕ → Thread) where
-  pub stood-fewer :
-      (e : ℕ) (a k : Abort) (z : Aborting) → ((t : ℕ) → g t .place ≡ sending e → f t .place ≡ sending e)
-      → Passed g e a k → Stood past n since f e a z → Stood past m since g e k z
-  stood-fewer e a k z F P S =
+module _ (stage : Stage) (m : ℕ) (later : stage .until ≤ m) where
+  both-fewer :
+      (f g : ℕ → Thread) (e : ℕ) (o p : Option Abort) (q : Option Aborting)
+      → ((t : ℕ) → g t .place ≡ sending e → f t .place ≡ sending e) → Passes g e o p → Both stage f e o q
+      → Both (reaching m stage) g e p q
+  both-fewer f g e none none none F P B = tt
+  both-fewer f g e none none (some z) F P B = B
+  both-fewer f g e none (some k) q F P B = absurd P
+  both-fewer f g e (some a) none q F P B = absurd P
+  both-fewer f g e (some a) (some k) none F P B = B
+  both-fewer f g e (some a) (some k) (some z) F P S =
       record {
         endpoint = S .endpoint;
         badge = S .badge ∙ sym (P .badge);
-        began = omega arith;
+        began = omega (arith, S .began);
         old = S .old;
         once = S .once;
-        part = sub-trans (sub-after (z .looked) (sub-map since (P .part))) (S .part);
+        part = sub-trans (sub-after (z .looked) (sub-map (stage .since) (P .part))) (S .part);
         left = λ t h i. ⊎-elim inl (λ j. inr (P .kept t j h)) (S .left t (F t h) i);
         removed = S .removed;
       }
 
-  pub both-fewer :
-      (e : ℕ) (o p : Option Abort) (q : Option Aborting) → ((t : ℕ) → g t .place ≡ sending e → f t .place ≡ sending e)
-      → Passes g e o p → Both past n since f e o q → Both past m since g e p q
-  both-fewer e none none none F P B = tt
-  both-fewer e none none (some z) F P B = B
-  both-fewer e none (some k) q F P B = absurd P
-  both-fewer e (some a) none q F P B = absurd P
-  both-fewer e (some a) (some k) none F P B = B
-  both-fewer e (some a) (some k) (some z) F P B = stood-fewer e a k z F P B
-
-  pub over-fewer : {x y : ℕ → Endpoint} (z : Ended) → Fewer f g x y → Over past n since f x z → Over past m since g y z
+  over-fewer :
+      {f g : ℕ → Thread} {x y : ℕ → Endpoint} (z : Ended) → Fewer f g x y → Over stage f x z
+      → Over (reaching m stage) g y z
   over-fewer z F O =
       let E = O .exact in
       record {
         exact =
-            record { began = omega arith; removed = E .removed; once = E .once; most = E .most; among = E .among };
+            record {
+              began = omega (arith, E .began);
+              removed = E .removed;
+              once = E .once;
+              most = E .most;
+              among = E .among;
+            };
         by = omega (arith, O .by);
         clean = λ t e h k. O .clean t e (fewer-sends F t e h .0) (F .live t e h k);
       }
 
   pub core-leaves :
-      {x y : ℕ → Endpoint} (answers : List Answer) (standing : ℕ → Option Aborting) (ended : List Ended)
-      → Shrinks f g x y → Core past answers n since f x standing ended → Core past answers m since g y standing ended
-  core-leaves {x} {y} answers standing ended H C =
+      {f g : ℕ → Thread} {x y : ℕ → Endpoint} {standing : ℕ → Option Aborting} {ended : List Ended}
+      → Shrinks f g x y → Core stage f x standing ended → Core (reaching m stage) g y standing ended
+  core-leaves {f} {g} {x} {y} {standing} H C =
       record {
         made = λ t c h. C .made t c (H .fewer .calls t c h);
         apart = λ t u c d h k. C .apart t u c d (H .fewer .calls t c h) (H .fewer .calls u d k);
         stands =
             λ e.
-            both-fewer e (x e .abort) (y e .abort) (standing e) (λ t h. fewer-sends (H .fewer) t e h .0) (H .aborts e)
-            (C .stands e);
+            both-fewer f g e (x e .abort) (y e .abort) (standing e) (λ t h. fewer-sends (H .fewer) t e h .0)
+            (H .aborts e) (C .stands e);
         over = λ z i. over-fewer z (H .fewer) (C .over z i);
       }
 
-  -- One endpoint gets a new entry and the abort o, and the ended aborts may grow.
-  pub core-at :
-      {x : ℕ → Endpoint} (answers : List Answer) (standing : ℕ → Option Aborting) (ended more : List Ended) (e : ℕ)
-      (y : Endpoint) (o : Option Aborting)
-      → Fewer f g x (put x e y) → Both past m since g e (y .abort) o
-      → ((z : Ended) → In z more → In z ended ⊎ Over past m since g (put x e y) z)
-      → Core past answers n since f x standing ended
-      → Core past answers m since g (put x e y) (put standing e o) more
-  core-at {x} answers standing ended more e y o F B new C =
-      record {
-        made = λ t c h. C .made t c (F .calls t c h);
-        apart = λ t u c d h k. C .apart t u c d (F .calls t c h) (F .calls u d k);
-        stands = stands;
-        over = λ z i. ⊎-elim (λ j. over-fewer z F (C .over z j)) (λ O. O) (new z i);
-      }
-    where
-      stands : (k : ℕ) → Both past m since g k (put x e y k .abort) (put standing e o k)
-      stands k = go (same? k e)
-        where
-          go : Same k e → Both past m since g k (put x e y k .abort) (put standing e o k)
-          go (same i _) = rw (i, put-same x e y, put-same standing e o) B
-          go (other i _) =
-              rw (put-other x e k y i, put-other standing e k o i)
-              (both-fewer k (x k .abort) (x k .abort) (standing k) (λ t h. fewer-sends F t k h .0)
-              (passes-self g k (x k .abort)) (C .stands k))
+-- One endpoint gets a new entry and the abort o, and the ended aborts may grow.
+pub core-at :
+    {stage : Stage} {f g : ℕ → Thread} {x : ℕ → Endpoint} {standing : ℕ → Option Aborting} {ended : List Ended}
+    (more : List Ended) (e : ℕ) (y : Endpoint) (o : Option Aborting)
+    → Fewer f g x (put x e y) → Both stage g e (y .abort) o
+    → ((z : Ended) → In z more → In z ended ⊎ Over stage g (put x e y) z)
+    → Core stage f x standing ended → Core stage g (put x e y) (put standing e o) more
+core-at {stage} {f} {g} {x} {standing} more e y o F B new C =
+    record {
+      made = λ t c h. C .made t c (F .calls t c h);
+      apart = λ t u c d h k. C .apart t u c d (F .calls t c h) (F .calls u d k);
+      stands = stands;
+      over = λ z i. ⊎-elim (λ j. over-fewer stage (stage .until) (omega arith) z F (C .over z j)) (λ O. O) (new z i);
+    }
+  where
+    stands : (k : ℕ) → Both stage g k (put x e y k .abort) (put standing e o k)
+    stands k = go (same? k e)
+      where
+        go : Same k e → Both stage g k (put x e y k .abort) (put standing e o k)
+        go (same i _) = rw (i, put-same x e y, put-same standing e o) B
+        go (other i _) =
+            rw (put-other x e k y i, put-other standing e k o i)
+            (both-fewer stage (stage .until) (omega arith) f g k (x k .abort) (x k .abort) (standing k)
+            (λ t h. fewer-sends F t k h .0) (passes-self g k (x k .abort)) (C .stands k))

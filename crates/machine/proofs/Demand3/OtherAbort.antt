@@ -7,9 +7,6 @@ use mathlib.Core.List.{List, [], _∷_, _++_, map, append-nil}
 use native.Mathlib.Omega.{arith}
 use lib.Dec.{eqb}
 use lib.ListN.{length}
-use Rattle.machine.specs.declared.Answer.{Answer}
-use Rattle.machine.specs.declared.Call.{Call}
-use Rattle.machine.specs.Lists.{put}
 use Rattle.machine.specs.State.{State, nothing, Abort, live, Endpoint}
 use Rattle.machine.specs.Endpoints.{senders, pendingOf, endAbort}
 use Rattle.machine.specs.Aborts.{Looked, pendingAt, lookUpTo, beginAfter, finished, lookedOther, workOther}
@@ -21,30 +18,35 @@ use Rattle.machine.proofs.Preserved.Debts.{nothing-owns, live-present, 
 use Rattle.machine.proofs.Preserved.Debts.{endAbort-runs, endAbort-debt}
 use Rattle.machine.proofs.Preserved.AbortSteps.{Steady, steady-lookUpTo}
 use Rattle.machine.proofs.Preserved.Aborts.{running-present}
-use Rattle.machine.proofs.Demand3.Standing.{Stood, Core}
+use Rattle.machine.proofs.Demand3.Standing.{Stage, within, Stood, Core}
 use Rattle.machine.proofs.Demand3.Ending.{core-end}
 use Rattle.machine.proofs.Demand3.Owing.{tied-free, tied-end}
 use Rattle.machine.proofs.Demand3.Together.{put-again, Gone, walkAt, Going, going-abort, left-some, left-none}
 use Rattle.machine.proofs.Demand3.Together.{settle-pending}
 use Rattle.machine.proofs.Demand3.EachLook.{Frame, frame-then, frame-keep, Walked, walked}
 use Rattle.machine.proofs.Demand3.OwnAbort.{More, more-cons, walk-keeps, keeps-endAbort, walk-settle, walk-nil}
-use Rattle.machine.proofs.Demand3.OwnAbort.{Ran, own-begins}
+use Rattle.machine.proofs.Demand3.OwnAbort.{course, Ran, own-begins}
 
 module _
-    (past : List Call) (answers : List Answer) (since : ℕ → ℕ) (standing : ℕ → Option Aborting) (t e b place : ℕ)
-    (now : length past ≤ place) (here : place ≤ length past) (small : b < 2 ^ 28)
-    (s : State) (a : ℕ) (start : Walk) where
+    (stage : Stage) (standing : ℕ → Option Aborting) (t e b : ℕ) (now : length (stage .past) ≤ stage .until)
+    (here : stage .until ≤ length (stage .past)) (small : b < 2 ^ 28) (s : State) (a : ℕ) (start : Walk) where
+  abbrev since : ℕ → ℕ
+  since = stage .since
+
+  abbrev place : ℕ
+  place = stage .until
+
   abbrev c : Course
-  c = record { place = place; caller = t; endpoint = e; badge = b }
+  c = course stage standing t e b
 
   -- The looks at another badge's abort have come to r, and nothing is left of it.
   module _
       (r : Looked) (x : Aborting) (d : Gone)
-      (G : Going past answers (suc place) since standing e (r .state) (some x) d)
+      (G : Going (within stage) standing e (r .state) (some x) d)
       (differs : eqb (x .badge) b ≡ false)
       (free : r .state .threads t .debt ≡ nothing)
       (k : Abort) (was : r .state .endpoints e .abort ≡ some k)
-      (S : Stood past (suc place) since (r .state .threads) e k x) (lives : r .state .endpoints e .status ≡ live)
+      (S : Stood (within stage) (r .state .threads) e k x) (lives : r .state .endpoints e .status ≡ live)
       (F : Frame since e s (r .state) (r .looks)) (E : More place (start .ended) (d .ended)) where
     abbrev over : Gone
     over =
@@ -54,18 +56,18 @@ module _
         }
 
     going-over : k .pending ≡ []
-        → Going past answers (suc place) since standing e (endAbort live e (r .state)) none over
+        → Going (within stage) standing e (endAbort live e (r .state)) none over
     going-over h =
         record {
           mid = mid-endAbort live e (r .state) (live-present refl) (live-present lives) (G .mid);
           core =
               subst
               (λ (f : ℕ → Option Aborting).
-              Core past answers (suc place) since (endAbort live e (r .state) .threads)
+              Core (within stage) (endAbort live e (r .state) .threads)
               (endAbort live e (r .state) .endpoints) f (over .ended))
               (put-again standing e (some x) none)
-              (core-end past answers (suc place) since (r .state) (put standing e (some x)) (d .ended) (G .core)
-              e (G .mid) live k x place was (put-same standing e (some x)) (omega arith) (λ i. h) (λ i. lives));
+              (core-end (within stage) (r .state) (G .core) e (G .mid) live k x place was (put-same standing e (some x))
+              (omega arith) (λ i. h) (λ i. lives));
           tied =
               tied-end (r .state) (tied-free (r .state) (G .tied) t (G .mid .owners) free) e live k was x
               (S .endpoint) (S .badge) _ refl;
@@ -77,7 +79,7 @@ module _
         ≡ begins m c (walkAt since e (endAbort live e (r .state)) none over)
     unfolding settle settles passes ends
     settle-over m h =
-        rw (differs, left-none past answers (suc place) since standing e (r .state) x d G k was S h)
+        rw (differs, left-none (within stage) standing e (r .state) x d G k was S h)
         (ap (begins m c)
         (sym (walk-keeps since e (r .state) (endAbort live e (r .state)) none over (keeps-endAbort live e (r .state)))))
 
@@ -97,7 +99,7 @@ module _
         → ((l : List NamedLook)
         → walk (namedLooks since (r .looks) ++ l) a c start ≡ walk l m c (walkAt since e (r .state) (some x) d))
         → k .pending ≡ []
-        → Ran past answers since standing t e b place s a start
+        → Ran stage standing t e b s a start
         (beginAfter m t e b (r .looks) (endAbort live e (r .state)))
     unfolding beginAfter begins close closes
     finishes runs zero W h =
@@ -122,7 +124,7 @@ module _
           reports = λ i. absurd (omega arith);
         }
     finishes runs (suc m) W h =
-        own-begins past answers since standing t e b place now s a start m (r .looks)
+        own-begins stage standing t e b now s a start m (r .looks)
         (endAbort live e (r .state)) over
         (going-over h) (ap (λ (y : Endpoint). y .abort) (endAbort-entry (r .state) e live))
         (endAbort-debt (r .state) e live t (λ o. nothing-owns free (G .mid .owners .each-other e t .0 o)) ∙ free)
@@ -141,7 +143,7 @@ module _
         → ((l : List NamedLook)
         → walk (namedLooks since (r .looks) ++ l) a c start ≡ walk l m c (walkAt since e (r .state) (some x) d))
         → k .pending ≡ u ∷ l
-        → Ran past answers since standing t e b place s a start (finished (u ∷ l) t e a b r)
+        → Ran stage standing t e b s a start (finished (u ∷ l) t e a b r)
     unfolding finished close closes
     breaks u l m W h =
         record {
@@ -160,33 +162,33 @@ module _
               ap (close c)
               (ap (λ (l : List NamedLook). walk l a c start) (sym (append-nil (namedLooks since (r .looks)))) ∙ W []
               ∙ walk-nil m c _
-              ∙ settle-pending past answers (suc place) since standing e (r .state) x d G k was S u l m c h)
-              ∙ rw (left-some past answers (suc place) since standing e (r .state) x d G k was S u l h);
+              ∙ settle-pending (within stage) standing e (r .state) x d G k was S u l m c h)
+              ∙ rw (left-some (within stage) standing e (r .state) x d G k was S u l h);
           reports = λ i. absurd (omega arith);
         }
 
   pub other-works :
-      (q : State) (x : Aborting) (d : Gone) → Going past answers (suc place) since standing e q (some x) d
+      (q : State) (x : Aborting) (d : Gone) → Going (within stage) standing e q (some x) d
       → eqb (x .badge) b ≡ false
       → q .threads t .debt ≡ nothing → q .runs ≡ some t → q .endpoints e .status ≡ live → Frame since e s q []
       → start ≡ walkAt since e q (some x) d → More place (start .ended) (d .ended)
-      → Ran past answers since standing t e b place s a start (workOther t e a b q)
+      → Ran stage standing t e b s a start (workOther t e a b q)
   unfolding workOther lookedOther finished
   other-works q x d G differs free runs lives F W E = go (pendingAt e (r .state)) refl
     where
       r : Looked
       r = lookUpTo a (pendingAt e q) e q
 
-      H : Walked past answers (suc place) since standing e q x d a c (lookUpTo a (pendingAt e q) e q)
-      H = walked past answers (suc place) since standing e a (pendingAt e q) q x d c refl G
+      H : Walked (within stage) standing e q x d a c (lookUpTo a (pendingAt e q) e q)
+      H = walked (within stage) standing e a (pendingAt e q) q x d c refl G
 
       T : Steady q (lookUpTo a (pendingAt e q) e q .state)
       T = steady-lookUpTo a (pendingAt e q) e q
 
-      A : (k : Abort) × (r .state .endpoints e .abort ≡ some k) × Stood past (suc place) since (r .state .threads) e k
+      A : (k : Abort) × (r .state .endpoints e .abort ≡ some k) × Stood (within stage) (r .state .threads) e k
           (H .abort)
       A =
-          going-abort past answers (suc place) since standing e (r .state) (some (H .abort)) d (H .abort) refl
+          going-abort (within stage) standing e (r .state) (some (H .abort)) d (H .abort) refl
           (H .going)
 
       other : eqb (H .abort .badge) b ≡ false
@@ -202,7 +204,7 @@ module _
       goes l = ap (walk (namedLooks since (r .looks) ++ l) a c) W ∙ H .walks l
 
       go : (l : List ℕ) → pendingAt e (r .state) ≡ l
-          → Ran past answers since standing t e b place s a start (finished l t e a b r)
+          → Ran stage standing t e b s a start (finished l t e a b r)
       go [] h =
           finishes r (H .abort) d (H .going) other (T .debt t ∙ free) (A .0) (A .1) (A .2)
           (T .entry e .status ∙ lives) frame E (T .runs ∙ runs) (a - length (r .looks)) goes

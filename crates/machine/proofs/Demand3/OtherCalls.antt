@@ -27,7 +27,7 @@ use Rattle.machine.proofs.Preserved.Sites.{differ}
 use Rattle.machine.proofs.Calls.Answers.{no-looks}
 use Rattle.machine.proofs.Sublists.{Sub, sub-mem, sub-map, rising-sub, rising-snoc, rising-least, Apart, map-mem}
 use Rattle.machine.proofs.Sublists.{map-agree, entry-below, entry-grow}
-use Rattle.machine.proofs.Demand3.Standing.{sends-call, Made, Core, isOld-grow, core-grow}
+use Rattle.machine.proofs.Demand3.Standing.{within, grown, sends-call, Made, Core, isOld-grow, core-grow}
 use Rattle.machine.proofs.Demand3.Leaving.{Leaves, core-leaves}
 use Rattle.machine.proofs.Demand3.Owing.{tied-still, tied-drop}
 use Rattle.machine.proofs.Demand3.EachLook.{queued-call}
@@ -36,7 +36,7 @@ use Rattle.machine.proofs.Demand3.HostCalls.{dropsIf, Sheds, keeps, she
 use Rattle.machine.proofs.Demand3.Arrivals.{Simple, turn}
 use Rattle.machine.proofs.Demand3.Handing.{Takes, handed-first, takes}
 use Rattle.machine.proofs.Preserved.Steps.{step-sound}
-use Rattle.machine.proofs.Demand3.Invariant.{Given, Inv, queued-apart}
+use Rattle.machine.proofs.Demand3.Invariant.{stageOf, Given, Inv, queued-apart}
 use Rattle.machine.proofs.Demand3.Recording.{deliveryOf, Duty8, Duty12, Goes, goes}
 
 -- Calls other than 11 and 12 begin and end no abort; they drop the debts of whom they should.
@@ -73,13 +73,11 @@ module _ (past : List Call) (s : State) (h : History) (I : Inv past s h) where
   -- Nobody comes to wait, and no abort changes: Core.
   pub idle-core :
       (c : Call) (r : Result) → Leaves s (r .state)
-      → Core (past ++ (c ∷ [])) (h .answers ++ (r .answer ∷ [])) (suc (h .now)) (h .since) (r .state .threads)
-      (r .state .endpoints) (h .aborts .standing) (h .aborts .ended)
-  idle-core c r L =
-      core-grow past c (suc (h .now)) fits (h .since) (r .state .threads) (h .answers) (r .answer) (r .state .endpoints)
+      → Core (grown c (r .answer) (within (stageOf past h))) (r .state .threads) (r .state .endpoints)
       (h .aborts .standing) (h .aborts .ended)
-      (core-leaves past (h .now) (suc (h .now)) (omega arith) (h .since) (s .threads) (r .state .threads) (h .answers)
-      (h .aborts .standing) (h .aborts .ended) L (I .core))
+  idle-core c r L =
+      core-grow (within (stageOf past h)) c (r .answer) fits
+      (core-leaves (stageOf past h) (suc (h .now)) (omega arith) L (I .core))
 
   -- Nobody comes to wait: the queues ascend still.
   pub idle-rising :
@@ -277,12 +275,10 @@ module _ (past : List Call) (s : State) (h : History) (I : Inv past s h) where
           record {
             sound = S;
             core =
-                core-blocks past (suc (h .now)) fits (h .since) (B .between .threads) (B .caller) (B .entry)
-                (h .answers) c (B .able) (B .calls) (I .answered) (h .now) (I .now) (r .state .threads) (B .threads)
-                (r .answer) (B .answer) (B .between .endpoints) (r .state .endpoints) (B .abort) (B .status)
-                (h .aborts .standing) (h .aborts .ended) (B .aside)
-                (core-leaves past (h .now) (suc (h .now)) (omega arith) (h .since) (s .threads) (B .between .threads)
-                (h .answers) (h .aborts .standing) (h .aborts .ended) (B .leaves) (I .core));
+                core-blocks (within (stageOf past h)) fits (B .between .threads) (B .caller) (B .entry) c (B .able)
+                (B .calls) (I .answered) (h .now) (I .now) (r .state .threads) (B .threads) (r .answer) (B .answer)
+                (B .abort) (B .status) (B .aside)
+                (core-leaves (stageOf past h) (suc (h .now)) (omega arith) (B .leaves) (I .core));
             tied = sheds-tied D;
             rising = block-rising;
             stray = no-stray;

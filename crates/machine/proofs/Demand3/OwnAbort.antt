@@ -8,8 +8,6 @@ use mathlib.Core.List.{List, [], _∷_, _++_, map, append-nil}
 use native.Mathlib.Omega.{arith}
 use lib.ListN.{length}
 use borrow.Author.Tests.{eq-eqb}
-use Rattle.machine.specs.declared.Answer.{Answer}
-use Rattle.machine.specs.declared.Call.{Call}
 use Rattle.machine.specs.Lists.{put}
 use Rattle.machine.specs.State.{State, nothing, owns, noted, Abort, Status, live, Endpoint, setEndpoint}
 use Rattle.machine.specs.Scheduling.{choose}
@@ -29,7 +27,7 @@ use Rattle.machine.proofs.Preserved.Statuses.{Keeps, keeps-place, keeps
 use Rattle.machine.proofs.Preserved.Debts.{mid-dropDebt, dropDebt-drops}
 use Rattle.machine.proofs.Preserved.AbortSteps.{mid-begin, Steady, steady-lookUpTo}
 use Rattle.machine.proofs.Preserved.Aborts.{begin-status}
-use Rattle.machine.proofs.Demand3.Standing.{Stood, Core}
+use Rattle.machine.proofs.Demand3.Standing.{Stage, within, Stood, Core}
 use Rattle.machine.proofs.Demand3.Leaving.{leaves-dropDebt, core-leaves}
 use Rattle.machine.proofs.Demand3.Ending.{begunOn, core-end, core-begin}
 use Rattle.machine.proofs.Demand3.Owing.{tied-drop, tied-begin, tied-end}
@@ -125,9 +123,14 @@ named-append since (v ∷ k) l =
     ap (λ (r : List NamedLook). record { waiter = since (v .waiter); removed = v .removed } ∷ r)
     (named-append since k l)
 
-module _
-    (past : List Call) (answers : List Answer) (since : ℕ → ℕ) (standing : ℕ → Option Aborting)
-    (t e b place : ℕ) where
+-- A call 12 of t at the stage.
+module _ (stage : Stage) (standing : ℕ → Option Aborting) (t e b : ℕ) where
+  abbrev since : ℕ → ℕ
+  since = stage .since
+
+  abbrev place : ℕ
+  place = stage .until
+
   abbrev pub course : Course
   course = record { place = place; caller = t; endpoint = e; badge = b }
 
@@ -140,8 +143,7 @@ module _
     pub accepted : isAccepted (r .answer) ≡ true
     pub stands : Option Aborting
     pub gone : Gone
-    pub core :
-        Core past answers (suc place) since (state .threads) (state .endpoints) (put standing e stands) (gone .ended)
+    pub core : Core (within stage) (state .threads) (state .endpoints) (put standing e stands) (gone .ended)
     pub tied : Tied (state .threads) (state .endpoints) (gone .debts) (gone .ended)
     pub more : More place (start .ended) (gone .ended)
     pub queued : List ℕ
@@ -154,19 +156,19 @@ module _
         × (reportIf (walk (namedLooks since (r .looks)) a course start .standing) b ≡ some (reportOf (z .abort)))
         × (z .abort .endpoint ≡ e) × (z .abort .badge ≡ b) × (z .by ≤ place)
 
-  module _ (now : length past ≤ place) (s : State) (a : ℕ) (start : Walk) where
+  module _ (now : length (stage .past) ≤ stage .until) (s : State) (a : ℕ) (start : Walk) where
     -- The abort x of the call's badge, after the looks: it ends if nothing is left.
     own-ends :
         (q : State) (x : Aborting) (d : Gone) (looks : List Look)
-        → Going past answers (suc place) since standing e q (some x) d → x .badge ≡ b
+        → Going (within stage) standing e q (some x) d → x .badge ≡ b
         → q .endpoints e .status ≡ live → Frame since e s q looks
         → walk (namedLooks since looks) a course start ≡ walkAt since e q (some x) d
         → More place (start .ended) (d .ended) → Ran s a start (ended (pendingAt e q) t e looks q)
     unfolding ended close closes ends
     own-ends q x d looks G badge lives F W E = go (pendingAt e q) refl
       where
-        A : (k : Abort) × (q .endpoints e .abort ≡ some k) × Stood past (suc place) since (q .threads) e k x
-        A = going-abort past answers (suc place) since standing e q (some x) d x refl G
+        A : (k : Abort) × (q .endpoints e .abort ≡ some k) × Stood (within stage) (q .threads) e k x
+        A = going-abort (within stage) standing e q (some x) d x refl G
 
         k : Abort
         k = record { badge = A .0 .badge; owner = ownerOf (dropDebt t q .endpoints e .abort); pending = A .0 .pending }
@@ -178,20 +180,19 @@ module _
         pending l h = ap pendingOf (sym (A .1)) ∙ h
 
         over : A .0 .pending ≡ []
-            → Core past answers (suc place) since (endAbort live e (dropDebt t q) .threads)
+            → Core (within stage) (endAbort live e (dropDebt t q) .threads)
             (endAbort live e (dropDebt t q) .endpoints) (put standing e none)
             (record { abort = x; by = place } ∷ d .ended)
         over h =
             subst
             (λ (f : ℕ → Option Aborting).
-            Core past answers (suc place) since (endAbort live e (dropDebt t q) .threads)
+            Core (within stage) (endAbort live e (dropDebt t q) .threads)
             (endAbort live e (dropDebt t q) .endpoints) f
             (record { abort = x; by = place } ∷ d .ended))
             (put-again standing e (some x) none)
-            (core-end past answers (suc place) since (dropDebt t q) (put standing e (some x)) (d .ended)
-            (core-leaves past (suc place) (suc place) (omega arith) since (q .threads) (dropDebt t q .threads) answers
-            (put standing e (some x)) (d .ended) (leaves-dropDebt t q) (G .core))
-            e (mid-dropDebt q t (G .mid)) live k x place was (put-same standing e (some x)) (omega arith) (λ i. h)
+            (core-end (within stage) (dropDebt t q)
+            (core-leaves (within stage) (suc place) (omega arith) (leaves-dropDebt t q) (G .core)) e
+            (mid-dropDebt q t (G .mid)) live k x place was (put-same standing e (some x)) (omega arith) (λ i. h)
             (λ i. dropDebt-drops q t .status e ∙ lives))
 
         go : (l : List ℕ) → pendingAt e q ≡ l → Ran s a start (ended l t e looks q)
@@ -220,7 +221,7 @@ module _
               closes =
                   rw (
                     W,
-                    left-none past answers (suc place) since standing e q x d G (A .0) (A .1) (A .2) (pending [] h),
+                    left-none (within stage) standing e q x d G (A .0) (A .1) (A .2) (pending [] h),
                   );
               reports =
                   λ i. (
@@ -248,7 +249,7 @@ module _
               closes =
                   rw (
                     W,
-                    left-some past answers (suc place) since standing e q x d G (A .0) (A .1) (A .2) u l
+                    left-some (within stage) standing e q x d G (A .0) (A .1) (A .2) u l
                         (pending (u ∷ l) h),
                   );
               reports = λ i. absurd (omega arith);
@@ -257,7 +258,7 @@ module _
     -- The abort x of the call's badge, with allowance k, after the looks made earlier in the call.
     pub own-works :
         (k : ℕ) (earlier : List Look) (q : State) (x : Aborting) (d : Gone)
-        → Going past answers (suc place) since standing e q (some x) d → x .badge ≡ b
+        → Going (within stage) standing e q (some x) d → x .badge ≡ b
         → q .endpoints e .status ≡ live → Frame since e s q earlier
         → ((l : List NamedLook)
         → walk (namedLooks since earlier ++ l) a course start ≡ walk l k course (walkAt since e q (some x) d))
@@ -275,8 +276,8 @@ module _
         r : Looked
         r = lookUpTo k (pendingAt e q) e q
 
-        H : Walked past answers (suc place) since standing e q x d k course (lookUpTo k (pendingAt e q) e q)
-        H = walked past answers (suc place) since standing e k (pendingAt e q) q x d course refl G
+        H : Walked (within stage) standing e q x d k course (lookUpTo k (pendingAt e q) e q)
+        H = walked (within stage) standing e k (pendingAt e q) q x d course refl G
 
         T : Steady q (lookUpTo k (pendingAt e q) e q .state)
         T = steady-lookUpTo k (pendingAt e q) e q
@@ -293,8 +294,8 @@ module _
     -- The call's own abort begins, where allowance remains.
     pub own-begins :
         (k : ℕ) (earlier : List Look) (q : State) (d : Gone)
-        → Going past answers (suc place) since standing e q none d → q .endpoints e .abort ≡ none
-        → q .threads t .debt ≡ nothing → Present q t → b < 2 ^ 28 → place ≤ length past
+        → Going (within stage) standing e q none d → q .endpoints e .abort ≡ none
+        → q .threads t .debt ≡ nothing → Present q t → b < 2 ^ 28 → place ≤ length (stage .past)
         → q .endpoints e .status ≡ live → Frame since e s q earlier
         → ((l : List NamedLook)
         → walk (namedLooks since earlier ++ l) a course start ≡ walk l (suc k) course (walkAt since e q none d))
@@ -306,10 +307,9 @@ module _
           core =
               subst
               (λ (f : ℕ → Option Aborting).
-              Core past answers (suc place) since (begin t e b q .threads) (begin t e b q .endpoints) f (d .ended))
+              Core (within stage) (begin t e b q .threads) (begin t e b q .endpoints) f (d .ended))
               (put-again standing e none (some (begunOn since q e b place)))
-              (core-begin past answers (suc place) since q (put standing e none) (d .ended) (G .core) e (G .mid) t b
-              place now (omega arith));
+              (core-begin (within stage) q (G .core) e (G .mid) t b place now (omega arith));
           tied = tied-begin q (G .tied) t e b free;
         })
         refl (begin-status t e b q ∙ lives)

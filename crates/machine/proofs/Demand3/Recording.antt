@@ -24,8 +24,9 @@ use Rattle.machine.specs.Recorded.{delivered, deliveredIf, abortCallsOf,
 use Rattle.machine.specs.Claim.{In}
 use Rattle.machine.specs.Tied.{Tied}
 use Rattle.machine.proofs.Sublists.{entry-below, entry-keep, entry-last, entry-cases, length-grow}
-use Rattle.machine.proofs.Demand3.Standing.{Core}
-use Rattle.machine.proofs.Demand3.Invariant.{Given, Called, Recorded12, Recorded8, Inv, given-grow, called-grow}
+use Rattle.machine.proofs.Demand3.Standing.{within, naming, grown, Core}
+use Rattle.machine.proofs.Demand3.Invariant.{stageOf, Given, Called, Recorded12, Recorded8, Inv, given-grow}
+use Rattle.machine.proofs.Demand3.Invariant.{called-grow}
 
 -- The record of a call 8 answered 0, and of a call 12.
 abbrev pub deliveryOf : ℕ → Result → Waiting → History → Delivery
@@ -84,8 +85,8 @@ module _ (past : List Call) (s : State) (h : History) (I : Inv past s h) (c : Ca
   pub record Goes : Type 0 where
     pub sound : Sound (r .state)
     pub core :
-        Core (past ++ (c ∷ [])) (h .answers ++ (r .answer ∷ [])) (suc (h .now)) since (r .state .threads)
-        (r .state .endpoints) (o .aborts .standing) (o .aborts .ended)
+        Core (grown c (r .answer) (naming since (within (stageOf past h)))) (r .state .threads) (r .state .endpoints)
+        (o .aborts .standing) (o .aborts .ended)
     pub tied : Tied (r .state .threads) (r .state .endpoints) (o .aborts .debts) (o .aborts .ended)
     pub rising : (e : ℕ) → Rising (map since (r .state .endpoints e .waiters))
     pub stray : o .aborts .stray ≡ []

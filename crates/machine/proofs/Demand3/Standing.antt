@@ -21,6 +21,36 @@ use Rattle.machine.proofs.Preserved.Ready.{none-some}
 use Rattle.machine.proofs.Sublists.{Sub, sub-trans, sub-distinct, sub-length, sub-mem, sub-left, only-agree}
 use Rattle.machine.proofs.Sublists.{entry-keep, entry-grow}
 
+-- The list so far: its calls and answers, the place that all of it came before, and the name of the waiter that each
+-- thread is.
+pub record Stage : Type 0 where
+  pub past : List Call
+  pub answers : List Answer
+  pub until : ℕ
+  pub since : ℕ → ℕ
+
+-- All of it came before this place.
+abbrev pub reaching : ℕ → Stage → Stage
+reaching n stage = record { past = stage .past; answers = stage .answers; until = n; since = stage .since }
+
+-- In the middle of the next call.
+abbrev pub within : Stage → Stage
+within stage = reaching (suc (stage .until)) stage
+
+-- With these names.
+abbrev pub naming : (ℕ → ℕ) → Stage → Stage
+naming since stage = record { past = stage .past; answers = stage .answers; until = stage .until; since = since }
+
+-- With one more call and its answer.
+abbrev pub grown : Call → Answer → Stage → Stage
+grown c r stage =
+    record {
+      past = stage .past ++ (c ∷ []);
+      answers = stage .answers ++ (r ∷ []);
+      until = stage .until;
+      since = stage .since;
+    }
+
 -- The call that a waiter made, by its place, badge and message.
 abbrev pub callAt : Place → ℕ → ℕ → Option Call
 callAt absent b m = none
@@ -63,50 +93,52 @@ pub record Exact (past : List Call) (n : ℕ) (x : Aborting) : Type 0 where
   pub among : (w : ℕ) → Mem w (x .looked) → Mem w (x .onto)
 
 -- The abort that stands at e, in the machine and in the history.
-pub record Stood
-    (past : List Call) (n : ℕ) (since : ℕ → ℕ) (threads : ℕ → Thread) (e : ℕ) (a : Abort) (x : Aborting) : Type 0 where
+pub record Stood (stage : Stage) (threads : ℕ → Thread) (e : ℕ) (a : Abort) (x : Aborting) : Type 0 where
   pub endpoint : x .endpoint ≡ e
   pub badge : x .badge ≡ a .badge
-  pub began : x .began < n
+  pub began : x .began < stage .until
   pub old : (w : ℕ) → Mem w (x .onto) → w < x .began
   pub once : Distinct (x .onto)
-  pub part : Sub (x .looked ++ map since (a .pending)) (x .onto)
+  pub part : Sub (x .looked ++ map (stage .since) (a .pending)) (x .onto)
   pub left :
-      (t : ℕ) → threads t .place ≡ sending e → Mem (since t) (x .onto) → Mem (since t) (x .looked) ⊎ Mem t (a .pending)
-  pub removed : x .removed ≡ only (isOld past x) (x .looked)
+      (t : ℕ) → threads t .place ≡ sending e → Mem (stage .since t) (x .onto)
+      → Mem (stage .since t) (x .looked) ⊎ Mem t (a .pending)
+  pub removed : x .removed ≡ only (isOld (stage .past) x) (x .looked)
 
 -- They stand together.
-abbrev pub Both : List Call → ℕ → (ℕ → ℕ) → (ℕ → Thread) → ℕ → Option Abort → Option Aborting → Type 0
-Both past n since threads e none none = Unit {0}
-Both past n since threads e none (some x) = ⊥
-Both past n since threads e (some a) none = ⊥
-Both past n since threads e (some a) (some x) = Stood past n since threads e a x
+abbrev pub Both : Stage → (ℕ → Thread) → ℕ → Option Abort → Option Aborting → Type 0
+Both stage threads e none none = Unit {0}
+Both stage threads e none (some x) = ⊥
+Both stage threads e (some a) none = ⊥
+Both stage threads e (some a) (some x) = Stood stage threads e a x
 
 -- An abort that has ended: nobody who is queued at a live endpoint is old for it.
-pub record Over
-    (past : List Call) (n : ℕ) (since : ℕ → ℕ) (threads : ℕ → Thread) (endpoints : ℕ
-    → Endpoint) (z : Ended) : Type 0 where
-  pub exact : Exact past n (z .abort)
-  pub by : z .by < n
+pub record Over (stage : Stage) (threads : ℕ → Thread) (endpoints : ℕ → Endpoint) (z : Ended) : Type 0 where
+  pub exact : Exact (stage .past) (stage .until) (z .abort)
+  pub by : z .by < stage .until
   pub clean :
-      (t f : ℕ) → threads t .place ≡ sending f → endpoints f .status ≡ live → isOld past (z .abort) (since t) ≡ false
+      (t f : ℕ) → threads t .place ≡ sending f → endpoints f .status ≡ live
+      → isOld (stage .past) (z .abort) (stage .since t) ≡ false
 
+-- The list so far beside the machine's threads and endpoints and the history's aborts.
 pub record Core
-    (past : List Call) (answers : List Answer) (n : ℕ) (since : ℕ → ℕ) (threads : ℕ → Thread) (endpoints : ℕ → Endpoint)
-    (standing : ℕ → Option Aborting) (ended : List Ended) : Type 0 where
+    (stage : Stage) (threads : ℕ → Thread) (endpoints : ℕ → Endpoint) (standing : ℕ → Option Aborting)
+    (ended : List Ended) : Type 0 where
   -- A waiter's name is the place of its call, and no two have the same.
-  pub made : (t : ℕ) (c : Call) → callOf (threads t) ≡ some c → Made past answers (since t) c
+  pub made :
+      (t : ℕ) (c : Call) → callOf (threads t) ≡ some c → Made (stage .past) (stage .answers) (stage .since t) c
   pub apart :
-      (t u : ℕ) (c d : Call) → callOf (threads t) ≡ some c → callOf (threads u) ≡ some d → since t ≡ since u → t ≡ u
-  pub stands : (e : ℕ) → Both past n since threads e (endpoints e .abort) (standing e)
-  pub over : (z : Ended) → In z ended → Over past n since threads endpoints z
+      (t u : ℕ) (c d : Call) → callOf (threads t) ≡ some c → callOf (threads u) ≡ some d
+      → stage .since t ≡ stage .since u → t ≡ u
+  pub stands : (e : ℕ) → Both stage threads e (endpoints e .abort) (standing e)
+  pub over : (z : Ended) → In z ended → Over stage threads endpoints z
 
 -- What an abort says of its looks while it stands.
 pub stood-exact :
-    (past : List Call) (n : ℕ) (since : ℕ → ℕ) (threads : ℕ → Thread) (e : ℕ) (a : Abort) (x : Aborting)
-    → Stood past n since threads e a x → Exact past n x
-stood-exact past n since threads e a x S =
-    let p = sub-trans (sub-left (x .looked) (map since (a .pending))) (S .part) in
+    (stage : Stage) (threads : ℕ → Thread) (e : ℕ) (a : Abort) (x : Aborting) → Stood stage threads e a x
+    → Exact (stage .past) (stage .until) x
+stood-exact stage threads e a x S =
+    let p = sub-trans (sub-left (x .looked) (map (stage .since) (a .pending))) (S .part) in
     record {
       began = S .began;
       removed = S .removed;
@@ -148,61 +180,54 @@ made-grow past answers c d a w M =
       answer = entry-grow answers a w (plain 1) (M .answer);
     }
 
-module _ (past : List Call) (c : Call) (n : ℕ) (fits : n ≤ suc (length past)) where
-  exact-grow : (x : Aborting) → Exact past n x → Exact (past ++ (c ∷ [])) n x
-  exact-grow x E =
+module _ (stage : Stage) (c : Call) (r : Answer) (fits : stage .until ≤ suc (length (stage .past))) where
+  stood-grow :
+      {f : ℕ → Thread} {e : ℕ} {a : Abort} {x : Aborting} → Stood stage f e a x → Stood (grown c r stage) f e a x
+  stood-grow {f} {e} {a} {x} S =
       record {
-        began = E .began;
-        removed = E .removed ∙ only-grow past c x (x .looked) (omega arith);
-        once = E .once;
-        most = E .most;
-        among = E .among;
+        endpoint = S .endpoint;
+        badge = S .badge;
+        began = S .began;
+        old = S .old;
+        once = S .once;
+        part = S .part;
+        left = S .left;
+        removed = S .removed ∙ only-grow (stage .past) c x (x .looked) (omega (arith, S .began));
       }
 
-  module _ (since : ℕ → ℕ) (threads : ℕ → Thread) where
-    stood-grow :
-        (e : ℕ) (a : Abort) (x : Aborting) → Stood past n since threads e a x
-        → Stood (past ++ (c ∷ [])) n since threads e a x
-    stood-grow e a x S =
-        record {
-          endpoint = S .endpoint;
-          badge = S .badge;
-          began = S .began;
-          old = S .old;
-          once = S .once;
-          part = S .part;
-          left = S .left;
-          removed = S .removed ∙ only-grow past c x (x .looked) (omega arith);
-        }
+  pub both-grow :
+      (f : ℕ → Thread) (e : ℕ) (o : Option Abort) (p : Option Aborting) → Both stage f e o p
+      → Both (grown c r stage) f e o p
+  both-grow f e none none B = B
+  both-grow f e none (some x) B = B
+  both-grow f e (some a) none B = B
+  both-grow f e (some a) (some x) B = stood-grow B
 
-    pub both-grow :
-        (e : ℕ) (o : Option Abort) (p : Option Aborting) → Both past n since threads e o p
-        → Both (past ++ (c ∷ [])) n since threads e o p
-    both-grow e none none B = B
-    both-grow e none (some x) B = B
-    both-grow e (some a) none B = B
-    both-grow e (some a) (some x) B = stood-grow e a x B
+  pub over-grow :
+      {f : ℕ → Thread} {y : ℕ → Endpoint} (z : Ended) → Over stage f y z → Over (grown c r stage) f y z
+  over-grow z O =
+      let E = O .exact in
+      let k : z .abort .began ≤ length (stage .past) = omega (arith, E .began) in
+      record {
+        exact =
+            record {
+              began = E .began;
+              removed = E .removed ∙ only-grow (stage .past) c (z .abort) (z .abort .looked) k;
+              once = E .once;
+              most = E .most;
+              among = E .among;
+            };
+        by = O .by;
+        clean = λ t f p l. isOld-grow (stage .past) c (z .abort) (stage .since t) k ∙ O .clean t f p l;
+      }
 
-    pub over-grow :
-        (endpoints : ℕ → Endpoint) (z : Ended) → Over past n since threads endpoints z
-        → Over (past ++ (c ∷ [])) n since threads endpoints z
-    over-grow endpoints z O =
-        let E = O .exact in
-        record {
-          exact = exact-grow (z .abort) E;
-          by = O .by;
-          clean = λ t f p l. isOld-grow past c (z .abort) (since t) (omega arith) ∙ O .clean t f p l;
-        }
-
-    pub core-grow :
-        (answers : List Answer) (a : Answer) (endpoints : ℕ → Endpoint) (standing : ℕ → Option Aborting)
-        (ended : List Ended)
-        → Core past answers n since threads endpoints standing ended
-        → Core (past ++ (c ∷ [])) (answers ++ (a ∷ [])) n since threads endpoints standing ended
-    core-grow answers a endpoints standing ended C =
-        record {
-          made = λ t d h. made-grow past answers c d a (since t) (C .made t d h);
-          apart = C .apart;
-          stands = λ e. both-grow e (endpoints e .abort) (standing e) (C .stands e);
-          over = λ z i. over-grow endpoints z (C .over z i);
-        }
+  pub core-grow :
+      {f : ℕ → Thread} {y : ℕ → Endpoint} {standing : ℕ → Option Aborting} {ended : List Ended}
+      → Core stage f y standing ended → Core (grown c r stage) f y standing ended
+  core-grow {f} {y} {standing} C =
+      record {
+        made = λ t d h. made-grow (stage .past) (stage .answers) c d r (stage .since t) (C .made t d h);
+        apart = C .apart;
+        stands = λ e. both-grow f e (y e .abort) (standing e) (C .stands e);
+        over = λ z i. over-grow z (C .over z i);
+      }

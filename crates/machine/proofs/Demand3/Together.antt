@@ -5,11 +5,8 @@ use mathlib.Core.Logic.{_⊎_, inl, inr, ⊎-elim}
 use mathlib.Core.Bool.{Bool, true, false, _&&_, not}
 use mathlib.Core.Option.{Option, none, some}
 use mathlib.Core.List.{List, [], _∷_, _++_, map, append-assoc, append-nil}
-use native.Mathlib.Omega.{arith}
 use lib.Dec.{eqb}
 use borrow.Author.Tests.{ne-eqb, eq-eqb, lt-ltb}
-use Rattle.machine.specs.declared.Answer.{Answer}
-use Rattle.machine.specs.declared.Call.{Call}
 use Rattle.machine.specs.Lists.{pick, put, without, only, Mem}
 use Rattle.machine.specs.State.{State, Thread, able, sending, Abort, live, Endpoint, withPlace}
 use Rattle.machine.specs.Scheduling.{enqueue, wake}
@@ -27,7 +24,7 @@ use Rattle.machine.proofs.Sublists.{only-append, only-without, isIn-tru
 use Rattle.machine.proofs.Sublists.{map-without}
 use Rattle.machine.specs.Mid.{Mid}
 use Rattle.machine.proofs.Preserved.AbortSteps.{mid-look, steady-look}
-use Rattle.machine.proofs.Demand3.Standing.{sends-call, Stood, Both, Core}
+use Rattle.machine.proofs.Demand3.Standing.{Stage, sends-call, Stood, Both, Core}
 use Rattle.machine.proofs.Demand3.Owing.{tied-still}
 use Rattle.machine.proofs.Demand3.Leaving.{Fewer, fewer-sends, leaves-wakeFrom, core-at}
 use Rattle.machine.proofs.Demand3.Ending.{sender-sends, sends-sender}
@@ -62,12 +59,12 @@ mem-isNone w (x ∷ l) m = refl
 
 -- The abort x has looked at the first of what is pending, and removed it if it is old.
 stood-look :
-    (past : List Call) (n : ℕ) (since : ℕ → ℕ) (f g : ℕ → Thread) (e u : ℕ) (l : List ℕ) (a : Abort) (x : Aborting)
+    (stage : Stage) {f g : ℕ → Thread} {e : ℕ} (u : ℕ) (l : List ℕ) {a : Abort} {x : Aborting}
     → ((t : ℕ) → g t .place ≡ sending e → f t .place ≡ sending e) → a .pending ≡ u ∷ l → (b : Bool)
-    → isOld past x (since u) ≡ b → Stood past n since f e a x
-    → Stood past n since g e (record { badge = a .badge; owner = a .owner; pending = without u (a .pending) })
-    (lookedAt (record { waiter = since u; removed = b }) x)
-stood-look past n since f g e u l a x places first b old S =
+    → isOld (stage .past) x (stage .since u) ≡ b → Stood stage f e a x
+    → Stood stage g e (record { badge = a .badge; owner = a .owner; pending = without u (a .pending) })
+    (lookedAt (record { waiter = stage .since u; removed = b }) x)
+stood-look stage {f} {g} {e} u l {a} {x} places first b old S =
     record {
       endpoint = S .endpoint;
       badge = S .badge;
@@ -76,31 +73,32 @@ stood-look past n since f g e u l a x places first b old S =
       once = S .once;
       part = part;
       left = λ t p i. left t (S .left t (places t p) i);
-      removed = removed b old ∙ sym (only-append (isOld past x) (x .looked) (since u ∷ []));
+      removed = removed b old ∙ sym (only-append (isOld (stage .past) x) (x .looked) (stage .since u ∷ []));
     }
   where
-    part : Sub ((x .looked ++ (since u ∷ [])) ++ map since (without u (a .pending))) (x .onto)
+    part : Sub ((x .looked ++ (stage .since u ∷ [])) ++ map (stage .since) (without u (a .pending))) (x .onto)
     part =
         rw (append-assoc, first, without-hit u u l refl)
-        (sub-trans (sub-after (x .looked) (take (sub-map since (sub-without u l)))) (rw first at (S .part)))
+        (sub-trans (sub-after (x .looked) (take (sub-map (stage .since) (sub-without u l)))) (rw first at (S .part)))
 
     left :
-        (t : ℕ) → Mem (since t) (x .looked) ⊎ Mem t (a .pending)
-        → Mem (since t) (x .looked ++ (since u ∷ [])) ⊎ Mem t (without u (a .pending))
-    left t (inl m) = inl (mem-left (since t) (x .looked) (since u ∷ []) m)
+        (t : ℕ) → Mem (stage .since t) (x .looked) ⊎ Mem t (a .pending)
+        → Mem (stage .since t) (x .looked ++ (stage .since u ∷ [])) ⊎ Mem t (without u (a .pending))
+    left t (inl m) = inl (mem-left (stage .since t) (x .looked) (stage .since u ∷ []) m)
     left t (inr m) = go (same? t u)
       where
-        go : Same t u → Mem (since t) (x .looked ++ (since u ∷ [])) ⊎ Mem t (without u (a .pending))
-        go (same i _) = inl (rw i (mem-last (since u) (x .looked)))
+        go : Same t u → Mem (stage .since t) (x .looked ++ (stage .since u ∷ [])) ⊎ Mem t (without u (a .pending))
+        go (same i _) = inl (rw i (mem-last (stage .since u) (x .looked)))
         go (other i _) = inr (mem-keep u t (a .pending) m i)
 
     removed :
-        (c : Bool) → isOld past x (since u) ≡ c
-        → pick c (x .removed ++ (since u ∷ [])) (x .removed)
-        ≡ only (isOld past x) (x .looked) ++ only (isOld past x) (since u ∷ [])
+        (c : Bool) → isOld (stage .past) x (stage .since u) ≡ c
+        → pick c (x .removed ++ (stage .since u ∷ [])) (x .removed)
+        ≡ only (isOld (stage .past) x) (x .looked) ++ only (isOld (stage .past) x) (stage .since u ∷ [])
     removed true h =
-        rw (only-hit (isOld past x) (since u) [] h, only-nil) (ap (λ (r : List ℕ). r ++ (since u ∷ [])) (S .removed))
-    removed false h = rw (only-miss (isOld past x) (since u) [] h, only-nil, append-nil) (S .removed)
+        rw (only-hit (isOld (stage .past) x) (stage .since u) [] h, only-nil)
+        (ap (λ (r : List ℕ). r ++ (stage .since u ∷ [])) (S .removed))
+    removed false h = rw (only-miss (isOld (stage .past) x) (stage .since u) [] h, only-nil, append-nil) (S .removed)
 
 -- Between two looks
 
@@ -122,34 +120,33 @@ walkAt since e s o d =
 
 -- The state and the walk go together, in a call 12 at endpoint e.
 pub record Going
-    (past : List Call) (answers : List Answer) (n : ℕ) (since : ℕ → ℕ) (standing : ℕ
-    → Option Aborting) (e : ℕ) (s : State)
-    (o : Option Aborting) (d : Gone) : Type 0 where
+    (stage : Stage) (standing : ℕ → Option Aborting) (e : ℕ) (s : State) (o : Option Aborting) (d : Gone) : Type 0 where
   pub mid : Mid s
-  pub core : Core past answers n since (s .threads) (s .endpoints) (put standing e o) (d .ended)
+  pub core : Core stage (s .threads) (s .endpoints) (put standing e o) (d .ended)
   pub tied : Tied (s .threads) (s .endpoints) (d .debts) (d .ended)
 
-module _
-    (past : List Call) (answers : List Answer) (n : ℕ) (since : ℕ → ℕ) (standing : ℕ → Option Aborting) (e : ℕ)
-    (s : State) where
+module _ (stage : Stage) (standing : ℕ → Option Aborting) (e : ℕ) (s : State) where
+  abbrev since : ℕ → ℕ
+  since = stage .since
+
   abbrev queue : List ℕ
   queue = senders (s .threads) (s .endpoints e .waiters)
 
   -- The machine's abort, where the history's stands.
   pub going-abort :
-      (o : Option Aborting) (d : Gone) (x : Aborting) → o ≡ some x → Going past answers n since standing e s o d
-      → (a : Abort) × (s .endpoints e .abort ≡ some a) × Stood past n since (s .threads) e a x
+      (o : Option Aborting) (d : Gone) (x : Aborting) → o ≡ some x → Going stage standing e s o d
+      → (a : Abort) × (s .endpoints e .abort ≡ some a) × Stood stage (s .threads) e a x
   going-abort o d x h G =
       go (s .endpoints e .abort) refl (rw (put-same standing e o, h) at (G .core .stands e))
     where
-      go : (k : Option Abort) → s .endpoints e .abort ≡ k → Both past n since (s .threads) e k (some x)
-          → (a : Abort) × (s .endpoints e .abort ≡ some a) × Stood past n since (s .threads) e a x
+      go : (k : Option Abort) → s .endpoints e .abort ≡ k → Both stage (s .threads) e k (some x)
+          → (a : Abort) × (s .endpoints e .abort ≡ some a) × Stood stage (s .threads) e a x
       go none p B = absurd B
       go (some a) p B = (a, p, B)
 
   module _
-      (x : Aborting) (d : Gone) (G : Going past answers n since standing e s (some x) d) (a : Abort)
-      (was : s .endpoints e .abort ≡ some a) (S : Stood past n since (s .threads) e a x) where
+      (x : Aborting) (d : Gone) (G : Going stage standing e s (some x) d) (a : Abort)
+      (was : s .endpoints e .abort ≡ some a) (S : Stood stage (s .threads) e a x) where
     pending-sends : (u : ℕ) → Mem u (a .pending) → s .threads u .place ≡ sending e
     pending-sends u m = G .mid .marks .part e a was .sends u m
 
@@ -215,7 +212,7 @@ module _
       cursor = subst (λ (k : List ℕ). Mem u k) (sym first) (inl refl)
 
       -- It is removed exactly if it is old.
-      look-old : isOld past x (since u) ≡ hits e u s
+      look-old : isOld (stage .past) x (since u) ≡ hits e u s
       unfolding hits
       look-old =
           rw (
@@ -233,22 +230,20 @@ module _
       core-looked :
           (g : ℕ → Thread) (waiters : List ℕ)
           → Fewer (s .threads) g (s .endpoints) (put (s .endpoints) e (looked-entry waiters))
-          → Core past answers n since g (put (s .endpoints) e (looked-entry waiters))
+          → Core stage g (put (s .endpoints) e (looked-entry waiters))
           (put standing e (some (lookedAt (record { waiter = since u; removed = hits e u s }) x))) (d .ended)
       unfolding looked-entry
       core-looked g waiters F =
-          subst (λ (k : ℕ → Option Aborting). Core past answers n since g
-          (put (s .endpoints) e (looked-entry waiters)) k (d .ended))
+          subst
+          (λ (k : ℕ → Option Aborting). Core stage g (put (s .endpoints) e (looked-entry waiters)) k (d .ended))
           (put-again standing e (some x) _)
-          (core-at past n n (omega arith) since (s .threads) g answers (put standing e (some x)) (d .ended) (d .ended) e
-          (looked-entry waiters) _ F
-          (rw was
-          (stood-look past n since (s .threads) g e u l a x (λ t h. fewer-sends F t e h .0) first (hits e u s) look-old
-          S)) (λ z i. inl i) (G .core))
+          (core-at (d .ended) e (looked-entry waiters) _ F
+          (rw was (stood-look stage u l (λ t h. fewer-sends F t e h .0) first (hits e u s) look-old S))
+          (λ z i. inl i) (G .core))
 
       core-look :
           (b : Bool)
-          → Core past answers n since (lookAt b e u s .threads) (lookAt b e u s .endpoints)
+          → Core stage (lookAt b e u s .threads) (lookAt b e u s .endpoints)
           (put standing e (some (lookedAt (record { waiter = since u; removed = hits e u s }) x))) (d .ended)
       unfolding lookAt wakeFrom wake enqueue leaveEndpoint looked-entry
       core-look true = core-looked _ _ (leaves-wakeFrom s e u 3 0 0 .fewer)
@@ -289,7 +284,7 @@ module _
       look-queued false = rw (put-same (s .endpoints) e (looked-entry (s .endpoints e .waiters)))
 
       pub going-look :
-          Going past answers n since standing e (look e u s)
+          Going stage standing e (look e u s)
           (some (lookedAt (record { waiter = since u; removed = hits e u s }) x)) d
       unfolding look
       going-look =

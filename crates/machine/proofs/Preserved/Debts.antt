@@ -15,7 +15,8 @@ use Rattle.machine.specs.Sound.{Stretch, Owners}
 use Rattle.machine.proofs.Preserved.Ready.{none-some, some-one}
 use Rattle.machine.proofs.Lists.{put-all, put-same}
 use Rattle.machine.specs.Mid.{Mid}
-use Rattle.machine.proofs.Preserved.Statuses.{Keeps, keeps-self, May, EntryFits, may-stay, fits-stay, bearing, owing, owing-same}
+use Rattle.machine.proofs.Preserved.Statuses.{Keeps, keeps-self, May, EntryFits, may-stay, fits-stay, bearing}
+use Rattle.machine.proofs.Preserved.Statuses.{owing, owing-same}
 use Rattle.machine.proofs.Preserved.Statuses.{owing-other, keeps-debt, keeps-both, mid-debt, mid-entry, mid-both}
 
 -- Constructors told apart.

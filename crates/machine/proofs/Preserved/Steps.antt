@@ -15,7 +15,8 @@ use Rattle.machine.specs.Sound.{Sound}
 use Rattle.machine.proofs.Lists.{clash}
 use Rattle.machine.proofs.Preserved.Ready.{none-some}
 use Rattle.machine.proofs.Preserved.Sites.{differ, not-at, not-awaited}
-use Rattle.machine.proofs.Preserved.Threads.{create-sound, destroy-sound, priority-sound, tick-sound, yield-sound}
+use Rattle.machine.proofs.Preserved.Threads.{create-sound, destroy-sound, priority-sound, tick-sound}
+use Rattle.machine.proofs.Preserved.Threads.{yield-sound}
 use Rattle.machine.proofs.Preserved.Transfers.{endpoint-sound, send-sound, receive-sound}
 use Rattle.machine.proofs.Preserved.Interrupts.{interrupt-sound, wait-sound}
 use Rattle.machine.proofs.Preserved.Debts.{nothing-owns}

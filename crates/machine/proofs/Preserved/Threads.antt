@@ -22,9 +22,11 @@ use Rattle.machine.proofs.Lists.{clash, put-same, put-other, put-all}
 use Rattle.machine.specs.Mid.{Mid}
 use Rattle.machine.proofs.Preserved.Mid.{sound-mid}
 use Rattle.machine.proofs.Preserved.Parts.{At, Entry, Levels, Site, LinesFit, parts, whole}
-use Rattle.machine.proofs.Preserved.Ready.{Else, put-else, put-keeps, put-place, none-some, some-one, levels-aside}
+use Rattle.machine.proofs.Preserved.Ready.{Else, put-else, put-keeps, put-place, none-some, some-one}
+use Rattle.machine.proofs.Preserved.Ready.{levels-aside}
 use Rattle.machine.proofs.Preserved.Ready.{levels-runs, levels-stop, levels-join, levels-leave}
-use Rattle.machine.proofs.Preserved.Sites.{differ, not-at, at-one, left, left-owner, site-aside, site-leave, site-same}
+use Rattle.machine.proofs.Preserved.Sites.{differ, not-at, at-one, left, left-owner, site-aside, site-leave}
+use Rattle.machine.proofs.Preserved.Sites.{site-same}
 use Rattle.machine.proofs.Preserved.Sites.{lines-aside, lines-leave, lines-same, owned-same}
 use Rattle.machine.proofs.Preserved.Waking.{mid-standDown}
 use Rattle.machine.proofs.Preserved.Choosing.{choose-sound}

@@ -16,8 +16,10 @@ use Rattle.machine.proofs.Lists.{put-same, put-other, put-all}
 use Rattle.machine.specs.Mid.{Mid}
 use Rattle.machine.proofs.Preserved.Parts.{At, Entry, Levels, Site, parts, whole}
 use Rattle.machine.proofs.Preserved.Ready.{Else, put-else, put-keeps, put-place, levels-stop, levels-join}
-use Rattle.machine.proofs.Preserved.Sites.{differ, not-at, at-one, left, left-owner, joined, not-awaited, site-aside}
-use Rattle.machine.proofs.Preserved.Sites.{site-leave, site-join, lines-aside, lines-leave, lines-join, owned-same}
+use Rattle.machine.proofs.Preserved.Sites.{differ, not-at, at-one, left, left-owner, joined, not-awaited}
+use Rattle.machine.proofs.Preserved.Sites.{site-aside}
+use Rattle.machine.proofs.Preserved.Sites.{site-leave, site-join, lines-aside, lines-leave, lines-join}
+use Rattle.machine.proofs.Preserved.Sites.{owned-same}
 
 -- The threads with t at another place, with another outcome, badge and message.
 abbrev moved : (ℕ → Thread) → ℕ → Place → ℕ → ℕ → ℕ → ℕ → Thread

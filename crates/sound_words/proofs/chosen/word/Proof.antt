@@ -4,7 +4,8 @@ use mathlib.Core.Bool.{not}
 use native.Mathlib.Omega.{arith}
 use lib.Dec.{eqb}
 use borrow.Author.Needs.{needs}
-use Rattle.sound_words.proofs.Summing.{share-of, Summed, levels-of, summed-none, summed-more, summed-low, sum-fits}
+use Rattle.sound_words.proofs.Summing.{share-of, Summed, levels-of, summed-none, summed-more, summed-low}
+use Rattle.sound_words.proofs.Summing.{sum-fits}
 use Rattle.sound_words.proofs.Summing.{word-is}
 use Rattle.sound_words.proofs.chosen.word.Statement.{statement}
 use Rattle.sound_words.proofs.chosen.word.Tie as tie

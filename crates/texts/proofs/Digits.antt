@@ -8,8 +8,7 @@ use native.Mathlib.Nat.{pow-succ'}
 use lib.Dec.{ltb}
 use lib.ListN.{length, length-append}
 use borrow.Author.Tests.{lt-ltb, le-ltb, ltb-true, ltb-false}
-use Rattle.machine.specs.Lists.{pick}
-use Rattle.listing.specs.Line.{digit, lastDigits, decimal}
+use Rattle.texts.specs.Decimal.{digit, lastDigits, decimal, spaced}
 
 -- Whether n has one digit or more.
 pub data Digits (n : ℕ) : Type 0 where
@@ -51,14 +50,6 @@ pub decimal-more : (n : ℕ) → 10 ≤ n → decimal n ≡ decimal (n / 10) ++ 
 unfolding decimal
 decimal-more n h = rw (last-more n n h, last-enough n (suc (n / 10)) (n / 10) (omega arith) (omega arith))
 
--- The number in decimal, by itself: one digit, or the number without its last digit and then that digit.
-pub decimal-is : (n : ℕ) → decimal n ≡ pick (ltb n 10) (digit n ∷ []) (decimal (n / 10) ++ (digit (n % 10) ∷ []))
-decimal-is n = go (digits? n)
-  where
-    go : Digits n → decimal n ≡ pick (ltb n 10) (digit n ∷ []) (decimal (n / 10) ++ (digit (n % 10) ∷ []))
-    go (one s) = rw (lt-ltb n 10 s) (decimal-one n s)
-    go (more l) = rw (le-ltb n 10 l) (decimal-more n l)
-
 -- How many digits.
 
 pub length-one : (n : ℕ) → n < 10 → length (decimal n) ≡ 1
@@ -84,3 +75,7 @@ length-below (suc k) n h = go (digits? n) (length-below k (n / 10))
     go (more l) ih =
         let g : n < 10 * 10 ^ suc k = rw (pow-succ' 10 (suc k)) at h in
         omega (arith, length-more n l, ih (omega arith))
+
+pub length-spaced : (n : ℕ) → length (spaced n) ≡ length (decimal n) + 1
+unfolding spaced
+length-spaced n = rw length-append

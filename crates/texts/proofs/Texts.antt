@@ -1,4 +1,4 @@
--- Texts written into a buffer: the laws of pasted, two texts in a row, and a number's digits, the last one first.
+-- Texts in a buffer: the laws of pasted, and a number's digits, the last stored first.
 use Prim.Native.Nat.{ℕ, suc, _+_, _/_, _%_, _≤_, _<_}
 use mathlib.Core.Path.{_≡_, sym, _∙_, ap}
 use mathlib.Core.List.{List, [], _∷_, _++_, append-assoc, append-nil}
@@ -8,9 +8,9 @@ use native.Mathlib.Nat.{add-assoc, add-zero, zero-add}
 use lib.ListN.{length, take, drop, set, length-append, length-take, length-drop, length-set, take-append-drop}
 use lib.Seq.{take-at, drop-append-add, drop-drop, set-split}
 use lib.Seq.{take-all, append-snoc, take-set-le, drop-set-lt, drop-cons, getD-set-same}
-use Rattle.listing.specs.Line.{digit, decimal}
-use Rattle.listing.specs.Buffer.{pasted, Wrote}
-use Rattle.listing.proofs.Digits.{decimal-one, decimal-more, length-one, length-more}
+use Rattle.texts.specs.Decimal.{digit, decimal}
+use Rattle.texts.specs.Buffer.{pasted}
+use Rattle.texts.proofs.Digits.{decimal-one, decimal-more, length-one, length-more}
 
 module _ (out : List ℕ) (at : ℕ) (s : List ℕ) (fits : at + length s ≤ length out) where
   -- The bytes up to the end of the text.
@@ -21,11 +21,11 @@ module _ (out : List ℕ) (at : ℕ) (s : List ℕ) (fits : at + length s ≤ le
   unfolding pasted
   length-pasted = simp (length-append, length-take, length-drop) (omega arith)
 
-  take-pasted : take (at + length s) (pasted out at s) ≡ take at out ++ s
+  pub take-pasted : take (at + length s) (pasted out at s) ≡ take at out ++ s
   unfolding pasted
   take-pasted = take-at (take at out ++ s) (drop (at + length s) out) (at + length s) length-upto
 
-  drop-pasted : (k : ℕ) → drop (at + length s + k) (pasted out at s) ≡ drop (at + length s + k) out
+  pub drop-pasted : (k : ℕ) → drop (at + length s + k) (pasted out at s) ≡ drop (at + length s + k) out
   unfolding pasted
   drop-pasted k =
       ap (λ (j : ℕ). drop (j + k) (take at out ++ s ++ drop (at + length s) out)) (sym length-upto)
@@ -59,35 +59,6 @@ unfolding pasted
 pasted-last out at s d h =
     rw (take-set-le at out (at + length s) d (omega arith), drop-set out (at + length s) d h)
     (simp (append-assoc, length-append, ← add-assoc, add-one))
-
--- A text copied to the front.
-pub copied :
-    {out out′ text : List ℕ} {r : ℕ} → r ≡ length text
-    → out′ ≡ take (length text) text ++ drop (length text) out → Wrote out 0 text r out′
-unfolding pasted
-copied {out} {out′} {text} {r} e g =
-    record {
-      next = omega (arith, e);
-      bytes =
-          rw zero-add
-          (g ∙ ap (λ (t : List ℕ). t ++ drop (length text) out) (take-all (length text) text (omega arith)));
-    }
-
--- One byte written, and two texts written in a row.
-
-pub wrote-byte :
-    {m m′ : List ℕ} {at d p : ℕ} → at < length m → p ≡ at + 1 → m′ ≡ set m at d → Wrote m at (d ∷ []) p m′
-wrote-byte {m} {m′} {at} {d} {p} h e g = record { next = e; bytes = g ∙ set-is m at d h }
-
-pub wrote-then :
-    {m m₁ m₂ s t : List ℕ} {at p q : ℕ}
-    → at + length s ≤ length m → Wrote m at s p m₁ → Wrote m₁ p t q m₂ → Wrote m at (s ++ t) q m₂
-wrote-then {m} {m₁} {m₂} {s} {t} {at} {p} {q} h v w = record {
-  next = rw length-append (omega (arith, v .next, w .next));
-  bytes =
-      w .bytes ∙ ap (λ (l : List ℕ). pasted l p t) (v .bytes) ∙ ap (λ (k : ℕ). pasted (pasted m at s) k t) (v .next)
-      ∙ pasted-then m at s h t;
-}
 
 -- A number's digits, the last stored first.
 

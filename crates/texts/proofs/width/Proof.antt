@@ -3,10 +3,10 @@ use Prim.Native.Nat.{_+_}
 use mathlib.Core.Path.{_≡_}
 use native.Mathlib.Omega.{arith}
 use lib.ListN.{length}
-use Rattle.listing.specs.Line.{decimal}
-use Rattle.listing.proofs.Digits.{length-one, length-more, length-below}
-use Rattle.listing.proofs.width.Statement.{statement}
-use Rattle.listing.proofs.width.Tie as tie
+use Rattle.texts.specs.Decimal.{decimal}
+use Rattle.texts.proofs.Digits.{length-one, length-more, length-below}
+use Rattle.texts.proofs.width.Statement.{statement}
+use Rattle.texts.proofs.width.Tie as tie
 
 abbrev Inv-loop : tie.InvT-loop
 Inv-loop n left₀ k₀ left k = k + length (decimal left) ≡ length (decimal n) + 1

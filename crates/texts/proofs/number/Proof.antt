@@ -5,15 +5,15 @@ use mathlib.Core.Path.{_≡_, refl, _∙_}
 use native.Mathlib.Omega.{arith}
 use lib.ListN.{length, length-set}
 use borrow.Author.Needs.{needs}
-use Rattle.listing.specs.Line.{decimal}
-use Rattle.listing.specs.Buffer.{pasted}
-use Rattle.listing.proofs.Digits.{length-some, length-more}
-use Rattle.listing.proofs.Texts.{digit-stored, digit-first}
-use Rattle.listing.proofs.number.Statement.{statement}
-use Rattle.listing.proofs.number.Tie as tie
-use Rattle.listing.proofs.number.Reads as reads
-use Rattle.listing.proofs.number.Lts as lts
-use Rattle.listing.proofs.width.Reads as width-reads
+use Rattle.texts.specs.Decimal.{decimal}
+use Rattle.texts.specs.Buffer.{pasted}
+use Rattle.texts.proofs.Digits.{length-some, length-more}
+use Rattle.texts.proofs.Texts.{digit-stored, digit-first}
+use Rattle.texts.proofs.number.Statement.{statement}
+use Rattle.texts.proofs.number.Tie as tie
+use Rattle.texts.proofs.number.Reads as reads
+use Rattle.texts.proofs.number.Lts as lts
+use Rattle.texts.proofs.width.Reads as width-reads
 
 abbrev Inv-loop : tie.InvT-loop
 Inv-loop out₀ at n end left₀ i₀ out left i =
