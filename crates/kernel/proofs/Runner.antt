@@ -1,5 +1,5 @@
 -- Who runs, read from the tables.
-use Prim.Native.Nat.{ℕ, zero, suc, _-_, _≤_, _<_}
+use Prim.Native.Nat.{ℕ, zero, suc, _+_, _%_, _^_, _≤_, _<_}
 use mathlib.Core.Path.{_≡_, refl, sym, _∙_, ap}
 use mathlib.Core.Bool.{Bool, true, false}
 use mathlib.Core.Option.{Option, none, some, Option·some-injective}
@@ -7,7 +7,7 @@ use mathlib.Core.List.{List}
 use native.Mathlib.Omega.{arith}
 use lib.Dec.{eqb, leb}
 use lib.ListN.{length}
-use borrow.Author.Tests.{eq-eqb, ne-eqb, le-leb, lt-leb, leb-true}
+use borrow.Author.Tests.{eq-eqb, ne-eqb, le-leb, leb-true}
 use Rattle.machine.specs.declared.Runner.the-variants.{Nobody, Thread}
 use Rattle.machine.specs.Lists.{pick}
 use Rattle.machine.specs.State.{State}
@@ -33,18 +33,22 @@ module _ (m : List ℕ) (i : ℕ) {r : ℕ} (h : length m ≡ tableWords) (A : A
   unfolding runnerIn
   linked = rw (eq-eqb (length m) tableWords h, here)
 
-  pub nobody-runs : r ≡ 0 → Nobody ≡ runnerIn m
-  nobody-runs z = ap (λ (w : ℕ). runnerOf (asLink w)) (sym z) ∙ linked
+  -- The word less 1, where 0 wraps.
+  module _ {t : ℕ} (wraps : (t + 1) % 2 ^ 32 ≡ r) where
+    pub thread-runs : t ≤ 255 → Thread t ≡ runnerIn m
+    thread-runs k =
+        let next : r ≡ suc t = omega (arith, wraps, k) in
+        ap (λ (b : Bool). runnerOf (pick b (suc t) 0)) (sym (le-leb (suc t) 256 (omega (arith, k))))
+        ∙ ap (λ (w : ℕ). runnerOf (asLink w)) (sym next) ∙ linked
 
-  pub no-link : 256 < r → Nobody ≡ runnerIn m
-  no-link k = ap (λ (b : Bool). runnerOf (pick b r 0)) (sym (lt-leb r 256 k)) ∙ linked
-
-  pub thread-runs : (r ≡ 0 → ⊥) → r ≤ 256 → Thread (r - 1) ≡ runnerIn m
-  thread-runs z k = before r z ∙ ap (λ (b : Bool). runnerOf (pick b r 0)) (sym (le-leb r 256 k)) ∙ linked
-    where
-      before : (w : ℕ) → (w ≡ 0 → ⊥) → Thread (w - 1) ≡ runnerOf w
-      before zero n = absurd (n refl)
-      before (suc t) n = ap Thread (omega arith)
+    pub nobody-runs : t < 2 ^ 32 → 255 < t → Nobody ≡ runnerIn m
+    nobody-runs n k = go (leb r 256) refl ∙ linked
+      where
+        go : (b : Bool) → leb r 256 ≡ b → Nobody ≡ runnerOf (pick b r 0)
+        go true z =
+            let none : r ≡ 0 = omega (arith, wraps, n, k, leb-true r 256 z) in
+            ap runnerOf (sym none)
+        go false z = refl
 
 -- Whatever the words are, whoever runs is a thread.
 pub running-within : (m : List ℕ) (t : ℕ) → threadOf (runnerIn m) ≡ some t → t ≤ 255

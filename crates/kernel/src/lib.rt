@@ -108,11 +108,10 @@ pub fn running(tables: &[u32]) -> Runner
         return Runner::Nobody;
     }
     let link = words::get(tables, words::running_at());
-    if link == 0 {
+    // The link 0, to nobody, wraps: like every word that is no link it comes out above 255.
+    let thread = std::num::wrapping_sub_u32(link, 1);
+    if thread > 255 {
         return Runner::Nobody;
     }
-    if link > 256 {
-        return Runner::Nobody;
-    }
-    Runner::Thread(link - 1)
+    Runner::Thread(thread)
 }

@@ -1,5 +1,5 @@
 -- One word, in tables of the right length, if it is a link to a thread.
-use Rattle.kernel.proofs.Runner.{no-tables, nobody-runs, no-link, thread-runs}
+use Rattle.kernel.proofs.Runner.{no-tables, nobody-runs, thread-runs}
 use native.Mathlib.Omega.{arith}
 use borrow.Author.Needs.{needs}
 use Rattle.kernel.proofs.running.Statement.{statement}
@@ -14,25 +14,24 @@ running-at-requires c κs = search needs
 get-requires : tie.Need-get-requires
 get-requires c κs = search needs
 
+wrapping-sub-u32-requires : tie.Need-wrapping-sub-u32-requires
+wrapping-sub-u32-requires c κs = search needs
+
 returns-2 : tie.Need-returns-2
 returns-2 c =
-    nobody-runs _ _ (c .before .before .before .if1 .left) (c .before .before .running-at .ensures)
-    (c .before .get .ensures) (c .if2 .taken)
+    let less = c .before in
+    let read = less .before in
+    nobody-runs _ _ (read .before .before .if1 .left) (read .before .running-at .ensures) (read .get .ensures)
+    (less .wrapping-sub-u32 .ensures) (search needs) (c .if2 .taken)
 
 returns-3 : tie.Need-returns-3
 returns-3 c =
-    no-link _ _ (c .before .before .before .before .if1 .left) (c .before .before .before .running-at .ensures)
-    (c .before .before .get .ensures) (c .if3 .taken)
-
-sub-t5 : tie.Need-sub-t5
-sub-t5 c = search needs
-
-returns-4 : tie.Need-returns-4
-returns-4 c =
-    thread-runs _ _ (c .before .before .before .before .if1 .left) (c .before .before .before .running-at .ensures)
-    (c .before .before .get .ensures) (c .before .if2 .left) (omega (arith, c .if3 .left))
+    let less = c .before in
+    let read = less .before in
+    thread-runs _ _ (read .before .before .if1 .left) (read .before .running-at .ensures) (read .get .ensures)
+    (less .wrapping-sub-u32 .ensures) (omega (arith, c .if2 .left))
 
 pub running-spec : {M : Type 1} → statement M
 running-spec =
     tie.close
-    (tie.spec returns running-at-requires get-requires returns-2 returns-3 sub-t5 returns-4)
+    (tie.spec returns running-at-requires get-requires wrapping-sub-u32-requires returns-2 returns-3)
