@@ -14,11 +14,11 @@ use Rattle.machine.specs.declared.Runner.{Runner}
 use Rattle.machine.specs.Calls.{numberOf}
 use Rattle.machine.specs.Lists.{pick}
 use Rattle.machine.specs.Results.{plain, threadOf}
+use Rattle.journal.specs.Rows.{Row}
 use Rattle.journal.specs.Words.{readAt}
 use Rattle.texts.specs.Buffer.{Wrote}
 use Rattle.texts.proofs.Writing.{wrote-nothing}
-use Rattle.listing.specs.declared.Listed.{Listed}
-use Rattle.listing.specs.Line.{lineOf, rowOf}
+use Rattle.listing.specs.Line.{lineOf}
 use Rattle.lent_tables.specs.Entries.{Lent, runnerIn}
 use Rattle.input.specs.Words.{wordsIn}
 use Rattle.rows.specs.declared.Turn.{Turn}
@@ -31,8 +31,8 @@ use Rattle.lister.specs.Listing.{lastRow}
 use Rattle.lister.specs.Feeding.{Progress, Told, toldOf, toldBy, endingWith, ending}
 use Rattle.lister.specs.Buffers.{progressOf, emptied, takesCall, stopping, Feeds}
 
-abbrev listed : ℕ → ℕ → Answer → Runner → Listed
-listed index call answer who = record { index = index; call = call; answer = answer; running = who }
+abbrev rowWith : ℕ → ℕ → Answer → Runner → Row
+rowWith index call answer who = record { index = index; call = call; answer = answer; running = threadOf who }
 
 -- The lister and the bytes used that are given back.
 abbrev pub fedTo : Lister → ℕ → Fed
@@ -61,13 +61,13 @@ module _ (l : Lister) (out : List ℕ) (used : ℕ) where
   pub stop-told :
       (turn : Turn) (code : ℕ) (who : Runner) → turn ≡ Stopped code who
       → (e : Lister) → e ≡ emptied l (l .index) false → (a : Answer) → a ≡ plain code
-      → (n : ℕ) (out′ : List ℕ) → Wrote out used (lineOf (rowOf (listed (l .index) 0 a who))) n out′
+      → (n : ℕ) (out′ : List ℕ) → Wrote out used (lineOf (rowWith (l .index) 0 a who)) n out′
       → (m : Lent) → Feeds (stopping turn (progressOf l m)) out used (fedTo e n) m out′
   stop-told turn code who found e is a plainly n out′ w m =
       subst (λ (t : Turn). Feeds (stopping t (progressOf l m)) out used (fedTo e n) m out′) (sym found)
       (record {
         after = ap (λ (k : Lister). progressOf k m) is;
-        text = subst (λ (b : Answer). Wrote out used (lineOf (rowOf (listed (l .index) 0 b who))) n out′) plainly w;
+        text = subst (λ (b : Answer). Wrote out used (lineOf (rowWith (l .index) 0 b who)) n out′) plainly w;
       })
 
   module _ (m m′ : Lent) (out′ : List ℕ) where
@@ -103,7 +103,7 @@ module _ (l : Lister) (out : List ℕ) (used : ℕ) where
         → (c : Call) (a : Answer) (who : Runner) (next : ℕ) → turn ≡ Took c a who next
         → (number : ℕ) → number ≡ numberOf c → (index : ℕ) → index ≡ (l .index + 1) % 2 ^ 64
         → (k : Lister) → k ≡ emptied l index (l .going)
-        → (n : ℕ) → Wrote out used (lineOf (rowOf (listed (l .index) number a who))) n out′
+        → (n : ℕ) → Wrote out used (lineOf (rowWith (l .index) number a who)) n out′
         → Feeds (takesCall (progressOf l m)) out used (fedTo k n) m′ out′
     call-answered turn words f e c a who next found number called index one k is n w =
         subst (λ (o : Told). Feeds o out used (fedTo k n) m′ out′)
@@ -111,7 +111,7 @@ module _ (l : Lister) (out : List ℕ) (used : ℕ) where
         (record {
           after =
               ap (λ (j : Lister). progressOf j m′) (is ∙ ap (λ (i : ℕ). emptied l i (l .going)) one);
-          text = subst (λ (j : ℕ). Wrote out used (lineOf (rowOf (listed (l .index) j a who))) n out′) called w;
+          text = subst (λ (j : ℕ). Wrote out used (lineOf (rowWith (l .index) j a who)) n out′) called w;
         })
 
 -- The end.
@@ -145,11 +145,11 @@ module _ (l : Lister) (m : Lent) (out : List ℕ) where
   pub held-ends :
       l .going ≡ true → (l .held ≡ 0 → ⊥) → length (l .bytes) ≡ 12
       → (a : Answer) → a ≡ plain 18 → (who : Runner) → who ≡ runnerIn (m .tables)
-      → (r : ℕ) (out′ : List ℕ) → Wrote out 0 (lineOf (rowOf (listed (l .index) 0 a who))) r out′
+      → (r : ℕ) (out′ : List ℕ) → Wrote out 0 (lineOf (rowWith (l .index) 0 a who)) r out′
       → Wrote out 0 (ending (progressOf l m)) r out′
   held-ends g some long a plainly who runs r out′ w =
       subst (λ (t : List ℕ). Wrote out 0 t r out′)
-      (ap (λ (b : Answer). lineOf (rowOf (listed (l .index) 0 b who))) plainly
+      (ap (λ (b : Answer). lineOf (rowWith (l .index) 0 b who)) plainly
       ∙ ap (λ (o : Runner). lineOf (lastRow (l .index) 18 (threadOf o))) runs
       ∙ sym (ended (progressOf l m) true g ∙ some-held (progressOf l m) (l .held) (l .bytes) long some))
       w

@@ -5,13 +5,16 @@ ghost use mathlib.Core.Bool.{true};
 ghost use mathlib.Core.List.{[]};
 ghost use lib.ListN.{length, replicate};
 ghost use Rattle.lent_tables.specs.Entries.{Lent, lent};
+ghost use Rattle.machine.specs.Results.{threadOf};
 ghost use Rattle.texts.specs.Buffer.{Counts, Wrote};
-ghost use Rattle.listing.specs.Line.{lineOf, rowOf};
+ghost use Rattle.listing.specs.Line.{lineOf};
 ghost use Rattle.listing.specs.Buffer.{lineRoom};
 ghost use Rattle.lister.specs.Feeding.{ready, byteTo, fed, ending};
 ghost use Rattle.lister.specs.Buffers.{progressOf, withByte, emptied, stopping, takesCall, Feeds};
 use journal::taken::words_taken;
 use listing::Listed;
+use machine::Answer;
+use machine::Runner;
 use rows::Turn;
 
 // The bytes held of a call that is not yet whole, the next line's index, whether the listing goes on.
@@ -41,13 +44,21 @@ pub fn start() -> Lister
 }
 
 // A line behind the bytes used; how many are used then.
-fn add(out: &mut [u8], used: usize, l: Listed) -> usize
+fn add(out: &mut [u8], used: usize, index: u64, call: u32, answer: Answer, running: Runner) -> usize
     requires { ⌜ used + lineRoom ≤ length (now out) ⌝ }
     ensures { λ r. ⌜ r ≤ used + lineRoom ⌝ }
-    ensures { λ r. ⌜ Wrote (now (out .entry)) used (lineOf (rowOf l)) r (now (out .exit)) ⌝ }
+    ensures { λ r. ⌜ Wrote (now (out .entry)) used
+        (lineOf (record { index = index; call = call; answer = answer; running = threadOf running }))
+        r (now (out .exit)) ⌝ }
 {
     let end = used + listing::ROOM;
-    used + listing::line(&mut out[used..end], l)
+    let listed = Listed {
+        index,
+        call,
+        answer,
+        running,
+    };
+    used + listing::line(&mut out[used..end], listed)
 }
 
 // Whether the bytes have all the words that their first word asks for.
@@ -103,15 +114,9 @@ fn stop(l: Lister, turn: Turn, out: &mut [u8], used: usize) -> Fed
             used,
         };
     };
-    let last = Listed {
-        index: l.index,
-        call: 0,
-        answer: machine::plain(code),
-        running: who,
-    };
     Fed {
         lister: empty(l, l.index, false),
-        used: add(out, used, last),
+        used: add(out, used, l.index, 0, machine::plain(code), who),
     }
 }
 
@@ -136,17 +141,12 @@ fn answer(l: Lister, tables: &mut [u32], scratch: &mut [u32], out: &mut [u8], us
     else {
         return stop(l, turn, out, used);
     };
-    let listed = Listed {
-        index: l.index,
-        call: machine::number(call),
-        answer,
-        running: who,
-    };
+    let number = machine::number(call);
     // No run makes so many calls that it wraps.
     let next = std::num::wrapping_add_u64(l.index, 1);
     Fed {
         lister: empty(l, next, l.going),
-        used: add(out, used, listed),
+        used: add(out, used, l.index, number, answer, who),
     }
 }
 
@@ -208,11 +208,12 @@ pub fn finish(l: Lister, tables: &[u32], out: &mut [u8]) -> usize
     if l.held == 0 {
         return 0;
     }
-    let last = Listed {
-        index: l.index,
-        call: 0,
-        answer: machine::plain(18),
-        running: kernel::running(tables),
-    };
-    add(out, 0, last)
+    add(
+        out,
+        0,
+        l.index,
+        0,
+        machine::plain(18),
+        kernel::running(tables),
+    )
 }

@@ -7,11 +7,11 @@ use native.Mathlib.Omega.{arith}
 use lib.ListN.{length}
 use Rattle.machine.specs.declared.Answer.{Answer}
 use Rattle.journal.specs.Rows.{Row}
-use Rattle.texts.specs.Decimal.{decimal, spaced}
+use Rattle.texts.specs.Decimal.{decimal}
 use Rattle.texts.proofs.Digits.{length-some}
 use Rattle.texts.proofs.Apart.{isDigit, cut-by, decimal-digits, numbers-apart, spaced-apart}
 use Rattle.listing.specs.Line.{answerText, runner, lineOf}
-use Rattle.listing.proofs.Parts.{newline, fromRunning, fromAnswer, fromCall, line-is, fromCount, answer-is}
+use Rattle.listing.proofs.Parts.{newline, line-is}
 
 -- The sign - is no number.
 sign-apart : (t : ℕ) → 45 ∷ newline ≡ decimal t ++ newline → ⊥

@@ -4,10 +4,10 @@ use mathlib.Core.Path.{_≡_, sym, _∙_, ap}
 use mathlib.Core.List.{List, [], _∷_, _++_, append-assoc, append-nil}
 use native.Mathlib.Omega.{arith}
 use native.Mathlib.Numerals.{add-one}
-use native.Mathlib.Nat.{add-assoc, add-zero, zero-add}
+use native.Mathlib.Nat.{add-assoc, add-zero}
 use lib.ListN.{length, take, drop, set, length-append, length-take, length-drop, length-set, take-append-drop}
 use lib.Seq.{take-at, drop-append-add, drop-drop, set-split}
-use lib.Seq.{take-all, append-snoc, take-set-le, drop-set-lt, drop-cons, getD-set-same}
+use lib.Seq.{append-snoc, take-set-le, drop-set-lt, drop-cons, getD-set-same}
 use Rattle.texts.specs.Decimal.{digit, decimal}
 use Rattle.texts.specs.Buffer.{pasted}
 use Rattle.texts.proofs.Digits.{decimal-one, decimal-more, length-one, length-more}

@@ -38,9 +38,9 @@ same-length c = search needs
 returns-3 : tie.Need-returns-3
 returns-3 c =
     let added = c .before .before .add in
-    let who = c .before .before .before .before in
+    let who = c .before .before .before in
     let said = who .before in
-    let some = said .before in
+    let some = said .before .before in
     let on = some .before .before in
     let start = on .before .before .before .before in
     let a = start .args in (

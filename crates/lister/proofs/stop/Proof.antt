@@ -20,11 +20,11 @@ returns c =
       over-told (a .l) (a .out .now) (a .used) (a .turn) (c .before .match .keys2) _ e,
     )
 
-plain-requires : tie.Need-plain-requires
-plain-requires c κs = search needs
-
 empty-requires-2 : tie.Need-empty-requires-2
 empty-requires-2 c κs = search needs
+
+plain-requires : tie.Need-plain-requires
+plain-requires c κs = search needs
 
 add-requires : tie.Need-add-requires
 add-requires c κs = search needs
@@ -35,9 +35,9 @@ same-length c = search needs
 returns-2 : tie.Need-returns-2
 returns-2 c =
     let added = c .before .before in
-    let emptied = added .before .before in
-    let said = emptied .before in
-    let found = said .before .before in
+    let said = added .before in
+    let emptied = said .before .before in
+    let found = emptied .before .before in
     let a = found .before .before .before .args in
     let e = emptied .empty2 .ensures in (
       (ap (λ (k : Lister). k .held) e, ap (λ (k : Lister). k .bytes) e, added .add .ensures .0),
@@ -52,8 +52,8 @@ stop-spec =
     enum-known-turn
     empty-requires
     returns
-    plain-requires
     empty-requires-2
+    plain-requires
     add-requires
     same-length
     returns-2)

@@ -22,8 +22,8 @@ second c = c .before .before .before .before .before
 room₁ :
     (c : tie.After-field) → Room (c .field .last .0) (c .field .result) (fromCount (start c .args .a))
 room₁ c =
-    rest-room (spaced (start c .args .a .code)) (fromCount (start c .args .a)) (room-is (answer-is (start c .args .a)) (start c .pre))
-    (c .field .ensures)
+    let a = start c .args .a in
+    rest-room (spaced (a .code)) (fromCount a) (room-is (answer-is a) (start c .pre)) (c .field .ensures)
 
 room₂ :
     (c : tie.After-field2) → Room (c .field2 .last .0) (c .field2 .result) (fromBadge (start (first c) .args .a))
@@ -44,7 +44,8 @@ cast-field c = search needs
 field-requires : tie.Need-field-requires
 field-requires c κs =
     let start = c .before .before .before in
-    front-room (spaced (start .args .a .code)) (fromCount (start .args .a)) (room-is (answer-is (start .args .a)) (start .pre))
+    let a = start .args .a in
+    front-room (spaced (a .code)) (fromCount a) (room-is (answer-is a) (start .pre))
 
 cast-field-2 : tie.Need-cast-field-2
 cast-field-2 c = search needs

@@ -68,7 +68,8 @@ abbrev third : tie.After-fields → tie.After-field2
 third c = c .before .before .before .before
 
 room₃ :
-    (c : tie.After-fields) → Room (c .fields .last .0) (c .fields .result) (fromRunning (row (first (second (third c)))))
+    (c : tie.After-fields)
+    → Room (c .fields .last .0) (c .fields .result) (fromRunning (row (first (second (third c)))))
 room₃ c =
     let r = row (first (second (third c))) in
     rest-room (answerText (r .answer)) (fromRunning r) (room₂ (third c)) (c .fields .ensures)
