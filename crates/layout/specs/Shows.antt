@@ -6,6 +6,7 @@ use lib.ListN.{length}
 use Rattle.machine.specs.Lists.{Mem, Distinct}
 use Rattle.machine.specs.State.{State}
 use Rattle.layout.specs.Addresses.{Slot, ValidSlot, at, next, prev, linkAt, word, afterAt, beforeAt}
+use Rattle.layout.specs.Addresses.{tableWords}
 use Rattle.layout.specs.Words.{content, queuesOf}
 
 -- Links x and y of queue q are joined both ways: y comes after x, and x before y.
@@ -30,6 +31,6 @@ pub record Linked (m : List ℕ) (queues : ℕ → List ℕ) : Type 0 where
       → (word m (linkAt (next t)) ≡ 0) × (word m (linkAt (prev t)) ≡ 0)
 
 pub record Shows (m : List ℕ) (s : State) : Type 0 where
-  pub size : length m ≡ 4096
+  pub size : length m ≡ tableWords
   pub links : Linked m (queuesOf s)
   pub slots : (a : Slot) → ValidSlot a → word m (at a) ≡ content s a
