@@ -10,10 +10,10 @@ ghost use Rattle.aborts.specs.Aborts.{Cursor, InMid, Open, Clear, Bare, 
 ghost use Rattle.aborts.specs.Aborts.{Continues, ownEnded, ownBegun, joinedOn, unnoted};
 use layout::Field;
 use layout::Part;
+use layout::codes;
+use layout::codes::NOBODY;
 use machine::Answer;
-
-// The status of a live endpoint: one whose abort ends is live as before.
-const LIVE: u32 = 1;
+use machine::codes::BROKEN_OFF;
 
 // A look takes the cursor's waiter w: under the abort's badge it is removed, else it is kept and the cursor moves on.
 fn look(tables: &mut [u32], e: usize, w: usize)
@@ -23,7 +23,7 @@ fn look(tables: &mut [u32], e: usize, w: usize)
     let badge = store::thread(tables, Field::Badge, w);
     let hit = debts::under_abort(tables, e, badge);
     if hit {
-        queues::wake_from(tables, e, w, 3, 0, 0);
+        queues::wake_from(tables, e, w, machine::codes::MESSAGE_ABORTED, 0, 0);
         return;
     }
     queues::pass_marks(tables, w, e);
@@ -37,7 +37,7 @@ fn look_up_to(tables: &mut [u32], e: usize, allowance: u32) -> u32
     let mut left = allowance;
     while 0 < left {
         let cursor = store::endpoint(tables, Part::Cursor, e);
-        if cursor == 0 {
+        if cursor == NOBODY {
             return allowance - left;
         }
         look(tables, e, (cursor - 1) as usize);
@@ -53,12 +53,12 @@ fn end_own(tables: &mut [u32], t: usize, e: usize, count: u32) -> Answer
     ensures { λ r. ⌜ Continues (now (tables .entry)) count r (Open t e) (ownEnded t e) (now (tables .exit)) ⌝ }
 {
     let cursor = store::endpoint(tables, Part::Cursor, e);
-    if cursor != 0 {
-        return endings::accept(tables, machine::counted(2, count));
+    if cursor != NOBODY {
+        return endings::accept(tables, machine::counted(BROKEN_OFF, count));
     }
     debts::drop_debt(tables, t);
-    debts::end_abort(tables, e, LIVE);
-    endings::accept(tables, machine::counted(0, count))
+    debts::end_abort(tables, e, codes::LIVE);
+    endings::accept(tables, machine::counted(machine::codes::DONE, count))
 }
 
 // The call's own abort works; the call's earlier looks are counted with its own.
@@ -102,7 +102,7 @@ fn begin_after(
         (beginAfter left t e badge) (now (tables .exit)) ⌝ }
 {
     if left == 0 {
-        return endings::accept(tables, machine::counted(2, earlier));
+        return endings::accept(tables, machine::counted(BROKEN_OFF, earlier));
     }
     begin_own(tables, t, e, left, badge, earlier)
 }
@@ -115,10 +115,10 @@ fn work_other(tables: &mut [u32], t: usize, e: usize, allowance: u32, badge: u32
 {
     let n = look_up_to(tables, e, allowance);
     let pending = store::endpoint(tables, Part::Cursor, e);
-    if pending != 0 {
-        return endings::accept(tables, machine::counted(2, n));
+    if pending != NOBODY {
+        return endings::accept(tables, machine::counted(BROKEN_OFF, n));
     }
-    debts::end_abort(tables, e, LIVE);
+    debts::end_abort(tables, e, codes::LIVE);
     let rest = allowance - n;
     begin_after(tables, t, e, rest, badge, n)
 }
@@ -139,7 +139,7 @@ fn abort_open(tables: &mut [u32], t: usize, e: usize, allowance: u32, badge: u32
         (abortOpen t e allowance badge) ⌝ }
 {
     let here = store::endpoint(tables, Part::Aborting, e);
-    if here == 0 {
+    if here == codes::NO_ABORT {
         return begin_own(tables, t, e, allowance, badge, 0);
     }
     let same = debts::under_abort(tables, e, badge);
@@ -156,11 +156,11 @@ fn abort_at(tables: &mut [u32], t: usize, e: usize, allowance: u32, badge: u32) 
         (Calling t ((e ≤ 63) × (allowance ≤ 65535) × (badge < 2 ^ 28))) (unnoted t e allowance badge) ⌝ }
 {
     let status = store::endpoint(tables, Part::Status, e);
-    if status == 0 {
-        return machine::plain(23);
+    if status == codes::MISSING {
+        return machine::plain(machine::codes::ENDPOINT_ABSENT);
     }
-    if status == 2 {
-        return machine::plain(25);
+    if status == codes::CLOSING {
+        return machine::plain(machine::codes::ENDPOINT_CLOSING);
     }
     debts::drop_other(tables, t, e, badge);
     abort_open(tables, t, e, allowance, badge)
@@ -174,8 +174,8 @@ pub fn abort(tables: &mut [u32], t: usize, e: usize, allowance: u32, badge: u32)
 {
     let noted = debts::has_note(tables, t, e, badge);
     if noted {
-        store::set_owes(tables, t, 0, 0);
-        return endings::accept(tables, machine::plain(0));
+        store::set_owes(tables, t, codes::NOTHING, 0);
+        return endings::accept(tables, machine::plain(machine::codes::DONE));
     }
     abort_at(tables, t, e, allowance, badge)
 }

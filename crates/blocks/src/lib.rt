@@ -5,6 +5,7 @@ ghost use Rattle.store.specs.Steps.{Shown};
 ghost use Rattle.store.specs.Store.{IsThread};
 ghost use Rattle.blocks.specs.Blocks.{tickedBlock, LoadsBlock, IsBlock, SetsBlock};
 use layout::Field;
+use machine::codes::TICKS;
 
 pub struct Block {
     pub place: u32,
@@ -17,11 +18,11 @@ pub struct Block {
     pub note: u32,
 }
 
-// The block with a tick less; at 0 it has 5 again.
+// The block with a tick less; at 0 it has all again.
 fn ticked(b: Block) -> Block
     ensures { λ r. ⌜ r ≡ tickedBlock b ⌝ }
 {
-    let ticks = if b.ticks < 2 { 5 } else { b.ticks - 1 };
+    let ticks = if b.ticks < 2 { TICKS } else { b.ticks - 1 };
     Block {
         place: b.place,
         priority: b.priority,

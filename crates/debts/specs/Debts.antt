@@ -1,5 +1,5 @@
 -- What the steps on ownerships, notes and aborts ask of the state, and what they tell of it.
-use Prim.Native.Nat.{ℕ, _+_, _≤_}
+use Prim.Native.Nat.{ℕ, _≤_}
 use mathlib.Core.Path.{_≡_}
 use mathlib.Core.Bool.{Bool}
 use mathlib.Core.Option.{Option}
@@ -9,7 +9,7 @@ use Rattle.machine.specs.Lists.{Mem}
 use Rattle.machine.specs.State.{State, Place, sending, receiving, owns, Abort, Status}
 use Rattle.machine.specs.Endpoints.{senders, receivers, underAbort, ownerOf, note, endAbort}
 use Rattle.machine.specs.Aborts.{hasNote, ownsThis}
-use Rattle.layout.specs.Words.{statusCode, firstOf, lastOf}
+use Rattle.layout.specs.Words.{placeCode, statusCode, firstOf, lastOf}
 use Rattle.layout.specs.Shows.{Shows}
 use Rattle.store.specs.Steps.{Does, Tells}
 use Rattle.store.specs.Store.{HasAbort}
@@ -83,5 +83,5 @@ firstReceiver e s = firstOf (receivers (s .threads) (s .endpoints e .waiters))
 
 -- A place enters the code as its number; r is the link to the first waiter at whatever place it is the number of.
 pub record FirstAt (m : List ℕ) (e code r : ℕ) : Type 0 where
-  pub sends : code ≡ 2 + e → Tells m (Alike e) r (firstSender e)
-  pub receives : code ≡ 66 + e → Tells m (Alike e) r (firstReceiver e)
+  pub sends : code ≡ placeCode (sending e) → Tells m (Alike e) r (firstSender e)
+  pub receives : code ≡ placeCode (receiving e) → Tells m (Alike e) r (firstReceiver e)

@@ -9,6 +9,10 @@ ghost use Rattle.debts.specs.Debts.{EndsAbort};
 ghost use Rattle.debts.specs.Debts.{Alike, BeginsAbort, FirstAt, lastSender};
 use layout::Field;
 use layout::Part;
+use layout::codes;
+use layout::codes::ABORTING;
+use layout::codes::NO_ABORT;
+use layout::codes::NOBODY;
 
 // Thread t's ownership or note goes.
 pub fn drop_debt(tables: &mut [u32], t: usize)
@@ -16,15 +20,15 @@ pub fn drop_debt(tables: &mut [u32], t: usize)
     ensures { λ _. ⌜ Does (now (tables .entry)) (now (tables .exit)) (Debtor t) (dropDebt t) ⌝ }
 {
     let owes = store::thread(tables, Field::Owes, t);
-    if owes == 0 {
+    if owes == codes::NOTHING {
         return;
     }
-    if owes < 65 {
-        store::set_owner(tables, (owes - 1) as usize, 0);
-        store::set_owes(tables, t, 0, 0);
+    if owes < codes::NOTE {
+        store::set_owner(tables, (owes - codes::OWNER) as usize, NOBODY);
+        store::set_owes(tables, t, codes::NOTHING, 0);
         return;
     }
-    store::set_owes(tables, t, 0, 0);
+    store::set_owes(tables, t, codes::NOTHING, 0);
 }
 
 // Whether an abort of this badge stands at endpoint e.
@@ -33,7 +37,7 @@ pub fn under_abort(tables: &[u32], e: usize, badge: u32) -> bool
     ensures { λ r. ⌜ Says (now (tables .entry)) (IsEndpoint e) r (underIn e badge) ⌝ }
 {
     let here = store::endpoint(tables, Part::Aborting, e);
-    if here == 0 {
+    if here == NO_ABORT {
         return false;
     }
     let aborted = store::endpoint(tables, Part::Aborted, e);
@@ -46,7 +50,7 @@ pub fn has_note(tables: &[u32], t: usize, e: usize, badge: u32) -> bool
     ensures { λ r. ⌜ Says (now (tables .entry)) (InCall t e) r (notedIn t e badge) ⌝ }
 {
     let owes = store::thread(tables, Field::Owes, t);
-    let code = (65 + e) as u32;
+    let code = codes::NOTE + e as u32;
     if owes != code {
         return false;
     }
@@ -60,7 +64,7 @@ pub fn owns_this(tables: &[u32], t: usize, e: usize, badge: u32) -> bool
     ensures { λ r. ⌜ Says (now (tables .entry)) (InCall t e) r (ownsIn t e badge) ⌝ }
 {
     let owes = store::thread(tables, Field::Owes, t);
-    let code = (1 + e) as u32;
+    let code = codes::OWNER + e as u32;
     if owes != code {
         return false;
     }
@@ -85,11 +89,11 @@ pub fn join(tables: &mut [u32], t: usize, e: usize)
     ensures { λ _. ⌜ Does (now (tables .entry)) (now (tables .exit)) (JoinsAbort t e) (join t e) ⌝ }
 {
     let owner = store::endpoint(tables, Part::Owner, e);
-    if owner != 0 {
+    if owner != NOBODY {
         return;
     }
     store::set_owner(tables, e, (t + 1) as u32);
-    store::set_owes(tables, t, (1 + e) as u32, 0);
+    store::set_owes(tables, t, codes::OWNER + e as u32, 0);
 }
 
 // The owner of the abort at endpoint e, if there is one, gets a note.
@@ -98,11 +102,11 @@ fn note_owner(tables: &mut [u32], e: usize)
     ensures { λ _. ⌜ Does (now (tables .entry)) (now (tables .exit)) (Endable e) (noting e) ⌝ }
 {
     let owner = store::endpoint(tables, Part::Owner, e);
-    if owner == 0 {
+    if owner == NOBODY {
         return;
     }
     let badge = store::endpoint(tables, Part::Aborted, e);
-    store::set_owes(tables, (owner - 1) as usize, (65 + e) as u32, badge);
+    store::set_owes(tables, (owner - 1) as usize, codes::NOTE + e as u32, badge);
 }
 
 // The abort at endpoint e, if one stands, ends, and the endpoint has the status given.
@@ -111,7 +115,7 @@ pub fn end_abort(tables: &mut [u32], e: usize, status: u32)
     ensures { λ _. ⌜ EndsAbort (now (tables .entry)) e status (now (tables .exit)) ⌝ }
 {
     note_owner(tables, e);
-    store::set_abort(tables, e, 0, 0, 0, 0, 0);
+    store::set_abort(tables, e, NO_ABORT, 0, NOBODY, NOBODY, NOBODY);
     store::set_status(tables, e, status);
 }
 
@@ -121,13 +125,13 @@ pub fn first_at(tables: &[u32], e: usize, place: u32) -> u32
     requires { ⌜ Shown (now tables) (Alike e) ⌝ }
     ensures { λ r. ⌜ FirstAt (now (tables .entry)) e place r ⌝ }
 {
-    let link = links::first(tables, 256 + e);
-    if link == 0 {
-        return 0;
+    let link = links::first(tables, codes::ENDPOINT_QUEUES + e);
+    if link == NOBODY {
+        return NOBODY;
     }
     let at = store::thread(tables, Field::Place, (link - 1) as usize);
     if at != place {
-        return 0;
+        return NOBODY;
     }
     link
 }
@@ -137,11 +141,11 @@ fn last_sender(tables: &[u32], e: usize) -> u32
     requires { ⌜ Shown (now tables) (Alike e) ⌝ }
     ensures { λ r. ⌜ Tells (now (tables .entry)) (Alike e) r (lastSender e) ⌝ }
 {
-    let first = first_at(tables, e, (2 + e) as u32);
-    if first == 0 {
-        return 0;
+    let first = first_at(tables, e, codes::SENDING + e as u32);
+    if first == NOBODY {
+        return NOBODY;
     }
-    links::last(tables, 256 + e)
+    links::last(tables, codes::ENDPOINT_QUEUES + e)
 }
 
 // Thread t begins an abort of this badge at endpoint e, which has its senders to look at.
@@ -149,8 +153,8 @@ pub fn begin(tables: &mut [u32], t: usize, e: usize, badge: u32)
     requires { ⌜ Shown (now tables) (BeginsAbort t e) ⌝ }
     ensures { λ _. ⌜ Does (now (tables .entry)) (now (tables .exit)) (BeginsAbort t e) (begin t e badge) ⌝ }
 {
-    let cursor = first_at(tables, e, (2 + e) as u32);
+    let cursor = first_at(tables, e, codes::SENDING + e as u32);
     let end = last_sender(tables, e);
-    store::set_abort(tables, e, 1, badge, (t + 1) as u32, cursor, end);
-    store::set_owes(tables, t, (1 + e) as u32, 0);
+    store::set_abort(tables, e, ABORTING, badge, (t + 1) as u32, cursor, end);
+    store::set_owes(tables, t, codes::OWNER + e as u32, 0);
 }

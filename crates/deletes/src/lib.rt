@@ -7,7 +7,11 @@ ghost use Rattle.store.specs.Steps.{Shown};
 ghost use Rattle.endings.specs.Results.{Calling, Performs};
 ghost use Rattle.deletes.specs.Deletes.{Closes, Removes};
 use layout::Part;
+use layout::codes;
+use layout::codes::NOBODY;
 use machine::Answer;
+use machine::codes::BROKEN_OFF;
+use machine::codes::ENDPOINT_GONE;
 
 // Waiters leave the head of endpoint e's queue with outcome 4, until nobody is left or the allowance is used up; how
 // many went.
@@ -17,11 +21,11 @@ fn remove(tables: &mut [u32], e: usize, allowance: u32) -> u32
 {
     let mut left = allowance;
     while 0 < left {
-        let first = links::first(tables, 256 + e);
-        if first == 0 {
+        let first = links::first(tables, codes::ENDPOINT_QUEUES + e);
+        if first == NOBODY {
             return allowance - left;
         }
-        queues::wake_from(tables, e, (first - 1) as usize, 4, 0, 0);
+        queues::wake_from(tables, e, (first - 1) as usize, ENDPOINT_GONE, 0, 0);
         left -= 1;
     }
     allowance
@@ -33,12 +37,12 @@ fn delete_from(tables: &mut [u32], e: usize, allowance: u32) -> Answer
     ensures { λ r. ⌜ Performs (now (tables .entry)) (now (tables .exit)) r (Closes e) (deleteFrom e allowance) ⌝ }
 {
     let count = remove(tables, e, allowance);
-    let first = links::first(tables, 256 + e);
-    if first != 0 {
-        return endings::accept(tables, machine::counted(2, count));
+    let first = links::first(tables, codes::ENDPOINT_QUEUES + e);
+    if first != NOBODY {
+        return endings::accept(tables, machine::counted(BROKEN_OFF, count));
     }
-    store::set_status(tables, e, 0);
-    endings::accept(tables, machine::counted(0, count))
+    store::set_status(tables, e, codes::MISSING);
+    endings::accept(tables, machine::counted(machine::codes::DONE, count))
 }
 
 // 11: thread t deletes endpoint e, removing at most as many waiters as the allowance lets.
@@ -48,10 +52,10 @@ pub fn delete(tables: &mut [u32], t: usize, e: usize, allowance: u32) -> Answer
         (delete t e allowance) ⌝ }
 {
     let status = store::endpoint(tables, Part::Status, e);
-    if status == 0 {
-        return machine::plain(23);
+    if status == codes::MISSING {
+        return machine::plain(machine::codes::ENDPOINT_ABSENT);
     }
     debts::drop_debt(tables, t);
-    debts::end_abort(tables, e, 2);
+    debts::end_abort(tables, e, codes::CLOSING);
     delete_from(tables, e, allowance)
 }

@@ -21,5 +21,5 @@ pub fn done(tables: &mut [u32]) -> Answer
     ensures { λ r. ⌜ Performs (now (tables .entry)) (now (tables .exit)) r Chooses done ⌝ }
 {
     queues::choose(tables);
-    machine::plain(0)
+    machine::plain(machine::codes::DONE)
 }

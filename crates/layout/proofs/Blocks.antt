@@ -11,8 +11,8 @@ use Rattle.machine.proofs.Lists.{Same, same, other, same?}
 use Rattle.layout.specs.declared.Field.{Field}
 use Rattle.layout.specs.Words.{threadWord, placeCode}
 use Rattle.layout.specs.Decode.{orZero, placeOf, debtOf, outcomeIn, storedIn, presentThread, threadBy, threadFrom}
-use Rattle.layout.proofs.Codes.{within-small, within-same, ticks-range, ticks-back, PlaceSmall, place-small}
-use Rattle.layout.proofs.Codes.{place-back, DebtSmall, debt-small, debt-back, not-absent}
+use Rattle.layout.proofs.RoundTrip.{within-small, within-same, ticks-range, ticks-back, PlaceSmall, place-small}
+use Rattle.layout.proofs.RoundTrip.{place-back, DebtSmall, debt-small, debt-back, not-absent}
 
 -- What Sound asks of thread t alone.
 pub record NeatThread (t : ℕ) (x : Thread) : Type 0 where

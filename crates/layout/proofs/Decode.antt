@@ -14,8 +14,8 @@ use Rattle.layout.specs.Addresses.{ofThread, ofEndpoint, ofLine, running
 use Rattle.layout.specs.Words.{queuesOf, endpointWord, image}
 use Rattle.layout.specs.Shows.{Shows}
 use Rattle.layout.specs.Decode.{queueFrom, linked, lineBy, threadFrom, endpointFrom, decode}
-use Rattle.layout.proofs.Codes.{linked-small, linked-back, line-back}
-use Rattle.layout.proofs.Codes.{line-small as read-small}
+use Rattle.layout.proofs.RoundTrip.{linked-small, linked-back, line-back}
+use Rattle.layout.proofs.RoundTrip.{line-small as read-small}
 use Rattle.layout.proofs.Blocks.{NeatThread, thread-neat, thread-back, beyond-absent, absent-neat}
 use Rattle.layout.proofs.Following.{walk-small, walk-chain, bounded-length}
 use Rattle.layout.proofs.Ends.{NeatEndpoint, endpoint-neat, endpoint-back, missing-neat}

@@ -1,6 +1,6 @@
 pub mod Addresses
 pub mod Chains
-pub mod Codes
+pub mod RoundTrip
 pub mod Standing
 pub mod Image
 pub mod Blocks

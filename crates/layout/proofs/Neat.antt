@@ -12,7 +12,7 @@ use Rattle.machine.specs.Endpoints.{ownerOf}
 use Rattle.machine.specs.Sound.{Present, Sound}
 use Rattle.layout.specs.Words.{placeCode, debtCode, lineCode}
 use Rattle.layout.proofs.Addresses.{below?}
-use Rattle.layout.proofs.Codes.{PlaceSmall, DebtSmall, not-absent}
+use Rattle.layout.proofs.RoundTrip.{PlaceSmall, DebtSmall, not-absent}
 use Rattle.layout.proofs.Blocks.{NeatThread, absent?}
 use Rattle.layout.proofs.Ends.{NeatAbort, NeatEndpoint, no-abort-neat, none-some}
 use Rattle.layout.proofs.Standing.{queued-present, level-small, endpoint-small}

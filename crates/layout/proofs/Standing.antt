@@ -10,7 +10,7 @@ use Rattle.machine.specs.State.{State, Place, absent, able, sending, receiving,
 use Rattle.machine.specs.Sound.{Present, Queued, Ranges, Queues}
 use Rattle.layout.specs.Words.{queuesOf, queueAt, queueOf}
 use Rattle.layout.proofs.Addresses.{below?}
-use Rattle.layout.proofs.Codes.{not-absent}
+use Rattle.layout.proofs.RoundTrip.{not-absent}
 
 -- The queues of the levels and of the endpoints.
 

@@ -14,7 +14,7 @@ use Rattle.machine.proofs.Lists.{Same, same, other, same?, clash}
 use Rattle.layout.specs.Words.{linkOf, placeCode, debtCode, lineCode}
 use Rattle.layout.specs.Decode.{placeOf}
 use Rattle.layout.specs.Tests.{all, member, same as agree}
-use Rattle.layout.proofs.Codes.{PlaceSmall, place-back}
+use Rattle.layout.proofs.RoundTrip.{PlaceSmall, place-back}
 
 pub record Decides (b : Bool) (P : Type 0) : Type 0 where
   pub holds : b ≡ true → P

@@ -26,8 +26,11 @@ pub data Slot : Type 0 where
   running : Slot
   unused : ℕ → Slot
 
+-- The queue of endpoint e; queue p up to 255 is that of level p.
+abbrev pub endpointQueue : ℕ → ℕ
+endpointQueue e = 256 + e
+
 -- A link: of a thread, to the next and to the one before it in its queue; of a queue, to its first and to its last.
--- Queue p is that of level p, queue 256 + e that of endpoint e.
 pub data Link : Type 0 where
   next : ℕ → Link
   prev : ℕ → Link

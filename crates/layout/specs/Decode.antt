@@ -7,10 +7,12 @@ use lib.Dec.{eqb, ltb, leb}
 use Rattle.machine.specs.Lists.{pick}
 use Rattle.machine.specs.State.{State, Thread, Place, absent, able, sending, receiving, waiting, Debt, nothing, owns}
 use Rattle.machine.specs.State.{noted, Abort, live, closing, Endpoint, Line, quiet, pending, awaited, absentThread}
-use Rattle.machine.specs.State.{missingEndpoint}
+use Rattle.machine.specs.State.{missingEndpoint, messageReceived}
 use Rattle.layout.specs.declared.Field.{Field}
 use Rattle.layout.specs.declared.Part.{Part}
 use Rattle.layout.specs.Addresses.{ofThread, ofEndpoint, ofLine, running, next, head, at, linkAt, word}
+use Rattle.layout.specs.Addresses.{endpointQueue}
+use Rattle.layout.specs.Words.{placeCode, debtCode}
 
 -- The number if it is at most the one given, otherwise 0.
 unfoldable pub orZero : ℕ → ℕ → ℕ
@@ -27,15 +29,17 @@ ticksOf (suc n) = suc (orZero 4 n)
 
 unfoldable pub placeOf : ℕ → Place
 placeOf w =
-    pick (eqb w 0) absent
-    (pick (eqb w 1) able
-    (pick (ltb w 66) (sending (orZero 63 (w - 2)))
-    (pick (ltb w 130) (receiving (orZero 63 (w - 66))) (waiting (orZero 31 (w - 130))))))
+    pick (eqb w (placeCode absent)) absent
+    (pick (eqb w (placeCode able)) able
+    (pick (ltb w (placeCode (receiving 0))) (sending (orZero 63 (w - placeCode (sending 0))))
+    (pick (ltb w (placeCode (waiting 0))) (receiving (orZero 63 (w - placeCode (receiving 0))))
+    (waiting (orZero 31 (w - placeCode (waiting 0)))))))
 
 unfoldable pub debtOf : ℕ → ℕ → Debt
 debtOf w b =
-    pick (eqb w 0) nothing
-    (pick (ltb w 65) (owns (orZero 63 (w - 1))) (noted (orZero 63 (w - 65)) (orZero (2 ^ 28 - 1) b)))
+    pick (eqb w (debtCode nothing)) nothing
+    (pick (ltb w (debtCode (noted 0 0))) (owns (orZero 63 (w - debtCode (owns 0))))
+    (noted (orZero 63 (w - debtCode (noted 0 0))) (orZero (2 ^ 28 - 1) b)))
 
 unfoldable pub lineBy : ℕ → Line
 lineBy zero = quiet
@@ -52,7 +56,7 @@ outcomeIn (waiting l) w = 0
 
 unfoldable pub storedIn : Place → ℕ → ℕ → ℕ
 storedIn absent o w = 0
-storedIn able o w = pick (eqb o 2) (orZero (2 ^ 28 - 1) w) 0
+storedIn able o w = pick (eqb o messageReceived) (orZero (2 ^ 28 - 1) w) 0
 storedIn (sending e) o w = orZero (2 ^ 28 - 1) w
 storedIn (receiving e) o w = 0
 storedIn (waiting l) o w = 0
@@ -128,6 +132,7 @@ decode m =
       runs = linked (word m (at running));
       levels = λ p. pick (leb p 255) (queueFrom m p) [];
       endpoints = λ e.
-          pick (leb e 63) (endpointFrom (λ p. word m (at (ofEndpoint p e))) (queueFrom m (256 + e))) missingEndpoint;
+          pick (leb e 63) (endpointFrom (λ p. word m (at (ofEndpoint p e))) (queueFrom m (endpointQueue e)))
+          missingEndpoint;
       lines = λ l. pick (leb l 31) (lineBy (word m (at (ofLine l)))) quiet;
     }

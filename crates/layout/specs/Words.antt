@@ -13,7 +13,7 @@ use Rattle.summary.specs.Levels.{wordOf, topOf}
 use Rattle.layout.specs.declared.Field.{Field}
 use Rattle.layout.specs.declared.Part.{Part}
 use Rattle.layout.specs.Addresses.{Slot, ofThread, ofEndpoint, ofLine, summary, top, running, unused, Link, next}
-use Rattle.layout.specs.Addresses.{prev, head, tail, Name, slot, link, nameOf, tableWords}
+use Rattle.layout.specs.Addresses.{prev, head, tail, Name, slot, link, nameOf, tableWords, endpointQueue}
 
 -- None is 0, and thread t is t + 1.
 abbrev pub linkOf : Option ℕ → ℕ
@@ -109,9 +109,9 @@ content s top = topOf (occupiedIn s)
 content s running = linkOf (s .runs)
 content s (unused i) = 0
 
--- The queues of a state: p up to 255 is level p, 256 + e is endpoint e.
+-- The queues of a state: those of the levels, then those of the endpoints.
 unfoldable pub queuesOf : State → ℕ → List ℕ
-queuesOf s q = pick (ltb q 256) (s .levels q) (s .endpoints (q - 256) .waiters)
+queuesOf s q = pick (ltb q (endpointQueue 0)) (s .levels q) (s .endpoints (q - endpointQueue 0) .waiters)
 
 -- The queue that a thread's place and priority name, in which it stands if it stands in one.
 abbrev pub queueAt : State → Place → ℕ → List ℕ

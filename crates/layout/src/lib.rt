@@ -1,5 +1,7 @@
 // The memory of a machine state, word by word. The definitions stand in specs/ and docs/LAYOUT.md lists the words; the
 // code that reads and writes them is the kernel's.
+pub mod codes;
+pub mod wide;
 
 // The words of a thread that are no links. Owes is what the thread has to do with aborts, Note the badge of a note.
 pub enum Field {

@@ -5,7 +5,7 @@ use mathlib.Core.Path.{_≡_}
 use mathlib.Core.List.{List, [], _∷_, _++_}
 use lib.ListN.{length}
 use Rattle.machine.specs.Lists.{put, without, Mem}
-use Rattle.layout.specs.Addresses.{Slot, ValidSlot, at, next, prev, word}
+use Rattle.layout.specs.Addresses.{Slot, ValidSlot, at, next, prev, word, tableWords}
 use Rattle.layout.specs.Words.{firstOf, lastOf}
 use Rattle.layout.specs.Shows.{Linked}
 
@@ -20,7 +20,7 @@ pub record OnlyLinks (m m′ : List ℕ) : Type 0 where
 
 -- A queue that thread t, in none, may join.
 pub record Joinable (m : List ℕ) (q t : ℕ) : Type 0 where
-  pub size : length m ≡ 4096
+  pub size : length m ≡ tableWords
   pub queue : q ≤ 319
   pub thread : t ≤ 255
   pub queues : ℕ → List ℕ
@@ -36,7 +36,7 @@ pub record JoinsQueue (m : List ℕ) (q t : ℕ) (m′ : List ℕ) : Type 0 wher
 
 -- A queue in which thread t stands.
 pub record Leavable (m : List ℕ) (q t : ℕ) : Type 0 where
-  pub size : length m ≡ 4096
+  pub size : length m ≡ tableWords
   pub queue : q ≤ 319
   pub queues : ℕ → List ℕ
   pub linked : Linked m queues

@@ -3,7 +3,9 @@
 ghost use mathlib.Core.Path.{_≡_};
 ghost use Prim.Native.Nat.{_≤_};
 ghost use lib.ListN.{length};
+ghost use Rattle.layout.specs.Addresses.{tableWords};
 ghost use Rattle.links.specs.Links.{Joinable, JoinsQueue, Leavable, LeavesQueue, First, Last, Next, Prev};
+use layout::codes::NOBODY;
 
 // Thread t joins the tail of queue q.
 pub fn push_tail(tables: &mut [u32], q: usize, t: usize)
@@ -26,13 +28,13 @@ pub fn unlink(tables: &mut [u32], q: usize, t: usize)
     let prev = words::get(tables, words::prev_at(t));
     words::put(tables, words::after_at(q, prev as usize), next);
     words::put(tables, words::before_at(q, next as usize), prev);
-    words::put(tables, words::next_at(t), 0);
-    words::put(tables, words::prev_at(t), 0);
+    words::put(tables, words::next_at(t), NOBODY);
+    words::put(tables, words::prev_at(t), NOBODY);
 }
 
 // The link to the first of queue q: thread t is t + 1, and none is 0.
 pub fn first(tables: &[u32], q: usize) -> u32
-    requires { ⌜ (length (now tables) ≡ 4096) × (q ≤ 319) ⌝ }
+    requires { ⌜ (length (now tables) ≡ tableWords) × (q ≤ 319) ⌝ }
     ensures { λ r. ⌜ First (now (tables .entry)) q r ⌝ }
 {
     words::get(tables, words::head_at(q))
@@ -40,7 +42,7 @@ pub fn first(tables: &[u32], q: usize) -> u32
 
 // The link to the last of queue q, 0 for none.
 pub fn last(tables: &[u32], q: usize) -> u32
-    requires { ⌜ (length (now tables) ≡ 4096) × (q ≤ 319) ⌝ }
+    requires { ⌜ (length (now tables) ≡ tableWords) × (q ≤ 319) ⌝ }
     ensures { λ r. ⌜ Last (now (tables .entry)) q r ⌝ }
 {
     words::get(tables, words::tail_at(q))
@@ -48,7 +50,7 @@ pub fn last(tables: &[u32], q: usize) -> u32
 
 // The link to the one behind thread t in its queue.
 pub fn next(tables: &[u32], t: usize) -> u32
-    requires { ⌜ (length (now tables) ≡ 4096) × (t ≤ 255) ⌝ }
+    requires { ⌜ (length (now tables) ≡ tableWords) × (t ≤ 255) ⌝ }
     ensures { λ r. ⌜ Next (now (tables .entry)) t r ⌝ }
 {
     words::get(tables, words::next_at(t))
@@ -56,7 +58,7 @@ pub fn next(tables: &[u32], t: usize) -> u32
 
 // The link to the one before thread t in its queue.
 pub fn prev(tables: &[u32], t: usize) -> u32
-    requires { ⌜ (length (now tables) ≡ 4096) × (t ≤ 255) ⌝ }
+    requires { ⌜ (length (now tables) ≡ tableWords) × (t ≤ 255) ⌝ }
     ensures { λ r. ⌜ Prev (now (tables .entry)) t r ⌝ }
 {
     words::get(tables, words::prev_at(t))

@@ -6,7 +6,7 @@ use mathlib.Core.List.{List, [], _∷_, _++_}
 use lib.Dec.{eqb}
 use lib.ListN.{length}
 use Rattle.machine.specs.State.{State, Debt, nothing, owns, noted, Abort, Status, missing, live, closing}
-use Rattle.machine.specs.State.{missingEndpoint, setThread, setEndpoint, withDebt}
+use Rattle.machine.specs.State.{missingEndpoint, setThread, setEndpoint, withDebt, messageAborted, endpointGone}
 use Rattle.machine.specs.Endpoints.{senders, underAbort, pendingOf, ownerOf, passing, withOwner, setAbort}
 use Rattle.machine.specs.Endpoints.{wakeFrom, dropDebt, endAbort}
 use Rattle.machine.specs.Results.{Look, Result, counted, accept, done, refuse}
@@ -24,7 +24,8 @@ unfoldable pub removeUpTo : ℕ → List ℕ → ℕ → State → Removal
 removeUpTo zero l e s = record { state = s; count = 0 }
 removeUpTo (suc n) [] e s = record { state = s; count = 0 }
 removeUpTo (suc n) (w ∷ l) e s =
-    oneMore (removeUpTo n (wakeFrom e w 4 0 0 s .endpoints e .waiters) e (wakeFrom e w 4 0 0 s))
+    oneMore
+    (removeUpTo n (wakeFrom e w endpointGone 0 0 s .endpoints e .waiters) e (wakeFrom e w endpointGone 0 0 s))
 
 -- With none left the endpoint is absent, code 0; else the delete is broken off, code 2.
 unfoldable pub deleted : List ℕ → ℕ → Removal → Result
@@ -51,7 +52,7 @@ unfoldable pub hits : ℕ → ℕ → State → Bool
 hits e w s = underAbort (s .threads w .badge) (s .endpoints e .abort)
 
 unfoldable pub lookAt : Bool → ℕ → ℕ → State → State
-lookAt true e w s = wakeFrom e w 3 0 0 s
+lookAt true e w s = wakeFrom e w messageAborted 0 0 s
 lookAt false e w s = setAbort e (passing w (s .endpoints e .abort)) s
 
 unfoldable pub look : ℕ → ℕ → State → State

@@ -11,7 +11,8 @@ use Rattle.machine.specs.Calls.{inRange}
 use Rattle.machine.specs.Lists.{first}
 use Rattle.machine.specs.State.{State, Place, absent, able, sending, receiving, waiting, nothing, Status}
 use Rattle.machine.specs.State.{missing, live, closing, Line, quiet, pending, awaited, absentThread, setThread}
-use Rattle.machine.specs.State.{setRuns, setEndpoint, setLine, withPriority, withTicks}
+use Rattle.machine.specs.State.{setRuns, setEndpoint, setLine, withPriority, withTicks, messageTaken}
+use Rattle.machine.specs.State.{messageReceived, lineFired}
 use Rattle.machine.specs.Scheduling.{enqueue, unqueue, standDown, wake, block}
 use Rattle.machine.specs.Endpoints.{senders, receivers, underAbort, joinEndpoint, leaveEndpoint, wakeFrom}
 use Rattle.machine.specs.Endpoints.{dropDebt}
@@ -91,11 +92,11 @@ createAt closing e s = refuse 24 s
 unfoldable pub createEndpoint : ℕ → State → Result
 createEndpoint e s = createAt (s .endpoints e .status) e s
 
--- 5: a waiter on the line is woken; otherwise the line is pending.
+-- 5: a waiter on the line is woken, with outcome 5; otherwise the line is pending.
 unfoldable pub fire : Line → ℕ → State → State
 fire quiet l s = setLine l pending s
 fire pending l s = s
-fire (awaited t) l s = wake t 5 0 0 (setLine l quiet s)
+fire (awaited t) l s = wake t lineFired 0 0 (setLine l quiet s)
 
 unfoldable pub interrupt : ℕ → State → Result
 interrupt l s = done (fire (s .lines l) l s)
@@ -112,10 +113,10 @@ tickFor (some t) s = leaveTicks (s .threads t .ticks - 1) t s
 unfoldable pub tick : State → Result
 tick s = done (tickFor (s .runs) s)
 
--- 7: send hands to the first receiver, else the caller t blocks at the tail.
+-- 7: send hands to the first receiver, which is woken with outcome 2, else the caller t blocks at the tail.
 unfoldable pub sendTo : Option ℕ → ℕ → ℕ → ℕ → ℕ → State → Result
 sendTo none t e b m s = blocked (block t (sending e) b m (joinEndpoint t e s))
-sendTo (some r) t e b m s = done (wakeFrom e r 2 b m s)
+sendTo (some r) t e b m s = done (wakeFrom e r messageReceived b m s)
 
 unfoldable pub sendUnless : Bool → ℕ → ℕ → ℕ → ℕ → State → Result
 sendUnless true t e b m s = refuse 26 s
@@ -130,12 +131,12 @@ sendAt live t e b m s = sendUnless (underAbort b (s .endpoints e .abort)) t e b 
 unfoldable pub send : ℕ → ℕ → ℕ → ℕ → State → Result
 send t e b m s = sendAt (s .endpoints e .status) t e b m s
 
--- 8: receive takes the first sender, else the caller t blocks.
+-- 8: receive takes the first sender, which is woken with outcome 1, else the caller t blocks.
 unfoldable pub receiveFrom : Option ℕ → ℕ → ℕ → State → Result
 receiveFrom none t e s = blocked (block t (receiving e) 0 0 (joinEndpoint t e s))
 receiveFrom (some u) t e s =
     accept (receipt (s .threads u .badge) (s .threads u .message)) []
-    (wakeFrom e u 1 0 0 s)
+    (wakeFrom e u messageTaken 0 0 s)
 
 unfoldable pub receiveAt : Status → ℕ → ℕ → State → Result
 receiveAt missing t e s = refuse 23 s

@@ -5,7 +5,7 @@ use mathlib.Core.Option.{Option, none, some}
 use mathlib.Core.List.{List, [], _∷_, _++_}
 use lib.Dec.{ltb}
 use Rattle.machine.specs.Lists.{pick, without}
-use Rattle.machine.specs.State.{State, Place, able, setThread, setRuns, setLevel, withPlace}
+use Rattle.machine.specs.State.{State, Place, able, setThread, setRuns, setLevel, withPlace, noOutcome}
 
 -- t joins the tail of its level's queue.
 unfoldable pub enqueue : ℕ → State → State
@@ -25,7 +25,7 @@ wake t outcome b m s = enqueue t (setThread t (withPlace able outcome b m (s .th
 
 -- The running thread t blocks at a place, with badge and message where it sends; its outcome is 0, and nobody runs.
 unfoldable pub block : ℕ → Place → ℕ → ℕ → State → State
-block t place b m s = setRuns none (setThread t (withPlace place 0 b m (s .threads t)) s)
+block t place b m s = setRuns none (setThread t (withPlace place noOutcome b m (s .threads t)) s)
 
 -- Whether somebody stands in the queue.
 abbrev pub occupied : List ℕ → Bool

@@ -8,7 +8,7 @@ use mathlib.Core.List.{List, [], _∷_, _++_}
 use Rattle.machine.specs.Lists.{Mem, Distinct}
 use Rattle.machine.specs.State.{State, Thread, Place, absent, able, sending, receiving, waiting, Debt, nothing}
 use Rattle.machine.specs.State.{owns, noted, Abort, Status, missing, live, closing, Line, quiet, awaited}
-use Rattle.machine.specs.State.{absentThread, missingEndpoint}
+use Rattle.machine.specs.State.{absentThread, missingEndpoint, noOutcome, messageReceived}
 use Rattle.machine.specs.Endpoints.{ownerOf}
 
 -- A thread is present.
@@ -26,7 +26,7 @@ Queued s t e = (s .threads t .place ≡ sending e) ⊎ (s .threads t .place ≡ 
 -- Only a blocked sender and a thread with outcome 2 store a badge and message.
 abbrev pub Stores : Place → ℕ → Type 0
 Stores absent outcome = ⊥
-Stores able outcome = outcome ≡ 2
+Stores able outcome = outcome ≡ messageReceived
 Stores (sending e) outcome = Unit {0}
 Stores (receiving e) outcome = ⊥
 Stores (waiting l) outcome = ⊥
@@ -101,7 +101,7 @@ pub record Owners (s : State) : Type 0 where
 
 -- A blocked thread's outcome is 0, and badge and message stand only where a thread stores them.
 pub record Outcomes (s : State) : Type 0 where
-  pub blocked : (t : ℕ) → (s .threads t .place ≡ able → ⊥) → s .threads t .outcome ≡ 0
+  pub blocked : (t : ℕ) → (s .threads t .place ≡ able → ⊥) → s .threads t .outcome ≡ noOutcome
   pub stored :
       (t : ℕ) → (Stores (s .threads t .place) (s .threads t .outcome) → ⊥)
       → (s .threads t .badge ≡ 0) × (s .threads t .message ≡ 0)

@@ -21,11 +21,30 @@ pub data Debt : Type 0 where
   owns : ℕ → Debt
   noted : ℕ → ℕ → Debt
 
+-- "Both parties that were blocked are woken with an outcome: 1 taken, 2 received (with badge and message), 3 aborted, 4
+-- endpoint gone, 5 line fired. Blocking resets the outcome to 0."
+abbrev pub noOutcome : ℕ
+noOutcome = 0
+
+abbrev pub messageTaken : ℕ
+messageTaken = 1
+
+abbrev pub messageReceived : ℕ
+messageReceived = 2
+
+abbrev pub messageAborted : ℕ
+messageAborted = 3
+
+abbrev pub endpointGone : ℕ
+endpointGone = 4
+
+abbrev pub lineFired : ℕ
+lineFired = 5
+
 pub record Thread : Type 0 where
   pub place : Place
   pub priority : ℕ
   pub ticks : ℕ
-  -- 1 taken, 2 received, 3 aborted, 4 endpoint gone, 5 line fired; 0 none
   pub outcome : ℕ
   pub badge : ℕ
   pub message : ℕ

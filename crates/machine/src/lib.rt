@@ -4,6 +4,8 @@ ghost use mathlib.Core.Path.{_≡_};
 ghost use Rattle.machine.specs.Calls.{numberOf, isAllowance, inRange};
 ghost use Rattle.machine.specs.Results.{plain, counted};
 
+pub mod codes;
+
 // A call, each kind with its own numbers. Any number may stand in any place: those out of range are refused by 19.
 pub enum Call {
     CreateThread {
@@ -143,7 +145,7 @@ pub fn in_range(c: Call) -> bool
             endpoint,
             badge,
             message,
-        } => endpoint <= 63 && badge < 0x1000_0000 && message < 0x1000_0000,
+        } => endpoint <= 63 && badge < codes::NO_BADGE && message < codes::NO_BADGE,
         Call::Receive { endpoint } => endpoint <= 63,
         Call::Yield => true,
         Call::Wait { line } => line <= 31,
@@ -155,6 +157,6 @@ pub fn in_range(c: Call) -> bool
             endpoint,
             allowance,
             badge,
-        } => endpoint <= 63 && is_allowance(allowance) && badge < 0x1000_0000,
+        } => endpoint <= 63 && is_allowance(allowance) && badge < codes::NO_BADGE,
     }
 }

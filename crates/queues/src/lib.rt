@@ -10,6 +10,8 @@ ghost use Rattle.queues.specs.Queues.{Loose, InLevel, InLevelAt, Chooses
 ghost use Rattle.queues.specs.Queues.{leaveLevel, passingAt, highestLink};
 use layout::Field;
 use layout::Part;
+use layout::codes;
+use layout::codes::NOBODY;
 use summary::Level;
 
 // Thread t, in no queue, joins the tail of its level's.
@@ -29,7 +31,7 @@ fn leave_level(tables: &mut [u32], p: u32, t: usize)
 {
     links::unlink(tables, p as usize, t);
     let first = links::first(tables, p as usize);
-    if first == 0 {
+    if first == NOBODY {
         store::mark_empty(tables, p);
     }
 }
@@ -48,7 +50,7 @@ pub fn stand_down(tables: &mut [u32], t: usize)
     requires { ⌜ Shown (now tables) (Loose t) ⌝ }
     ensures { λ _. ⌜ Does (now (tables .entry)) (now (tables .exit)) (Loose t) (standDown t) ⌝ }
 {
-    store::set_running(tables, 0);
+    store::set_running(tables, NOBODY);
     enqueue(tables, t);
 }
 
@@ -57,7 +59,7 @@ pub fn wake(tables: &mut [u32], t: usize, outcome: u32, badge: u32, message: u32
     requires { ⌜ Shown (now tables) (Loose t) ⌝ }
     ensures { λ _. ⌜ Does (now (tables .entry)) (now (tables .exit)) (Loose t) (waking t outcome badge message) ⌝ }
 {
-    store::set_place(tables, t, 1, outcome, badge, message);
+    store::set_place(tables, t, codes::ABLE, outcome, badge, message);
     enqueue(tables, t);
 }
 
@@ -66,8 +68,8 @@ pub fn block(tables: &mut [u32], t: usize, place: u32, badge: u32, message: u32)
     requires { ⌜ Shown (now tables) (IsThread t) ⌝ }
     ensures { λ _. ⌜ BlocksAt (now (tables .entry)) t place badge message (now (tables .exit)) ⌝ }
 {
-    store::set_running(tables, 0);
-    store::set_place(tables, t, place, 0, badge, message);
+    store::set_running(tables, NOBODY);
+    store::set_place(tables, t, place, machine::codes::NO_OUTCOME, badge, message);
 }
 
 // The link to the highest occupied level: level p is p + 1, and none is 0.
@@ -117,7 +119,7 @@ pub fn choose(tables: &mut [u32])
     ensures { λ _. ⌜ Does (now (tables .entry)) (now (tables .exit)) Chooses choosing ⌝ }
 {
     let link = store::running(tables);
-    if link == 0 {
+    if link == NOBODY {
         dispatch(tables);
         return;
     }
@@ -129,7 +131,7 @@ pub fn join_endpoint(tables: &mut [u32], t: usize, e: usize)
     requires { ⌜ Shown (now tables) (ToEndpoint t e) ⌝ }
     ensures { λ _. ⌜ Does (now (tables .entry)) (now (tables .exit)) (ToEndpoint t e) (joinEndpoint t e) ⌝ }
 {
-    links::push_tail(tables, 256 + e, t);
+    links::push_tail(tables, codes::ENDPOINT_QUEUES + e, t);
 }
 
 // Thread t goes from those that the abort at endpoint e has to look at: a mark that it is passes to its neighbour.
@@ -142,7 +144,7 @@ pub fn pass_marks(tables: &mut [u32], t: usize, e: usize)
     let end = store::endpoint(tables, Part::End, e);
     if cursor == link {
         if end == link {
-            store::set_marks(tables, e, 0, 0);
+            store::set_marks(tables, e, NOBODY, NOBODY);
             return;
         }
         let next = links::next(tables, t);
@@ -161,7 +163,7 @@ pub fn leave_endpoint(tables: &mut [u32], t: usize, e: usize)
     ensures { λ _. ⌜ Does (now (tables .entry)) (now (tables .exit)) (InEndpoint t e) (leaveEndpoint t e) ⌝ }
 {
     pass_marks(tables, t, e);
-    links::unlink(tables, 256 + e, t);
+    links::unlink(tables, codes::ENDPOINT_QUEUES + e, t);
 }
 
 // Thread t leaves the queue of endpoint e and is woken with an outcome.

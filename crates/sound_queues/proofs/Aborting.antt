@@ -3,14 +3,15 @@ use Prim.Native.Nat.{ℕ, zero, suc, _+_, _-_, _≤_, _<_, _^_}
 use mathlib.Core.Bool.{Bool, true, false, _&&_, Bool·beq}
 use mathlib.Core.List.{List}
 use mathlib.Core.Path.{_≡_, refl, ap, sym, _∙_}
-use native.Mathlib.Numerals.{add-one}
 use native.Mathlib.Omega.{arith}
 use lib.Dec.{eqb, ltb}
 use borrow.Author.Tests.{le-leb, lt-leb, ne-eqb}
 use Rattle.machine.specs.Lists.{pick}
+use Rattle.machine.specs.State.{owns}
 use Rattle.layout.specs.declared.Field.{Field}
 use Rattle.layout.specs.declared.Part.{Part}
 use Rattle.layout.specs.Addresses.{head, linkAt, word}
+use Rattle.layout.specs.Words.{debtCode}
 use Rattle.layout.specs.Tests.{same}
 use Rattle.soundness.specs.Checks.{threadAt, endpointAt, kindOf, bannedOf, ownerTest, abortTest, statusTest}
 
@@ -52,11 +53,12 @@ module _ (m : List ℕ) (e : ℕ) where
   owner-far (suc t) h = rw (lt-leb t 255 (omega arith))
 
   pub owner-owes :
-      (o : ℕ) {w : ℕ} → (o ≡ 0 → ⊥) → o ≤ 256 → w ≡ threadAt m Field.Owes (o - 1) → eqb w (e + 1) ≡ ownerTest o m e
+      (o : ℕ) {w : ℕ} → (o ≡ 0 → ⊥) → o ≤ 256 → w ≡ threadAt m Field.Owes (o - 1)
+      → eqb w (debtCode (owns e)) ≡ ownerTest o m e
   unfolding ownerTest
   owner-owes zero n h f = absurd (n refl)
   owner-owes (suc t) n h f =
-      let q : suc t - 1 ≡ t = omega arith in rw (f, q, le-leb t 255 (omega arith), add-one)
+      let q : suc t - 1 ≡ t = omega arith in rw (f, q, le-leb t 255 (omega arith))
 
   -- An abort's words: badge b, cursor c and end d.
   module _

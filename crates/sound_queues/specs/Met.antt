@@ -5,12 +5,13 @@ use mathlib.Core.Path.{_≡_}
 use mathlib.Core.Bool.{Bool, true, false, _||_}
 use mathlib.Core.List.{List}
 use Rattle.machine.specs.Lists.{pick, put}
+use Rattle.layout.specs.Addresses.{scratchWords}
 use Rattle.layout.specs.Words.{tabulate}
 use Rattle.layout.specs.Tests.{member}
 
 -- The scratch of exactly the threads of the set.
 unfoldable pub metIn : (ℕ → Bool) → List ℕ
-metIn f = tabulate 256 (λ t. pick (f t) 1 0)
+metIn f = tabulate scratchWords (λ t. pick (f t) 1 0)
 
 -- No thread is met.
 abbrev pub noneMet : ℕ → Bool

@@ -1,11 +1,13 @@
 -- The parts of the tests that the code takes as one step each.
-use Prim.Native.Nat.{ℕ, _+_}
+use Prim.Native.Nat.{ℕ}
 use mathlib.Core.Bool.{Bool, _&&_, _||_}
 use mathlib.Core.List.{List}
 use lib.Dec.{eqb}
+use Rattle.machine.specs.State.{sending, receiving}
 use Rattle.layout.specs.declared.Field.{Field}
 use Rattle.layout.specs.declared.Part.{Part}
-use Rattle.layout.specs.Addresses.{prev, linkAt, word, afterAt}
+use Rattle.layout.specs.Addresses.{prev, linkAt, word, afterAt, endpointQueue}
+use Rattle.layout.specs.Words.{placeCode}
 use Rattle.soundness.specs.declared.Phase.{Phase}
 use Rattle.soundness.specs.Checks.{threadAt, endpointAt, readyTest, allowed}
 use Rattle.soundness.specs.Checks.{waitersFrom, bannedOf}
@@ -22,10 +24,10 @@ standsBehind m k b f x t =
 -- The queue of endpoint e, whose threads have place k.
 abbrev pub waitersAs : List ℕ → ℕ → ℕ → Bool
 waitersAs m e k =
-    waitersFrom 257 (word m (afterAt (256 + e) 0)) Phase.Ahead m (256 + e) k (endpointAt m Part.Cursor e)
-    (endpointAt m Part.End e)
-    (bannedOf m e k) 0
+    waitersFrom 257 (word m (afterAt (endpointQueue e) 0)) Phase.Ahead m (endpointQueue e) k
+    (endpointAt m Part.Cursor e) (endpointAt m Part.End e) (bannedOf m e k) 0
 
 -- The place k is that of its senders, or of its receivers where there are no marks.
 abbrev pub kindFits : List ℕ → ℕ → ℕ → Bool
-kindFits m e k = eqb k (2 + e) || (eqb k (66 + e) && eqb (endpointAt m Part.Cursor e) 0)
+kindFits m e k =
+    eqb k (placeCode (sending e)) || (eqb k (placeCode (receiving e)) && eqb (endpointAt m Part.Cursor e) 0)

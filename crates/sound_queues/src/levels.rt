@@ -3,37 +3,39 @@
 ghost use mathlib.Core.Path.{_≡_};
 ghost use Prim.Native.Nat.{_≤_};
 ghost use lib.ListN.{length};
+ghost use Rattle.layout.specs.Addresses.{tableWords, scratchWords};
 ghost use Rattle.layout.specs.Tests.{all};
 ghost use Rattle.soundness.specs.Checks.{levelTest, met, metBelow};
 ghost use Rattle.sound_queues.specs.Steps.{readyBehind};
 ghost use Rattle.sound_queues.specs.Met.{metIn, Follows, FollowsAll};
 use layout::Field;
+use layout::wide;
 
 // Thread t, met behind link x in the queue of level p: it is linked back, and ready at p.
 fn ready(tables: &[u32], p: usize, x: usize, t: usize) -> bool
-    requires { ⌜ (length (now tables) ≡ 4096) × (t ≤ 255) ⌝ }
+    requires { ⌜ (length (now tables) ≡ tableWords) × (t ≤ 255) ⌝ }
     ensures { λ r. ⌜ r ≡ readyBehind (now (tables .entry)) p x t ⌝ }
 {
     let prev = words::prev(tables, t);
     let place = words::thread(tables, Field::Place, t);
     let priority = words::thread(tables, Field::Priority, t);
     let running = words::running(tables);
-    (prev == x) & ((place == 1) & (priority == p) & (running != t + 1))
+    (prev == x) & ((place == wide::ABLE) & (priority == p) & (running != t + 1))
 }
 
 fn level(tables: &[u32], scratch: &mut [u32], p: usize) -> bool
-    requires { ⌜ (length (now tables) ≡ 4096) × (length (now scratch) ≡ 256) × (p ≤ 255) ⌝ }
+    requires { ⌜ (length (now tables) ≡ tableWords) × (length (now scratch) ≡ scratchWords) × (p ≤ 255) ⌝ }
     ensures { λ r. ⌜ Follows (now (scratch .entry)) (now (scratch .exit)) (met (now (tables .entry)) p)
         (levelTest (now (tables .entry)) p) r ⌝ }
 {
-    let mut x: usize = 0;
+    let mut x: usize = wide::NOBODY;
     let mut y = words::head(tables, p);
     let mut left: usize = 257;
     while 0 < left {
-        if y == 0 {
+        if y == wide::NOBODY {
             return words::tail(tables, p) == x;
         }
-        if 256 < y {
+        if wide::LAST_LINK < y {
             return false;
         }
         let t = y - 1;
@@ -49,7 +51,7 @@ fn level(tables: &[u32], scratch: &mut [u32], p: usize) -> bool
 }
 
 pub fn levels(tables: &[u32], scratch: &mut [u32]) -> bool
-    requires { ⌜ (length (now tables) ≡ 4096) × (length (now scratch) ≡ 256)
+    requires { ⌜ (length (now tables) ≡ tableWords) × (length (now scratch) ≡ scratchWords)
         × (now scratch ≡ metIn (metBelow 0 (now tables))) ⌝ }
     ensures { λ r. ⌜ FollowsAll (now (scratch .exit)) (metBelow 256 (now (tables .entry)))
         (all 256 (levelTest (now (tables .entry)))) r ⌝ }

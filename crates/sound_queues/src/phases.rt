@@ -1,6 +1,7 @@
 // The phases of a walk through an abort's queue, by its marks. No sender under the aborted badge may stand outside them.
 ghost use mathlib.Core.Path.{_≡_};
 ghost use Rattle.soundness.specs.Checks.{phaseAt, phaseBehind, allowed, complete};
+use layout::wide;
 use soundness::Phase;
 
 // The phase at link y, where the cursor is c.
@@ -51,7 +52,7 @@ pub fn complete(f: Phase, c: usize) -> bool
     ensures { λ r. ⌜ r ≡ complete f c ⌝ }
 {
     match f {
-        Phase::Ahead => c == 0,
+        Phase::Ahead => c == wide::NOBODY,
         Phase::Inside => false,
         Phase::Past => true,
     }

@@ -3,26 +3,29 @@
 ghost use mathlib.Core.Path.{_≡_};
 ghost use Prim.Native.Nat.{_≤_};
 ghost use lib.ListN.{length};
+ghost use Rattle.layout.specs.Addresses.{tableWords, scratchWords};
 ghost use Rattle.layout.specs.Tests.{all};
 ghost use Rattle.soundness.specs.Checks.{placedTest, metBelow};
 ghost use Rattle.sound_queues.specs.Met.{metIn};
 use layout::Field;
+use layout::wide;
 
 fn place(tables: &[u32], scratch: &[u32], t: usize) -> bool
-    requires { ⌜ (length (now tables) ≡ 4096) × (length (now scratch) ≡ 256)
+    requires { ⌜ (length (now tables) ≡ tableWords) × (length (now scratch) ≡ scratchWords)
         × (now scratch ≡ metIn (metBelow 320 (now tables))) × (t ≤ 255) ⌝ }
     ensures { λ r. ⌜ r ≡ placedTest (now (tables .entry)) t ⌝ }
 {
     let met = crate::met::has_met(scratch, t);
     let place = words::thread(tables, Field::Place, t);
     let running = words::running(tables);
-    let queued = ((place == 1) & (running != t + 1)) | ((2 <= place) & (place < 130));
-    let bare = (words::next(tables, t) == 0) & (words::prev(tables, t) == 0);
+    let queued = ((place == wide::ABLE) & (running != t + 1))
+        | ((wide::SENDING <= place) & (place < wide::WAITING));
+    let bare = (words::next(tables, t) == wide::NOBODY) & (words::prev(tables, t) == wide::NOBODY);
     (met == queued) & (met | bare)
 }
 
 pub fn places(tables: &[u32], scratch: &[u32]) -> bool
-    requires { ⌜ (length (now tables) ≡ 4096) × (length (now scratch) ≡ 256)
+    requires { ⌜ (length (now tables) ≡ tableWords) × (length (now scratch) ≡ scratchWords)
         × (now scratch ≡ metIn (metBelow 320 (now tables))) ⌝ }
     ensures { λ r. ⌜ r ≡ all 256 (placedTest (now (tables .entry))) ⌝ }
 {

@@ -7,9 +7,11 @@ ghost use lib.Dec.{eqb, leb};
 ghost use lib.ListN.{length};
 ghost use Rattle.machine.specs.Lists.{pick};
 ghost use Rattle.summary.specs.Levels.{wordOf};
+ghost use Rattle.layout.specs.Addresses.{tableWords};
 ghost use Rattle.layout.specs.Tests.{all};
 ghost use Rattle.soundness.specs.Checks.{occupiedAt, summaryTest, runningTest};
 use layout::Field;
+use layout::wide;
 
 // What a bit adds: nothing where the word it stands for is 0.
 fn share(word: usize, bit: usize) -> usize
@@ -23,7 +25,7 @@ fn share(word: usize, bit: usize) -> usize
 
 // Word w of the summary, as the queues have it.
 fn word(tables: &[u32], w: usize) -> usize
-    requires { ⌜ (length (now tables) ≡ 4096) × (w ≤ 7) ⌝ }
+    requires { ⌜ (length (now tables) ≡ tableWords) × (w ≤ 7) ⌝ }
     ensures { λ r. ⌜ r ≡ wordOf (occupiedAt (now (tables .entry))) w ⌝ }
 {
     let mut k = 0;
@@ -38,7 +40,7 @@ fn word(tables: &[u32], w: usize) -> usize
 }
 
 pub fn summary(tables: &[u32]) -> bool
-    requires { ⌜ length (now tables) ≡ 4096 ⌝ }
+    requires { ⌜ length (now tables) ≡ tableWords ⌝ }
     ensures { λ r. ⌜ r ≡ summaryTest (now (tables .entry)) ⌝ }
 {
     let mut w = 0;
@@ -58,13 +60,13 @@ pub fn summary(tables: &[u32]) -> bool
 
 // No level above p is occupied.
 fn above(tables: &[u32], p: usize) -> bool
-    requires { ⌜ length (now tables) ≡ 4096 ⌝ }
+    requires { ⌜ length (now tables) ≡ tableWords ⌝ }
     ensures { λ r. ⌜ r ≡ all 256 (λ i. leb i p || not (occupiedAt (now (tables .entry)) i)) ⌝ }
 {
     let mut i = p;
     while i < 255 {
         i += 1;
-        if words::head(tables, i) != 0 {
+        if words::head(tables, i) != wide::NOBODY {
             return false;
         }
     }
@@ -72,17 +74,17 @@ fn above(tables: &[u32], p: usize) -> bool
 }
 
 pub fn running(tables: &[u32]) -> bool
-    requires { ⌜ length (now tables) ≡ 4096 ⌝ }
+    requires { ⌜ length (now tables) ≡ tableWords ⌝ }
     ensures { λ r. ⌜ r ≡ runningTest (now (tables .entry)) ⌝ }
 {
     let running = words::running(tables);
-    if running == 0 {
-        return (words::head(tables, 0) == 0) & above(tables, 0);
+    if running == wide::NOBODY {
+        return (words::head(tables, 0) == wide::NOBODY) & above(tables, 0);
     }
-    if 256 < running {
+    if wide::LAST_LINK < running {
         return false;
     }
     let t = running - 1;
-    (words::thread(tables, Field::Place, t) == 1)
+    (words::thread(tables, Field::Place, t) == wide::ABLE)
         & above(tables, words::thread(tables, Field::Priority, t))
 }

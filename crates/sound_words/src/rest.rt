@@ -2,27 +2,29 @@
 ghost use mathlib.Core.Path.{_≡_};
 ghost use Prim.Native.Nat.{_≤_};
 ghost use lib.ListN.{length};
+ghost use Rattle.layout.specs.Addresses.{tableWords};
 ghost use Rattle.layout.specs.Tests.{all};
 ghost use Rattle.soundness.specs.Checks.{lineTest, unusedTest};
 use layout::Field;
+use layout::wide;
 
 // A line's waiter waits on it.
 fn line(tables: &[u32], l: usize) -> bool
-    requires { ⌜ (length (now tables) ≡ 4096) × (l ≤ 31) ⌝ }
+    requires { ⌜ (length (now tables) ≡ tableWords) × (l ≤ 31) ⌝ }
     ensures { λ r. ⌜ r ≡ lineTest (now (tables .entry)) l ⌝ }
 {
     let line = words::line(tables, l);
-    if line < 2 {
+    if line < wide::AWAITED {
         return true;
     }
-    if 257 < line {
+    if wide::LAST_AWAITED < line {
         return false;
     }
-    words::thread(tables, Field::Place, line - 2) == 130 + l
+    words::thread(tables, Field::Place, line - wide::AWAITED) == wide::WAITING + l
 }
 
 pub fn lines(tables: &[u32]) -> bool
-    requires { ⌜ length (now tables) ≡ 4096 ⌝ }
+    requires { ⌜ length (now tables) ≡ tableWords ⌝ }
     ensures { λ r. ⌜ r ≡ all 32 (lineTest (now (tables .entry))) ⌝ }
 {
     let mut l = 0;
@@ -37,7 +39,7 @@ pub fn lines(tables: &[u32]) -> bool
 
 // The unused words are 0.
 pub fn unused(tables: &[u32]) -> bool
-    requires { ⌜ length (now tables) ≡ 4096 ⌝ }
+    requires { ⌜ length (now tables) ≡ tableWords ⌝ }
     ensures { λ r. ⌜ r ≡ all 470 (unusedTest (now (tables .entry))) ⌝ }
 {
     let mut i = 0;

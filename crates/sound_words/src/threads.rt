@@ -4,15 +4,17 @@ ghost use mathlib.Core.Path.{_≡_};
 ghost use Prim.Native.Nat.{_≤_};
 ghost use lib.ListN.{length};
 ghost use Rattle.layout.specs.declared.Field.{Field};
+ghost use Rattle.layout.specs.Addresses.{tableWords};
 ghost use Rattle.layout.specs.Tests.{all};
 ghost use Rattle.soundness.specs.Checks.{threadAt, absentTest, numbersTest, storedTest, waitsTest, owesTest};
 ghost use Rattle.soundness.specs.Checks.{presentTest, blockTest};
 use layout::Field;
 use layout::Part;
+use layout::wide;
 
 // An absent thread's words are 0.
 fn absent(tables: &[u32], t: usize) -> bool
-    requires { ⌜ (length (now tables) ≡ 4096) × (t ≤ 255) ⌝ }
+    requires { ⌜ (length (now tables) ≡ tableWords) × (t ≤ 255) ⌝ }
     ensures { λ r. ⌜ r ≡ absentTest (now (tables .entry)) t ⌝ }
 {
     (words::thread(tables, Field::Priority, t) == 0)
@@ -26,61 +28,63 @@ fn absent(tables: &[u32], t: usize) -> bool
 
 // A present thread's numbers are in range.
 fn numbers(tables: &[u32], t: usize) -> bool
-    requires { ⌜ (length (now tables) ≡ 4096) × (t ≤ 255) ⌝ }
+    requires { ⌜ (length (now tables) ≡ tableWords) × (t ≤ 255) ⌝ }
     ensures { λ r. ⌜ r ≡ numbersTest (now (tables .entry)) t ⌝ }
 {
     let ticks = words::thread(tables, Field::Ticks, t);
-    (words::thread(tables, Field::Place, t) <= 161)
+    (words::thread(tables, Field::Place, t) <= wide::LAST_PLACE)
         & (words::thread(tables, Field::Priority, t) <= 255)
-        & ((1 <= ticks) & (ticks <= 5))
-        & (words::thread(tables, Field::Outcome, t) <= 5)
-        & (words::thread(tables, Field::Badge, t) < 0x1000_0000)
-        & (words::thread(tables, Field::Message, t) < 0x1000_0000)
+        & ((1 <= ticks) & (ticks <= wide::TICKS))
+        & (words::thread(tables, Field::Outcome, t) <= wide::LAST_OUTCOME)
+        & (words::thread(tables, Field::Badge, t) < wide::NO_BADGE)
+        & (words::thread(tables, Field::Message, t) < wide::NO_BADGE)
 }
 
 // Outcome, badge and message stand only where a thread stores them.
 fn stored(tables: &[u32], t: usize) -> bool
-    requires { ⌜ (length (now tables) ≡ 4096) × (t ≤ 255) ⌝ }
+    requires { ⌜ (length (now tables) ≡ tableWords) × (t ≤ 255) ⌝ }
     ensures { λ r. ⌜ r ≡ storedTest (now (tables .entry)) t ⌝ }
 {
     let place = words::thread(tables, Field::Place, t);
     let outcome = words::thread(tables, Field::Outcome, t);
     let nothing = (words::thread(tables, Field::Badge, t) == 0)
         & (words::thread(tables, Field::Message, t) == 0);
-    ((place == 1) | (outcome == 0)) & ((outcome == 2) | ((2 <= place) & (place < 66)) | nothing)
+    let sends = (wide::SENDING <= place) & (place < wide::RECEIVING);
+    ((place == wide::ABLE) | (outcome == wide::NO_OUTCOME))
+        & ((outcome == wide::MESSAGE_RECEIVED) | sends | nothing)
 }
 
 // A thread on a line is the line's waiter.
 fn waits(tables: &[u32], t: usize) -> bool
-    requires { ⌜ (length (now tables) ≡ 4096) × (t ≤ 255) × (threadAt (now tables) Field.Place t ≤ 161) ⌝ }
+    requires { ⌜ (length (now tables) ≡ tableWords) × (t ≤ 255) × (threadAt (now tables) Field.Place t ≤ 161) ⌝ }
     ensures { λ r. ⌜ r ≡ waitsTest (now (tables .entry)) t ⌝ }
 {
     let place = words::thread(tables, Field::Place, t);
-    if place < 130 {
+    if place < wide::WAITING {
         return true;
     }
-    words::line(tables, place - 130) == t + 2
+    words::line(tables, place - wide::WAITING) == t + wide::AWAITED
 }
 
 // What a thread owes: nothing, an abort that names it as owner, or a note.
 fn owing(tables: &[u32], t: usize) -> bool
-    requires { ⌜ (length (now tables) ≡ 4096) × (t ≤ 255) ⌝ }
+    requires { ⌜ (length (now tables) ≡ tableWords) × (t ≤ 255) ⌝ }
     ensures { λ r. ⌜ r ≡ owesTest (threadAt (now (tables .entry)) Field.Owes t) (now (tables .entry)) t ⌝ }
 {
     let owes = words::thread(tables, Field::Owes, t);
     let note = words::thread(tables, Field::Note, t);
-    if owes == 0 {
+    if owes == wide::NOTHING {
         return note == 0;
     }
-    if owes <= 64 {
-        return (note == 0) & (words::endpoint(tables, Part::Owner, owes - 1) == t + 1);
+    if owes <= wide::LAST_OWNER {
+        return (note == 0) & (words::endpoint(tables, Part::Owner, owes - wide::OWNER) == t + 1);
     }
-    (owes <= 128) & (note < 0x1000_0000)
+    (owes <= wide::LAST_NOTE) & (note < wide::NO_BADGE)
 }
 
 // A present thread. Where its numbers are in range, its line exists.
 fn present(tables: &[u32], t: usize) -> bool
-    requires { ⌜ (length (now tables) ≡ 4096) × (t ≤ 255) ⌝ }
+    requires { ⌜ (length (now tables) ≡ tableWords) × (t ≤ 255) ⌝ }
     ensures { λ r. ⌜ r ≡ presentTest (now (tables .entry)) t ⌝ }
 {
     if !numbers(tables, t) {
@@ -90,17 +94,17 @@ fn present(tables: &[u32], t: usize) -> bool
 }
 
 fn block(tables: &[u32], t: usize) -> bool
-    requires { ⌜ (length (now tables) ≡ 4096) × (t ≤ 255) ⌝ }
+    requires { ⌜ (length (now tables) ≡ tableWords) × (t ≤ 255) ⌝ }
     ensures { λ r. ⌜ r ≡ blockTest (now (tables .entry)) t ⌝ }
 {
-    if words::thread(tables, Field::Place, t) == 0 {
+    if words::thread(tables, Field::Place, t) == wide::ABSENT {
         return absent(tables, t);
     }
     present(tables, t)
 }
 
 pub fn threads(tables: &[u32]) -> bool
-    requires { ⌜ length (now tables) ≡ 4096 ⌝ }
+    requires { ⌜ length (now tables) ≡ tableWords ⌝ }
     ensures { λ r. ⌜ r ≡ all 256 (blockTest (now (tables .entry))) ⌝ }
 {
     let mut t = 0;

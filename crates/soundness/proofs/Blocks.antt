@@ -18,7 +18,7 @@ use Rattle.layout.specs.Addresses.{ofThread, ofEndpoint, ofLine, at, word}
 use Rattle.layout.specs.Words.{linkOf, placeCode, debtCode, noteCode, lineCode, threadWord}
 use Rattle.layout.specs.Decode.{placeOf, threadFrom}
 use Rattle.layout.proofs.Addresses.{below?}
-use Rattle.layout.proofs.Codes.{PlaceSmall, place-back, DebtSmall}
+use Rattle.layout.proofs.RoundTrip.{PlaceSmall, place-back, DebtSmall}
 use Rattle.layout.proofs.Blocks.{NeatThread, absent-neat, thread-back, debt-in-range}
 use Rattle.layout.proofs.Neat.{seat-small}
 use Rattle.layout.proofs.Tests.{Decides, tells-map, tells-and, tells-or, tells-eqb, tells-leb, tells-some}

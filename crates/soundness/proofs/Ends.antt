@@ -17,7 +17,7 @@ use Rattle.layout.specs.Words.{linkOf, firstOf, lastOf, debtCode, statusCode, a
 use Rattle.layout.specs.Shows.{Chain}
 use Rattle.layout.specs.Decode.{linked, between, abortBy, endpointBy, endpointFrom}
 use Rattle.layout.proofs.Chains.{chain-first, first-zero}
-use Rattle.layout.proofs.Codes.{within-same}
+use Rattle.layout.proofs.RoundTrip.{within-same}
 use Rattle.layout.proofs.Ends.{NeatEndpoint, none-some}
 use Rattle.layout.proofs.Tests.{Decides, tells-true, tells-false, tells-map, tells-and, tells-agree, tells-eqb}
 use Rattle.layout.proofs.Tests.{tells-leb}
@@ -31,7 +31,7 @@ use Rattle.soundness.proofs.Reading.{Reads, end-joined}
 
 abbrev Owned : List ℕ → ℕ → ℕ → Type 0
 Owned m e zero = Unit {0}
-Owned m e (suc t) = (t ≤ 255) × (threadAt m Field.Owes t ≡ suc e)
+Owned m e (suc t) = (t ≤ 255) × (threadAt m Field.Owes t ≡ debtCode (owns e))
 
 abbrev Aborting : List ℕ → ℕ → ℕ → Type 0
 Aborting m e zero =
@@ -52,7 +52,7 @@ module _ (m : List ℕ) (e : ℕ) where
   tells-owner : (w : ℕ) → Decides (ownerTest w m e) (Owned m e w)
   unfolding ownerTest
   tells-owner zero = tells-true tt
-  tells-owner (suc t) = tells-and (tells-leb t 255) (tells-eqb _ (suc e))
+  tells-owner (suc t) = tells-and (tells-leb t 255) (tells-eqb _ (debtCode (owns e)))
 
   tells-aborting : (n : ℕ) → Decides (abortTest n m e) (Aborting m e n)
   unfolding abortTest
@@ -206,20 +206,17 @@ module _ (m : List ℕ) (s : State) (R : Reads m s) (e : ℕ) (h : e ≤ 63) whe
       go live i = tt
       go closing i = no-abort-there (λ j. omega (arith, ap statusCode (sym i ∙ j)))
 
-  one-more : 1 + e ≡ suc e
-  one-more = omega arith
-
   owns-there : (t : ℕ) → Owned m e (suc t) → s .threads t .debt ≡ owns e
   owns-there t o =
       tells-owns (s .threads t .debt) e h .holds
-      (tells-eqb (debtCode (s .threads t .debt)) (1 + e) .back
-      (sym (R .slots (ofThread Field.Owes t) (o .0)) ∙ o .1 ∙ sym one-more))
+      (tells-eqb (debtCode (s .threads t .debt)) (debtCode (owns e)) .back
+      (sym (R .slots (ofThread Field.Owes t) (o .0)) ∙ o .1))
 
   owned-there : Paired s e → (o : Option ℕ) → ownerOf (s .endpoints e .abort) ≡ o → Owned m e (linkOf o)
   owned-there P none i = tt
   owned-there P (some t) i =
       let small = X .neat .owner t i in
-      (small, R .slots (ofThread Field.Owes t) small ∙ ap debtCode (P t i) ∙ one-more)
+      (small, R .slots (ofThread Field.Owes t) small ∙ ap debtCode (P t i))
 
   from-aborting : (o : Option Abort) → s .endpoints e .abort ≡ o → Aborting m e (abortCode o) → Paired s e
   from-aborting none i a t k = none-some (ap ownerOf (sym i) ∙ k)

@@ -16,7 +16,7 @@ use Rattle.layout.specs.declared.Field.{Field}
 use Rattle.layout.specs.Addresses.{ofThread, ofLine, summary, top, running, unused, at, word}
 use Rattle.layout.specs.Words.{linkOf, firstOf, lineCode}
 use Rattle.layout.specs.Decode.{lineBy}
-use Rattle.layout.proofs.Codes.{line-small}
+use Rattle.layout.proofs.RoundTrip.{line-small}
 use Rattle.layout.proofs.Tests.{Decides, tells-true, tells-false, tells-map, tells-and, tells-or, tells-eqb, tells-leb}
 use Rattle.layout.proofs.Tests.{tells-below}
 use Rattle.soundness.specs.Checks.{threadAt, lineFrom, lineTest, occupiedAt, summaryTest, runningFrom}

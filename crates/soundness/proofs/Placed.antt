@@ -12,7 +12,7 @@ use Rattle.layout.specs.declared.Field.{Field}
 use Rattle.layout.specs.Addresses.{ofThread, next, prev, linkAt, word}
 use Rattle.layout.specs.Words.{placeCode, queuesOf}
 use Rattle.layout.specs.Tests.{member}
-use Rattle.layout.proofs.Codes.{PlaceSmall}
+use Rattle.layout.proofs.RoundTrip.{PlaceSmall}
 use Rattle.layout.proofs.Standing.{each-queue}
 use Rattle.layout.proofs.Neat.{seat-small}
 use Rattle.layout.proofs.Tests.{Decides, tells-false, tells-map, tells-and, tells-or, tells-not, tells-agree, tells-eqb}

@@ -17,7 +17,7 @@ use Rattle.layout.specs.Addresses.{Slot, ValidSlot, ofThread, running, head, at
 use Rattle.layout.specs.Words.{placeCode, firstOf, occupiedIn, content, queuesOf}
 use Rattle.layout.specs.Shows.{Chain}
 use Rattle.layout.proofs.Chains.{chain-first}
-use Rattle.layout.proofs.Codes.{PlaceSmall}
+use Rattle.layout.proofs.RoundTrip.{PlaceSmall}
 use Rattle.layout.proofs.Standing.{queues-level, queues-endpoint}
 use Rattle.layout.proofs.Neat.{NeatState}
 use Rattle.layout.proofs.Tests.{Decides, tells-and, tells-not, tells-eqb, tells-place, tells-some}

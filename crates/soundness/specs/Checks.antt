@@ -1,15 +1,18 @@
 -- What the check tries of the words, test by test, as it goes through them. Nothing here has to be believed: that all
 -- tests hold exactly where the memory shows a sound state is a theorem, and the check's promise speaks of that alone.
-use Prim.Native.Nat.{ℕ, zero, suc, _+_, _-_, _^_}
+use Prim.Native.Nat.{ℕ, zero, suc, _-_, _^_}
 use mathlib.Core.Bool.{Bool, true, false, not, _&&_, _||_}
 use mathlib.Core.List.{List, [], _∷_}
 use lib.Dec.{eqb, leb, ltb}
 use Rattle.machine.specs.Lists.{pick}
+use Rattle.machine.specs.State.{absent, able, sending, receiving, waiting, owns, noted, awaited, noOutcome}
+use Rattle.machine.specs.State.{messageReceived}
 use Rattle.summary.specs.Levels.{wordOf, topOf}
 use Rattle.layout.specs.declared.Field.{Field}
 use Rattle.layout.specs.declared.Part.{Part}
 use Rattle.layout.specs.Addresses.{ofThread, ofEndpoint, ofLine, summary, top, running, unused, next, prev, head, at}
-use Rattle.layout.specs.Addresses.{linkAt, word, afterAt, beforeAt}
+use Rattle.layout.specs.Addresses.{linkAt, word, afterAt, beforeAt, endpointQueue}
+use Rattle.layout.specs.Words.{placeCode, debtCode, lineCode}
 use Rattle.layout.specs.Tests.{all, member, same}
 use Rattle.soundness.specs.declared.Phase.{Phase}
 
@@ -32,7 +35,7 @@ absentTest m t =
 -- A present thread's numbers are in range.
 unfoldable pub numbersTest : List ℕ → ℕ → Bool
 numbersTest m t =
-    leb (threadAt m Field.Place t) 161 && leb (threadAt m Field.Priority t) 255
+    leb (threadAt m Field.Place t) (placeCode (waiting 31)) && leb (threadAt m Field.Priority t) 255
     && (leb 1 (threadAt m Field.Ticks t) && leb (threadAt m Field.Ticks t) 5)
     && leb (threadAt m Field.Outcome t) 5 && ltb (threadAt m Field.Badge t) (2 ^ 28)
     && ltb (threadAt m Field.Message t) (2 ^ 28)
@@ -40,34 +43,39 @@ numbersTest m t =
 -- A blocked thread's outcome is 0, and badge and message stand only where a thread stores them.
 unfoldable pub storedTest : List ℕ → ℕ → Bool
 storedTest m t =
-    (eqb (threadAt m Field.Place t) 1 || eqb (threadAt m Field.Outcome t) 0)
-    && (eqb (threadAt m Field.Outcome t) 2 || (leb 2 (threadAt m Field.Place t) && ltb (threadAt m Field.Place t) 66)
+    (eqb (threadAt m Field.Place t) (placeCode able) || eqb (threadAt m Field.Outcome t) noOutcome)
+    && (eqb (threadAt m Field.Outcome t) messageReceived
+    || (leb (placeCode (sending 0)) (threadAt m Field.Place t)
+    && ltb (threadAt m Field.Place t) (placeCode (receiving 0)))
     || (eqb (threadAt m Field.Badge t) 0 && eqb (threadAt m Field.Message t) 0))
 
 -- A thread on a line is the line's waiter.
 unfoldable pub waitsTest : List ℕ → ℕ → Bool
 waitsTest m t =
-    ltb (threadAt m Field.Place t) 130 || eqb (word m (at (ofLine (threadAt m Field.Place t - 130)))) (suc (suc t))
+    ltb (threadAt m Field.Place t) (placeCode (waiting 0))
+    || eqb (word m (at (ofLine (threadAt m Field.Place t - placeCode (waiting 0))))) (lineCode (awaited t))
 
 -- What a thread owes: nothing, an abort that names it as owner, or a note of a badge in range.
 unfoldable pub owesTest : ℕ → List ℕ → ℕ → Bool
 owesTest zero m t = eqb (threadAt m Field.Note t) 0
 owesTest (suc w) m t =
-    pick (ltb w 64) (eqb (threadAt m Field.Note t) 0 && eqb (endpointAt m Part.Owner w) (suc t))
-    (ltb w 128 && ltb (threadAt m Field.Note t) (2 ^ 28))
+    pick (leb (suc w) (debtCode (owns 63)))
+    (eqb (threadAt m Field.Note t) 0 && eqb (endpointAt m Part.Owner w) (suc t))
+    (leb (suc w) (debtCode (noted 63 0)) && ltb (threadAt m Field.Note t) (2 ^ 28))
 
 unfoldable pub presentTest : List ℕ → ℕ → Bool
 presentTest m t = numbersTest m t && storedTest m t && waitsTest m t && owesTest (threadAt m Field.Owes t) m t
 
 unfoldable pub blockTest : List ℕ → ℕ → Bool
-blockTest m t = pick (eqb (threadAt m Field.Place t) 0) (absentTest m t) (presentTest m t)
+blockTest m t = pick (eqb (threadAt m Field.Place t) (placeCode absent)) (absentTest m t) (presentTest m t)
 
 -- Queues of the levels
 
 -- A thread ready at level p.
 unfoldable pub readyTest : List ℕ → ℕ → ℕ → Bool
 readyTest m p t =
-    eqb (threadAt m Field.Place t) 1 && eqb (threadAt m Field.Priority t) p && not (eqb (word m (at running)) (suc t))
+    eqb (threadAt m Field.Place t) (placeCode able) && eqb (threadAt m Field.Priority t) p
+    && not (eqb (word m (at running)) (suc t))
 
 -- The queue of level p from link x on, n - 1 threads at most: each is linked back to the one before it and ready at p.
 unfoldable pub levelFrom : ℕ → ℕ → List ℕ → ℕ → ℕ → Bool
@@ -117,24 +125,27 @@ waitersFrom (suc n) (suc t) f m q k c d b x =
 
 -- The place that all in the queue of endpoint e must have: that of its first, to send or to receive there.
 unfoldable pub kindOf : ℕ → List ℕ → ℕ → ℕ
-kindOf zero m e = 2 + e
+kindOf zero m e = placeCode (sending e)
 kindOf (suc t) m e = pick (leb t 255) (threadAt m Field.Place t) 0
 
 unfoldable pub bannedOf : List ℕ → ℕ → ℕ → ℕ
-bannedOf m e k = pick (eqb (endpointAt m Part.Aborting e) 1 && eqb k (2 + e)) (endpointAt m Part.Aborted e) (2 ^ 28)
+bannedOf m e k =
+    pick (eqb (endpointAt m Part.Aborting e) 1 && eqb k (placeCode (sending e))) (endpointAt m Part.Aborted e) (2 ^ 28)
+
+abbrev pub kindIn : List ℕ → ℕ → ℕ
+kindIn m e = kindOf (word m (linkAt (head (endpointQueue e)))) m e
 
 unfoldable pub waitersTest : List ℕ → ℕ → Bool
 waitersTest m e =
-    (eqb (kindOf (word m (linkAt (head (256 + e)))) m e) (2 + e)
-    || (eqb (kindOf (word m (linkAt (head (256 + e)))) m e) (66 + e) && eqb (endpointAt m Part.Cursor e) 0))
-    && waitersFrom 257 (word m (afterAt (256 + e) 0)) Phase.Ahead m (256 + e)
-    (kindOf (word m (linkAt (head (256 + e)))) m e) (endpointAt m Part.Cursor e) (endpointAt m Part.End e)
-    (bannedOf m e (kindOf (word m (linkAt (head (256 + e)))) m e)) 0
+    (eqb (kindIn m e) (placeCode (sending e))
+    || (eqb (kindIn m e) (placeCode (receiving e)) && eqb (endpointAt m Part.Cursor e) 0))
+    && waitersFrom 257 (word m (afterAt (endpointQueue e) 0)) Phase.Ahead m (endpointQueue e) (kindIn m e)
+    (endpointAt m Part.Cursor e) (endpointAt m Part.End e) (bannedOf m e (kindIn m e)) 0
 
 -- An owner owes: it names the endpoint.
 unfoldable pub ownerTest : ℕ → List ℕ → ℕ → Bool
 ownerTest zero m e = true
-ownerTest (suc t) m e = leb t 255 && eqb (threadAt m Field.Owes t) (suc e)
+ownerTest (suc t) m e = leb t 255 && eqb (threadAt m Field.Owes t) (debtCode (owns e))
 
 -- No abort, or one of a badge in range.
 unfoldable pub abortTest : ℕ → List ℕ → ℕ → Bool
@@ -148,7 +159,7 @@ abortTest (suc (suc n)) m e = false
 
 -- An absent endpoint is empty; an absent or closing one has no abort.
 unfoldable pub statusTest : ℕ → List ℕ → ℕ → Bool
-statusTest zero m e = eqb (word m (linkAt (head (256 + e)))) 0 && eqb (endpointAt m Part.Aborting e) 0
+statusTest zero m e = eqb (word m (linkAt (head (endpointQueue e)))) 0 && eqb (endpointAt m Part.Aborting e) 0
 statusTest (suc zero) m e = true
 statusTest (suc (suc zero)) m e = eqb (endpointAt m Part.Aborting e) 0
 statusTest (suc (suc (suc n))) m e = false
@@ -163,7 +174,7 @@ endpointTest m e =
 unfoldable pub lineFrom : ℕ → List ℕ → ℕ → Bool
 lineFrom zero m l = true
 lineFrom (suc zero) m l = true
-lineFrom (suc (suc t)) m l = leb t 255 && eqb (threadAt m Field.Place t) (130 + l)
+lineFrom (suc (suc t)) m l = leb t 255 && eqb (threadAt m Field.Place t) (placeCode (waiting l))
 
 unfoldable pub lineTest : List ℕ → ℕ → Bool
 lineTest m l = lineFrom (word m (at (ofLine l))) m l
@@ -180,7 +191,7 @@ summaryTest m =
 unfoldable pub runningFrom : ℕ → List ℕ → Bool
 runningFrom zero m = all 256 (λ p. not (occupiedAt m p))
 runningFrom (suc t) m =
-    leb t 255 && eqb (threadAt m Field.Place t) 1
+    leb t 255 && eqb (threadAt m Field.Place t) (placeCode able)
     && all 256 (λ p. leb p (threadAt m Field.Priority t) || not (occupiedAt m p))
 
 unfoldable pub runningTest : List ℕ → Bool
@@ -208,8 +219,9 @@ metBelow (suc q) m t = member t (met m q) || metBelow q m t
 -- A thread that is ready, sends or receives is in a queue.
 unfoldable pub queuedTest : List ℕ → ℕ → Bool
 queuedTest m t =
-    (eqb (threadAt m Field.Place t) 1 && not (eqb (word m (at running)) (suc t)))
-    || (leb 2 (threadAt m Field.Place t) && ltb (threadAt m Field.Place t) 130)
+    (eqb (threadAt m Field.Place t) (placeCode able) && not (eqb (word m (at running)) (suc t)))
+    || (leb (placeCode (sending 0)) (threadAt m Field.Place t)
+    && ltb (threadAt m Field.Place t) (placeCode (waiting 0)))
 
 -- It was met exactly if it is in a queue; whoever was not met has links 0.
 unfoldable pub placedTest : List ℕ → ℕ → Bool

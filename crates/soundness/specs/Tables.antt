@@ -8,8 +8,9 @@ use lib.Dec.{eqb}
 use lib.ListN.{length}
 use Rattle.machine.specs.Lists.{pick}
 use Rattle.machine.specs.State.{State}
+use Rattle.layout.specs.Addresses.{tableWords}
 use Rattle.layout.specs.Decode.{decode}
 use Rattle.soundness.specs.Checks.{goodTest}
 
 unfoldable pub stateOf : List ℕ → Option State
-stateOf m = pick (eqb (length m) 4096 && goodTest m) (some (decode m)) none
+stateOf m = pick (eqb (length m) tableWords && goodTest m) (some (decode m)) none

@@ -4,6 +4,7 @@ ghost use mathlib.Core.Path.{_≡_};
 ghost use mathlib.Core.Bool.{true, false};
 ghost use Prim.Native.Nat.{_≤_, _<_};
 ghost use lib.ListN.{length};
+ghost use Rattle.layout.specs.Addresses.{tableWords};
 ghost use Rattle.store.specs.Steps.{Shown, Does, Tells};
 ghost use Rattle.store.specs.Store.{IsThread, IsEndpoint, IsLine, Any, HasAbort};
 ghost use Rattle.store.specs.Store.{prioritising, ticking, creating, clearing};
@@ -13,6 +14,7 @@ ghost use Rattle.store.specs.Readings.{threadIn, endpointIn, lineIn, run
 ghost use Rattle.store.specs.Levels.{LoadsSummary, SetsLevel, WritesLevel};
 use layout::Field;
 use layout::Part;
+use layout::codes;
 use summary::Summary;
 
 // A word of thread t.
@@ -88,10 +90,10 @@ pub fn new_thread(tables: &mut [u32], t: usize, p: u32)
     requires { ⌜ Shown (now tables) (IsThread t) ⌝ }
     ensures { λ _. ⌜ Does (now (tables .entry)) (now (tables .exit)) (IsThread t) (creating t p) ⌝ }
 {
-    set_place(tables, t, 1, 0, 0, 0);
+    set_place(tables, t, codes::ABLE, machine::codes::NO_OUTCOME, 0, 0);
     set_priority(tables, t, p);
-    set_ticks(tables, t, 5);
-    set_owes(tables, t, 0, 0);
+    set_ticks(tables, t, machine::codes::TICKS);
+    set_owes(tables, t, codes::NOTHING, 0);
 }
 
 // Thread t is absent.
@@ -99,10 +101,10 @@ pub fn clear_thread(tables: &mut [u32], t: usize)
     requires { ⌜ Shown (now tables) (IsThread t) ⌝ }
     ensures { λ _. ⌜ Does (now (tables .entry)) (now (tables .exit)) (IsThread t) (clearing t) ⌝ }
 {
-    set_place(tables, t, 0, 0, 0, 0);
+    set_place(tables, t, codes::ABSENT, machine::codes::NO_OUTCOME, 0, 0);
     set_priority(tables, t, 0);
     set_ticks(tables, t, 0);
-    set_owes(tables, t, 0, 0);
+    set_owes(tables, t, codes::NOTHING, 0);
 }
 
 // The thread of a link runs, none for 0.
@@ -168,7 +170,7 @@ pub fn set_marks(tables: &mut [u32], e: usize, cursor: u32, end: u32)
 
 // The summary that stands in the tables.
 pub fn load_summary(tables: &[u32]) -> Summary
-    requires { ⌜ length (now tables) ≡ 4096 ⌝ }
+    requires { ⌜ length (now tables) ≡ tableWords ⌝ }
     ensures { λ r. ⌜ LoadsSummary (now (tables .entry)) r ⌝ }
 {
     let mut row = [0u32; 8];
@@ -186,7 +188,7 @@ pub fn load_summary(tables: &[u32]) -> Summary
 
 // The word of level p and the top word become those of the summary.
 fn store_mark(tables: &mut [u32], sm: Summary, p: u32)
-    requires { ⌜ (length (now tables) ≡ 4096) × (p < 256) ⌝ }
+    requires { ⌜ (length (now tables) ≡ tableWords) × (p < 256) ⌝ }
     ensures { λ _. ⌜ WritesLevel (now (tables .entry)) sm p (now (tables .exit)) ⌝ }
 {
     let w = (p / 32) as usize;
@@ -197,7 +199,7 @@ fn store_mark(tables: &mut [u32], sm: Summary, p: u32)
 
 // Level p is occupied in the summary.
 pub fn mark_occupied(tables: &mut [u32], p: u32)
-    requires { ⌜ (length (now tables) ≡ 4096) × (p < 256) ⌝ }
+    requires { ⌜ (length (now tables) ≡ tableWords) × (p < 256) ⌝ }
     ensures { λ _. ⌜ SetsLevel (now (tables .entry)) p true (now (tables .exit)) ⌝ }
 {
     let sm = load_summary(tables);
@@ -206,7 +208,7 @@ pub fn mark_occupied(tables: &mut [u32], p: u32)
 
 // Level p is empty in the summary.
 pub fn mark_empty(tables: &mut [u32], p: u32)
-    requires { ⌜ (length (now tables) ≡ 4096) × (p < 256) ⌝ }
+    requires { ⌜ (length (now tables) ≡ tableWords) × (p < 256) ⌝ }
     ensures { λ _. ⌜ SetsLevel (now (tables .entry)) p false (now (tables .exit)) ⌝ }
 {
     let sm = load_summary(tables);

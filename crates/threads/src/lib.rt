@@ -11,6 +11,8 @@ ghost use Rattle.endings.specs.Results.{Asked, Calling, Performs};
 ghost use Rattle.threads.specs.Threads.{readyIn, Able, leavingReady, Goes, leaving, Changes, changing};
 ghost use Rattle.threads.specs.Threads.{tickingFor, InRange};
 use layout::Field;
+use layout::codes;
+use layout::codes::NOBODY;
 use machine::Answer;
 
 // Whether thread t is ready: able, and not the one that runs.
@@ -19,7 +21,7 @@ fn is_ready(tables: &[u32], t: usize) -> bool
     ensures { λ r. ⌜ Says (now (tables .entry)) (IsThread t) r (readyIn t) ⌝ }
 {
     let place = store::thread(tables, Field::Place, t);
-    if place != 1 {
+    if place != codes::ABLE {
         return false;
     }
     let running = store::running(tables);
@@ -33,8 +35,8 @@ pub fn create_thread(tables: &mut [u32], t: usize, p: u32) -> Answer
     ensures { λ r. ⌜ Performs (now (tables .entry)) (now (tables .exit)) r (Asked (InRange t p)) (createThread t p) ⌝ }
 {
     let place = store::thread(tables, Field::Place, t);
-    if place != 0 {
-        return machine::plain(22);
+    if place != codes::ABSENT {
+        return machine::plain(machine::codes::THREAD_PRESENT);
     }
     store::new_thread(tables, t, p);
     queues::enqueue(tables, t);
@@ -51,7 +53,7 @@ fn leave_ready(tables: &mut [u32], t: usize)
         queues::unqueue(tables, t);
         return;
     }
-    store::set_running(tables, 0);
+    store::set_running(tables, NOBODY);
 }
 
 // A destroyed thread leaves any queue or line: t is at the place of this number.
@@ -59,19 +61,19 @@ fn leave(tables: &mut [u32], t: usize, place: u32)
     requires { ⌜ Shown (now tables) (Goes t place) ⌝ }
     ensures { λ _. ⌜ Does (now (tables .entry)) (now (tables .exit)) (Goes t place) (leaving t) ⌝ }
 {
-    if place == 1 {
+    if place == codes::ABLE {
         leave_ready(tables, t);
         return;
     }
-    if place < 66 {
-        queues::leave_endpoint(tables, t, (place - 2) as usize);
+    if place < codes::RECEIVING {
+        queues::leave_endpoint(tables, t, (place - codes::SENDING) as usize);
         return;
     }
-    if place < 130 {
-        queues::leave_endpoint(tables, t, (place - 66) as usize);
+    if place < codes::WAITING {
+        queues::leave_endpoint(tables, t, (place - codes::RECEIVING) as usize);
         return;
     }
-    store::set_line(tables, (place - 130) as usize, 0);
+    store::set_line(tables, (place - codes::WAITING) as usize, codes::QUIET);
 }
 
 // 2: a thread goes, with its ownership or note, from wherever it is.
@@ -80,8 +82,8 @@ pub fn destroy_thread(tables: &mut [u32], t: usize) -> Answer
     ensures { λ r. ⌜ Performs (now (tables .entry)) (now (tables .exit)) r (Asked (t ≤ 255)) (destroyThread t) ⌝ }
 {
     let place = store::thread(tables, Field::Place, t);
-    if place == 0 {
-        return machine::plain(21);
+    if place == codes::ABSENT {
+        return machine::plain(machine::codes::THREAD_ABSENT);
     }
     debts::drop_debt(tables, t); // the abort that it owned stands without an owner
     leave(tables, t, place);
@@ -110,8 +112,8 @@ pub fn set_priority(tables: &mut [u32], t: usize, p: u32) -> Answer
     ensures { λ r. ⌜ Performs (now (tables .entry)) (now (tables .exit)) r (Asked (InRange t p)) (setPriority t p) ⌝ }
 {
     let place = store::thread(tables, Field::Place, t);
-    if place == 0 {
-        return machine::plain(21);
+    if place == codes::ABSENT {
+        return machine::plain(machine::codes::THREAD_ABSENT);
     }
     let old = store::thread(tables, Field::Priority, t);
     if old == p {
@@ -142,7 +144,7 @@ fn tick_running(tables: &mut [u32])
     ensures { λ _. ⌜ Does (now (tables .entry)) (now (tables .exit)) (Asked (Unit {0})) tickingFor ⌝ }
 {
     let link = store::running(tables);
-    if link == 0 {
+    if link == NOBODY {
         return;
     }
     take_tick(tables, (link - 1) as usize);

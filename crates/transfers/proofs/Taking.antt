@@ -119,11 +119,11 @@ module _ {m : List ℕ} {t e r : ℕ} (T : Tells m (IsEndpoint e) r (endpointIn 
       performs-as (refused 25 k)
       (λ s M h. ap (λ (y : Status). receiveAt y t e s) (is-closing (s .endpoints e .status) (status-is s M h) z))
 
-  pub received :
+  pub receive-live :
       {n o : List ℕ} {a : Answer} → (r ≡ 0 → ⊥) → (r ≡ 2 → ⊥) → Does m n (Debtor t) (dropDebt t)
       → Performs n o a (Dropped t (e ≤ 63)) (taking t e) → Performs m o a (Calling t (e ≤ 63)) (receive t e)
   unfolding receive receiveAt
-  received z y D H =
+  receive-live z y D H =
       performs-as (dropped-first D H)
       (λ s M h.
       ap (λ (l : List ℕ). receiveFrom (first l) t e (dropDebt t s)) (kind-kept isSending e t s)

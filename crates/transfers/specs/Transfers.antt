@@ -4,7 +4,7 @@ use mathlib.Core.Path.{_≡_}
 use mathlib.Core.List.{List, []}
 use Rattle.machine.specs.declared.Answer.{Answer}
 use Rattle.machine.specs.Lists.{first}
-use Rattle.machine.specs.State.{State, Place}
+use Rattle.machine.specs.State.{State, Place, messageTaken}
 use Rattle.machine.specs.Scheduling.{block}
 use Rattle.machine.specs.Endpoints.{senders, receivers, wakeFrom, dropDebt}
 use Rattle.machine.specs.Results.{Result, accept, blocked, receipt}
@@ -46,4 +46,4 @@ taking t e s = receiveFrom (first (senders (s .threads) (s .endpoints e .waiters
 -- The message of sender u is taken.
 abbrev pub takingFrom : ℕ → ℕ → State → Result
 takingFrom e u s =
-    accept (receipt (s .threads u .badge) (s .threads u .message)) [] (wakeFrom e u 1 0 0 s)
+    accept (receipt (s .threads u .badge) (s .threads u .message)) [] (wakeFrom e u messageTaken 0 0 s)

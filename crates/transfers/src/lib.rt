@@ -12,7 +12,10 @@ ghost use Rattle.transfers.specs.Transfers.{Dropped, TakesFrom, Suspends
 ghost use Rattle.transfers.specs.Transfers.{takingFrom};
 use layout::Field;
 use layout::Part;
+use layout::codes;
+use layout::codes::NOBODY;
 use machine::Answer;
+use machine::codes::LINE_FIRED;
 
 // The running thread t blocks at a place: code 1.
 fn suspend(tables: &mut [u32], t: usize, place: u32, badge: u32, message: u32) -> Answer
@@ -20,7 +23,7 @@ fn suspend(tables: &mut [u32], t: usize, place: u32, badge: u32, message: u32) -
     ensures { λ r. ⌜ Suspends (now (tables .entry)) t place badge message r (now (tables .exit)) ⌝ }
 {
     queues::block(tables, t, place, badge, message);
-    let answer = machine::plain(1);
+    let answer = machine::plain(machine::codes::BLOCKED);
     endings::accept(tables, answer)
 }
 
@@ -30,10 +33,10 @@ pub fn create_endpoint(tables: &mut [u32], e: usize) -> Answer
     ensures { λ r. ⌜ Performs (now (tables .entry)) (now (tables .exit)) r (Asked (e ≤ 63)) (createEndpoint e) ⌝ }
 {
     let status = store::endpoint(tables, Part::Status, e);
-    if status != 0 {
-        return machine::plain(24);
+    if status != codes::MISSING {
+        return machine::plain(machine::codes::ENDPOINT_PRESENT);
     }
-    store::set_status(tables, e, 1);
+    store::set_status(tables, e, codes::LIVE);
     endings::done(tables)
 }
 
@@ -43,15 +46,15 @@ fn fire(tables: &mut [u32], l: usize)
     ensures { λ _. ⌜ Does (now (tables .entry)) (now (tables .exit)) (Asked (l ≤ 31)) (firing l) ⌝ }
 {
     let line = store::line(tables, l);
-    if line == 0 {
-        store::set_line(tables, l, 1);
+    if line == codes::QUIET {
+        store::set_line(tables, l, codes::PENDING);
         return;
     }
-    if line == 1 {
+    if line == codes::PENDING {
         return;
     }
-    store::set_line(tables, l, 0);
-    queues::wake(tables, (line - 2) as usize, 5, 0, 0);
+    store::set_line(tables, l, codes::QUIET);
+    queues::wake(tables, (line - codes::AWAITED) as usize, LINE_FIRED, 0, 0);
 }
 
 // 5: an interrupt on line l.
@@ -69,12 +72,13 @@ fn hand(tables: &mut [u32], t: usize, e: usize, badge: u32, message: u32) -> Ans
     ensures { λ r. ⌜ Performs (now (tables .entry)) (now (tables .exit)) r
         (Dropped t ((e ≤ 63) × (badge < 2 ^ 28) × (message < 2 ^ 28))) (handing t e badge message) ⌝ }
 {
-    let link = debts::first_at(tables, e, (66 + e) as u32);
-    if link == 0 {
+    let link = debts::first_at(tables, e, codes::RECEIVING + e as u32);
+    if link == NOBODY {
         queues::join_endpoint(tables, t, e);
-        return suspend(tables, t, (2 + e) as u32, badge, message);
+        return suspend(tables, t, codes::SENDING + e as u32, badge, message);
     }
-    queues::wake_from(tables, e, (link - 1) as usize, 2, badge, message);
+    let outcome = machine::codes::MESSAGE_RECEIVED;
+    queues::wake_from(tables, e, (link - 1) as usize, outcome, badge, message);
     endings::done(tables)
 }
 
@@ -85,15 +89,15 @@ pub fn send(tables: &mut [u32], t: usize, e: usize, badge: u32, message: u32) ->
         (Calling t ((e ≤ 63) × (badge < 2 ^ 28) × (message < 2 ^ 28))) (sending t e badge message) ⌝ }
 {
     let status = store::endpoint(tables, Part::Status, e);
-    if status == 0 {
-        return machine::plain(23);
+    if status == codes::MISSING {
+        return machine::plain(machine::codes::ENDPOINT_ABSENT);
     }
-    if status == 2 {
-        return machine::plain(25);
+    if status == codes::CLOSING {
+        return machine::plain(machine::codes::ENDPOINT_CLOSING);
     }
     let under = debts::under_abort(tables, e, badge);
     if under {
-        return machine::plain(26);
+        return machine::plain(machine::codes::BADGE_ABORTED);
     }
     debts::drop_debt(tables, t);
     hand(tables, t, e, badge, message)
@@ -106,9 +110,9 @@ fn take_from(tables: &mut [u32], e: usize, u: usize) -> Answer
 {
     let badge = store::thread(tables, Field::Badge, u);
     let message = store::thread(tables, Field::Message, u);
-    queues::wake_from(tables, e, u, 1, 0, 0);
+    queues::wake_from(tables, e, u, machine::codes::MESSAGE_TAKEN, 0, 0);
     let answer = Answer {
-        code: 0,
+        code: machine::codes::DONE,
         count: 0,
         badge,
         message,
@@ -121,10 +125,10 @@ fn take(tables: &mut [u32], t: usize, e: usize) -> Answer
     requires { ⌜ Shown (now tables) (Dropped t (e ≤ 63)) ⌝ }
     ensures { λ r. ⌜ Performs (now (tables .entry)) (now (tables .exit)) r (Dropped t (e ≤ 63)) (taking t e) ⌝ }
 {
-    let link = debts::first_at(tables, e, (2 + e) as u32);
-    if link == 0 {
+    let link = debts::first_at(tables, e, codes::SENDING + e as u32);
+    if link == NOBODY {
         queues::join_endpoint(tables, t, e);
-        return suspend(tables, t, (66 + e) as u32, 0, 0);
+        return suspend(tables, t, codes::RECEIVING + e as u32, 0, 0);
     }
     take_from(tables, e, (link - 1) as usize)
 }
@@ -135,11 +139,11 @@ pub fn receive(tables: &mut [u32], t: usize, e: usize) -> Answer
     ensures { λ r. ⌜ Performs (now (tables .entry)) (now (tables .exit)) r (Calling t (e ≤ 63)) (receiving t e) ⌝ }
 {
     let status = store::endpoint(tables, Part::Status, e);
-    if status == 0 {
-        return machine::plain(23);
+    if status == codes::MISSING {
+        return machine::plain(machine::codes::ENDPOINT_ABSENT);
     }
-    if status == 2 {
-        return machine::plain(25);
+    if status == codes::CLOSING {
+        return machine::plain(machine::codes::ENDPOINT_CLOSING);
     }
     debts::drop_debt(tables, t);
     take(tables, t, e)
@@ -151,14 +155,14 @@ pub fn wait(tables: &mut [u32], t: usize, l: usize) -> Answer
     ensures { λ r. ⌜ Performs (now (tables .entry)) (now (tables .exit)) r (Calling t (l ≤ 31)) (waiting t l) ⌝ }
 {
     let line = store::line(tables, l);
-    if 1 < line {
-        return machine::plain(27);
+    if codes::PENDING < line {
+        return machine::plain(machine::codes::LINE_TAKEN);
     }
     debts::drop_debt(tables, t);
-    if line == 1 {
-        store::set_line(tables, l, 0);
+    if line == codes::PENDING {
+        store::set_line(tables, l, codes::QUIET);
         return endings::done(tables);
     }
-    store::set_line(tables, l, (2 + t) as u32);
-    suspend(tables, t, (130 + l) as u32, 0, 0)
+    store::set_line(tables, l, codes::AWAITED + t as u32);
+    suspend(tables, t, codes::WAITING + l as u32, 0, 0)
 }

@@ -4,7 +4,7 @@ ghost use mathlib.Core.Path.{_≡_};
 ghost use Prim.Native.Nat.{_≤_, _<_};
 ghost use lib.ListN.{length, set, replicate};
 ghost use Rattle.layout.specs.Addresses.{column, offset, at, linkAt, word, afterAt, beforeAt, ofThread, ofEndpoint};
-ghost use Rattle.layout.specs.Addresses.{ofLine, summary, top, running, unused, next, prev, head, tail};
+ghost use Rattle.layout.specs.Addresses.{ofLine, summary, top, running, unused, next, prev, head, tail, tableWords};
 ghost use Rattle.words.specs.Access.{Address};
 use layout::Field;
 use layout::Part;
@@ -168,7 +168,7 @@ pub fn before_at(q: usize, x: usize) -> usize
 
 // A word of thread t.
 pub fn thread(tables: &[u32], f: Field, t: usize) -> usize
-    requires { ⌜ (length (now tables) ≡ 4096) × (t ≤ 255) ⌝ }
+    requires { ⌜ (length (now tables) ≡ tableWords) × (t ≤ 255) ⌝ }
     ensures { λ r. ⌜ r ≡ word (now (tables .entry)) (at (ofThread f t)) ⌝ }
 {
     get(tables, thread_at(f, t)) as usize
@@ -176,7 +176,7 @@ pub fn thread(tables: &[u32], f: Field, t: usize) -> usize
 
 // A word of endpoint e.
 pub fn endpoint(tables: &[u32], p: Part, e: usize) -> usize
-    requires { ⌜ (length (now tables) ≡ 4096) × (e ≤ 63) ⌝ }
+    requires { ⌜ (length (now tables) ≡ tableWords) × (e ≤ 63) ⌝ }
     ensures { λ r. ⌜ r ≡ word (now (tables .entry)) (at (ofEndpoint p e)) ⌝ }
 {
     get(tables, endpoint_at(p, e)) as usize
@@ -184,7 +184,7 @@ pub fn endpoint(tables: &[u32], p: Part, e: usize) -> usize
 
 // Line l.
 pub fn line(tables: &[u32], l: usize) -> usize
-    requires { ⌜ (length (now tables) ≡ 4096) × (l ≤ 31) ⌝ }
+    requires { ⌜ (length (now tables) ≡ tableWords) × (l ≤ 31) ⌝ }
     ensures { λ r. ⌜ r ≡ word (now (tables .entry)) (at (ofLine l)) ⌝ }
 {
     get(tables, line_at(l)) as usize
@@ -192,7 +192,7 @@ pub fn line(tables: &[u32], l: usize) -> usize
 
 // Word w of the summary.
 pub fn summary(tables: &[u32], w: usize) -> usize
-    requires { ⌜ (length (now tables) ≡ 4096) × (w ≤ 7) ⌝ }
+    requires { ⌜ (length (now tables) ≡ tableWords) × (w ≤ 7) ⌝ }
     ensures { λ r. ⌜ r ≡ word (now (tables .entry)) (at (summary w)) ⌝ }
 {
     get(tables, summary_at(w)) as usize
@@ -200,7 +200,7 @@ pub fn summary(tables: &[u32], w: usize) -> usize
 
 // The top word of the summary.
 pub fn top(tables: &[u32]) -> usize
-    requires { ⌜ length (now tables) ≡ 4096 ⌝ }
+    requires { ⌜ length (now tables) ≡ tableWords ⌝ }
     ensures { λ r. ⌜ r ≡ word (now (tables .entry)) (at top) ⌝ }
 {
     get(tables, top_at()) as usize
@@ -208,7 +208,7 @@ pub fn top(tables: &[u32]) -> usize
 
 // The link to the running thread.
 pub fn running(tables: &[u32]) -> usize
-    requires { ⌜ length (now tables) ≡ 4096 ⌝ }
+    requires { ⌜ length (now tables) ≡ tableWords ⌝ }
     ensures { λ r. ⌜ r ≡ word (now (tables .entry)) (at running) ⌝ }
 {
     get(tables, running_at()) as usize
@@ -216,7 +216,7 @@ pub fn running(tables: &[u32]) -> usize
 
 // Unused word i.
 pub fn unused(tables: &[u32], i: usize) -> usize
-    requires { ⌜ (length (now tables) ≡ 4096) × (i ≤ 469) ⌝ }
+    requires { ⌜ (length (now tables) ≡ tableWords) × (i ≤ 469) ⌝ }
     ensures { λ r. ⌜ r ≡ word (now (tables .entry)) (at (unused i)) ⌝ }
 {
     get(tables, unused_at(i)) as usize
@@ -224,7 +224,7 @@ pub fn unused(tables: &[u32], i: usize) -> usize
 
 // The link of thread t to the next in its queue.
 pub fn next(tables: &[u32], t: usize) -> usize
-    requires { ⌜ (length (now tables) ≡ 4096) × (t ≤ 255) ⌝ }
+    requires { ⌜ (length (now tables) ≡ tableWords) × (t ≤ 255) ⌝ }
     ensures { λ r. ⌜ r ≡ word (now (tables .entry)) (linkAt (next t)) ⌝ }
 {
     get(tables, next_at(t)) as usize
@@ -232,7 +232,7 @@ pub fn next(tables: &[u32], t: usize) -> usize
 
 // The link of thread t to the one before it in its queue.
 pub fn prev(tables: &[u32], t: usize) -> usize
-    requires { ⌜ (length (now tables) ≡ 4096) × (t ≤ 255) ⌝ }
+    requires { ⌜ (length (now tables) ≡ tableWords) × (t ≤ 255) ⌝ }
     ensures { λ r. ⌜ r ≡ word (now (tables .entry)) (linkAt (prev t)) ⌝ }
 {
     get(tables, prev_at(t)) as usize
@@ -240,7 +240,7 @@ pub fn prev(tables: &[u32], t: usize) -> usize
 
 // The link to the first of queue q.
 pub fn head(tables: &[u32], q: usize) -> usize
-    requires { ⌜ (length (now tables) ≡ 4096) × (q ≤ 319) ⌝ }
+    requires { ⌜ (length (now tables) ≡ tableWords) × (q ≤ 319) ⌝ }
     ensures { λ r. ⌜ r ≡ word (now (tables .entry)) (linkAt (head q)) ⌝ }
 {
     get(tables, head_at(q)) as usize
@@ -248,7 +248,7 @@ pub fn head(tables: &[u32], q: usize) -> usize
 
 // The link to the last of queue q.
 pub fn tail(tables: &[u32], q: usize) -> usize
-    requires { ⌜ (length (now tables) ≡ 4096) × (q ≤ 319) ⌝ }
+    requires { ⌜ (length (now tables) ≡ tableWords) × (q ≤ 319) ⌝ }
     ensures { λ r. ⌜ r ≡ word (now (tables .entry)) (linkAt (tail q)) ⌝ }
 {
     get(tables, tail_at(q)) as usize

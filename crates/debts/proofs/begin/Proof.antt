@@ -4,11 +4,11 @@ use Rattle.debts.proofs.Beginning.{beginner-asked, begins}
 use Rattle.debts.proofs.begin.Statement.{statement}
 use Rattle.debts.proofs.begin.Tie as tie
 
-add-first-at : tie.Need-add-first-at
-add-first-at c = search needs
-
 cast-first-at : tie.Need-cast-first-at
 cast-first-at c = search needs
+
+add-first-at : tie.Need-add-first-at
+add-first-at c = search needs
 
 first-at-requires : tie.Need-first-at-requires
 first-at-requires c κs = search needs
@@ -25,11 +25,11 @@ cast-set-abort c = search needs
 set-abort-requires : tie.Need-set-abort-requires
 set-abort-requires c κs = search needs
 
-add-set-owes : tie.Need-add-set-owes
-add-set-owes c = search needs
-
 cast-set-owes : tie.Need-cast-set-owes
 cast-set-owes c = search needs
+
+add-set-owes : tie.Need-add-set-owes
+add-set-owes c = search needs
 
 set-owes-requires : tie.Need-set-owes-requires
 set-owes-requires c κs =
@@ -49,15 +49,15 @@ pub begin-spec : {M : Type 1} → statement M
 begin-spec =
     tie.close
     (tie.spec
-    add-first-at
     cast-first-at
+    add-first-at
     first-at-requires
     last-sender-requires
     add-set-abort
     cast-set-abort
     set-abort-requires
-    add-set-owes
     cast-set-owes
+    add-set-owes
     set-owes-requires
     same-length
     returns)

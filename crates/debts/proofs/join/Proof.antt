@@ -24,14 +24,17 @@ cast-set-owner c = search needs
 set-owner-requires : tie.Need-set-owner-requires
 set-owner-requires c κs = search needs
 
-add-set-owes : tie.Need-add-set-owes
-add-set-owes c = search needs
-
 cast-set-owes : tie.Need-cast-set-owes
 cast-set-owes c = search needs
 
+add-set-owes : tie.Need-add-set-owes
+add-set-owes c = search needs
+
 set-owes-requires : tie.Need-set-owes-requires
-set-owes-requires c κs = search joiner-asked
+set-owes-requires c κs =
+    let at-set-owner = c .before .before .before in
+    let at-owner = at-set-owner .before .before .before in
+    joiner-asked (at-set-owner .set-owner .ensures) (at-owner .before .before .before .pre)
 
 same-length-2 : tie.Need-same-length-2
 same-length-2 c = search needs
@@ -55,8 +58,8 @@ join-spec =
     add-set-owner
     cast-set-owner
     set-owner-requires
-    add-set-owes
     cast-set-owes
+    add-set-owes
     set-owes-requires
     same-length-2
     returns-2)

@@ -22,11 +22,11 @@ sub-set-owes c = search needs
 cast-set-owes : tie.Need-cast-set-owes
 cast-set-owes c = search needs
 
-add-set-owes : tie.Need-add-set-owes
-add-set-owes c = search needs
-
 cast-set-owes-2 : tie.Need-cast-set-owes-2
 cast-set-owes-2 c = search needs
+
+add-set-owes : tie.Need-add-set-owes
+add-set-owes c = search needs
 
 set-owes-requires : tie.Need-set-owes-requires
 set-owes-requires c κs = search owner-small
@@ -53,8 +53,8 @@ note-owner-spec =
     endpoint-requires-2
     sub-set-owes
     cast-set-owes
-    add-set-owes
     cast-set-owes-2
+    add-set-owes
     set-owes-requires
     same-length-2
     returns-2)

@@ -5,11 +5,11 @@ use borrow.Author.Needs.{needs}
 use Rattle.transfers.proofs.hand.Statement.{statement}
 use Rattle.transfers.proofs.hand.Tie as tie
 
-add-first-at : tie.Need-add-first-at
-add-first-at c = search needs
-
 cast-first-at : tie.Need-cast-first-at
 cast-first-at c = search needs
+
+add-first-at : tie.Need-add-first-at
+add-first-at c = search needs
 
 first-at-requires : tie.Need-first-at-requires
 first-at-requires c κs = search alike-asked depth 9
@@ -17,11 +17,11 @@ first-at-requires c κs = search alike-asked depth 9
 join-endpoint-requires : tie.Need-join-endpoint-requires
 join-endpoint-requires c κs = search comes-asked depth 9
 
-add-suspend : tie.Need-add-suspend
-add-suspend c = search needs
-
 cast-suspend : tie.Need-cast-suspend
 cast-suspend c = search needs
+
+add-suspend : tie.Need-add-suspend
+add-suspend c = search needs
 
 suspend-requires : tie.Need-suspend-requires
 suspend-requires c κs =
@@ -70,12 +70,12 @@ pub hand-spec : {M : Type 1} → statement M
 hand-spec =
     tie.close
     (tie.spec
-    add-first-at
     cast-first-at
+    add-first-at
     first-at-requires
     join-endpoint-requires
-    add-suspend
     cast-suspend
+    add-suspend
     suspend-requires
     same-length
     returns

@@ -1,6 +1,6 @@
 -- Refused by the status; else the debt goes and a message is taken or waited for.
 use Rattle.transfers.proofs.Callers.{debtor-asked, dropped-asked}
-use Rattle.transfers.proofs.Taking.{receive-missing, receive-closing, received}
+use Rattle.transfers.proofs.Taking.{receive-missing, receive-closing, receive-live}
 use borrow.Author.Needs.{needs}
 use Rattle.transfers.proofs.receive.Statement.{statement}
 use Rattle.transfers.proofs.receive.Tie as tie
@@ -38,7 +38,7 @@ same-length-3 : tie.Need-same-length-3
 same-length-3 c = search needs
 
 returns-3 : tie.Need-returns-3
-returns-3 c = search received depth 9
+returns-3 c = search receive-live depth 9
 
 pub receive-spec : {M : Type 1} → statement M
 receive-spec =

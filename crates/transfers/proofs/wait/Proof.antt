@@ -47,13 +47,13 @@ returns-2 c =
     waited-pending (at-line .line .ensures) (at-drop-debt .drop-debt .ensures) (at-if2 .if2 .taken)
     (at-set-line .set-line .ensures) (at-done .done .ensures)
 
-add-set-line : tie.Need-add-set-line
-add-set-line c =
+cast-set-line : tie.Need-cast-set-line
+cast-set-line c =
     let d = c .before .before .before .before in
     omega (arith, calling-thread (d .before .before .before .before .before .before .pre .holds))
 
-cast-set-line : tie.Need-cast-set-line
-cast-set-line c =
+add-set-line : tie.Need-add-set-line
+add-set-line c =
     let d = c .before .before .before .before in
     omega (arith, calling-thread (d .before .before .before .before .before .before .pre .holds))
 
@@ -62,11 +62,11 @@ set-line-requires-2 c κs =
     let d = c .before .before .before .before in
     line-asked (dropped-asked (d .drop-debt .ensures) (d .before .before .before .before .before .before .pre))
 
-add-suspend : tie.Need-add-suspend
-add-suspend c = search needs
-
 cast-suspend : tie.Need-cast-suspend
 cast-suspend c = search needs
+
+add-suspend : tie.Need-add-suspend
+add-suspend c = search needs
 
 suspend-requires : tie.Need-suspend-requires
 suspend-requires c κs =
@@ -94,11 +94,11 @@ wait-spec =
     done-requires
     same-length-2
     returns-2
-    add-set-line
     cast-set-line
+    add-set-line
     set-line-requires-2
-    add-suspend
     cast-suspend
+    add-suspend
     suspend-requires
     same-length-3
     returns-3)

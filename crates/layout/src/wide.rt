@@ -1,0 +1,51 @@
+// The codes, and the machine's numbers, at the width at which the check reads words: a cast where one is used would be a
+// proof there. LAST is the end of a range.
+use crate::codes;
+
+pub const ABSENT: usize = codes::ABSENT as usize;
+
+pub const ABLE: usize = codes::ABLE as usize;
+
+pub const SENDING: usize = codes::SENDING as usize;
+
+pub const RECEIVING: usize = codes::RECEIVING as usize;
+
+pub const WAITING: usize = codes::WAITING as usize;
+
+pub const LAST_PLACE: usize = WAITING + 31;
+
+pub const NOTHING: usize = codes::NOTHING as usize;
+
+pub const OWNER: usize = codes::OWNER as usize;
+
+pub const LAST_OWNER: usize = OWNER + 63;
+
+pub const LAST_NOTE: usize = codes::NOTE as usize + 63;
+
+pub const MISSING: usize = codes::MISSING as usize;
+
+pub const LIVE: usize = codes::LIVE as usize;
+
+pub const CLOSING: usize = codes::CLOSING as usize;
+
+pub const NO_ABORT: usize = codes::NO_ABORT as usize;
+
+pub const ABORTING: usize = codes::ABORTING as usize;
+
+pub const AWAITED: usize = codes::AWAITED as usize;
+
+pub const LAST_AWAITED: usize = AWAITED + 255;
+
+pub const NOBODY: usize = codes::NOBODY as usize;
+
+pub const LAST_LINK: usize = 256;
+
+pub const NO_OUTCOME: usize = machine::codes::NO_OUTCOME as usize;
+
+pub const MESSAGE_RECEIVED: usize = machine::codes::MESSAGE_RECEIVED as usize;
+
+pub const LAST_OUTCOME: usize = machine::codes::LINE_FIRED as usize;
+
+pub const TICKS: usize = machine::codes::TICKS as usize;
+
+pub const NO_BADGE: usize = machine::codes::NO_BADGE as usize;
