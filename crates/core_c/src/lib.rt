@@ -55,7 +55,7 @@ fn refuse(tables: &[u32], scratch: &mut [u32]) -> Answer
     if code != 0 {
         return machine::plain(code);
     }
-    machine::plain(18)
+    machine::plain(machine::codes::NO_CALL)
 }
 
 // Takes the call that the numbers name, if they name one.
@@ -131,7 +131,7 @@ fn write(named: Named) -> Written
 {
     let Named::One(call) = named else {
         return Written {
-            code: 18,
+            code: machine::codes::NO_CALL,
             count: 0,
             words: [0, 0, 0],
         };

@@ -7,6 +7,8 @@ use crate::types::Named;
 use crate::types::Read;
 use crate::types::Written;
 use machine::Call;
+use machine::codes::NO_CALL;
+use machine::codes::RANGE;
 ghost use mathlib.Core.Path.{_≡_};
 ghost use mathlib.Core.Bool.{true};
 ghost use mathlib.Core.List.{_∷_, []};
@@ -138,12 +140,12 @@ fn answer(words: Named, at: usize, next: usize) -> Read
     ensures { λ r. ⌜ r ≡ judged at next (callNamed words) ⌝ }
 {
     let Named::One(call) = words else {
-        return Read::Refused { code: 18, at };
+        return Read::Refused { code: NO_CALL, at };
     };
     if machine::in_range(call) {
         Read::Found { call, next }
     } else {
-        Read::Refused { code: 19, at }
+        Read::Refused { code: RANGE, at }
     }
 }
 
@@ -242,7 +244,7 @@ pub fn write(call: Call) -> Written
         words_of(call)
     } else {
         Written {
-            code: 19,
+            code: RANGE,
             count: 0,
             words: [0, 0, 0],
         }

@@ -21,7 +21,7 @@ use Rattle.lent_tables.specs.Entries.{Lent, lent, zeros, Called, called}
 use Rattle.lent_tables.proofs.Verdict.{zeros-length}
 use Rattle.kernel.specs.Kept.{Kept}
 use Rattle.kernel.proofs.Kept.{kept-only}
-use Rattle.kernel.proofs.Turns.{called-image}
+use Rattle.kernel.proofs.InTurn.{called-image}
 
 -- What a core makes of the lent memory and a call.
 abbrev Core : Type 0

@@ -5,5 +5,5 @@ pub mod Cases
 pub mod Entry
 pub mod Runner
 pub mod Kept
-pub mod Turns
+pub mod InTurn
 pub mod Bites

@@ -70,7 +70,7 @@ fn perform(tables: &mut [u32], c: Call) -> Answer
     let link = store::running(tables);
     let number = machine::number(c);
     if (link == 0) & (number >= 7) {
-        return machine::plain(20);
+        return machine::plain(machine::codes::NOBODY_RUNS);
     }
     carry_out(tables, link, c)
 }
@@ -82,7 +82,7 @@ fn step(tables: &mut [u32], c: Call) -> Answer
 {
     let fits = machine::in_range(c);
     if !fits {
-        return machine::plain(19);
+        return machine::plain(machine::codes::RANGE);
     }
     perform(tables, c)
 }

@@ -39,10 +39,10 @@ pub fn fresh(tables: &mut [u32]) -> u32
         (freshened (now (tables .entry))) ⌝ }
 {
     if tables.len() != TABLE_WORDS {
-        return 16;
+        return machine::codes::LENGTH;
     }
     words::clear(tables);
-    0
+    machine::codes::DONE
 }
 
 // Whether the tables show a sound state; they are not changed.
@@ -51,16 +51,16 @@ pub fn check(tables: &[u32], scratch: &mut [u32]) -> u32
         (checked (lent (now (tables .entry)) (now (scratch .entry)))) ⌝ }
 {
     if tables.len() != TABLE_WORDS {
-        return 16;
+        return machine::codes::LENGTH;
     }
     if scratch.len() != SCRATCH_WORDS {
-        return 16;
+        return machine::codes::LENGTH;
     }
     words::clear(scratch);
     let passed = passes(tables, scratch);
     words::clear(scratch);
     if passed {
-        return 0;
+        return machine::codes::DONE;
     }
-    17
+    machine::codes::UNSOUND
 }

@@ -23,7 +23,7 @@ use Rattle.lent_tables.specs.Entries.{lent, zeros, Called, runnerIn}
 use Rattle.listing.specs.Line.{lineOf}
 use Rattle.machine.proofs.Preserved.Steps.{step-sound}
 use Rattle.kernel.proofs.Runner.{running-image}
-use Rattle.kernel.proofs.Turns.{called-image}
+use Rattle.kernel.proofs.InTurn.{called-image}
 use Rattle.input.specs.Words.{wordsIn}
 use Rattle.rows.specs.Taking.{turned}
 use Rattle.lister.specs.Listing.{lastRow}

@@ -21,7 +21,7 @@ use Rattle.lister.specs.declared.Lister.{Lister}
 use Rattle.lister.specs.declared.Fed.{Fed}
 use Rattle.lister.specs.Feeding.{Progress, Told, ready, holding, toldOf, toldBy, offered, byteTo, fed}
 use Rattle.lister.specs.Buffers.{progressOf, withByte, takesCall, Feeds}
-use Rattle.lister.proofs.Answering.{fedTo}
+use Rattle.lister.proofs.Taking.{fedTo}
 
 -- Tests.
 

@@ -1,6 +1,6 @@
 -- The functions: what they hold, answer and write.
 pub mod Writing
-pub mod Answering
+pub mod Taking
 pub mod Holding
 -- For every division of the bytes the listing is that of the whole.
 pub mod Enough

@@ -213,7 +213,7 @@ pub fn finish(l: Lister, tables: &[u32], out: &mut [u8]) -> usize
         0,
         l.index,
         0,
-        machine::plain(18),
+        machine::plain(machine::codes::NO_CALL),
         kernel::running(tables),
     )
 }

@@ -8,4 +8,4 @@ pub mod Calls
 -- Demand 3: the invariant of a list of calls and its history, call by call, and the theorem.
 pub mod Demand3
 -- Runs that the checker computes: histories compared with tables, and machines that the claim refuses.
-pub mod Runs
+pub mod Examples

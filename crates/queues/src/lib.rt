@@ -21,7 +21,7 @@ pub fn enqueue(tables: &mut [u32], t: usize)
 {
     let p = store::thread(tables, Field::Priority, t);
     links::push_tail(tables, p as usize, t);
-    store::mark_occupied(tables, p);
+    store::set_occupied(tables, p);
 }
 
 // Thread t leaves the queue of level p, which is empty in the summary if nobody is left there.
@@ -32,7 +32,7 @@ fn leave_level(tables: &mut [u32], p: u32, t: usize)
     links::unlink(tables, p as usize, t);
     let first = links::first(tables, p as usize);
     if first == NOBODY {
-        store::mark_empty(tables, p);
+        store::set_empty(tables, p);
     }
 }
 

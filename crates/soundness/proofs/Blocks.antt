@@ -25,7 +25,7 @@ use Rattle.layout.proofs.Tests.{Decides, tells-map, tells-and, tells-or, tells-
 use Rattle.layout.proofs.Tests.{tells-awaited}
 use Rattle.soundness.specs.Checks.{threadAt, endpointAt, absentTest, numbersTest, storedTest, waitsTest, owesTest}
 use Rattle.soundness.specs.Checks.{presentTest, blockTest}
-use Rattle.soundness.proofs.Tests.{tells-ltb, tells-pick, told}
+use Rattle.soundness.proofs.Tests.{tells-ltb, tells-pick, decided}
 use Rattle.soundness.proofs.Reading.{Reads}
 
 -- What the tests say of a thread's words.
@@ -306,9 +306,9 @@ module _ (m : List ℕ) (s : State) (R : Reads m s) (t : ℕ) (h : t ≤ 255) wh
   has-kept : Kept (λ f. threadAt m f t)
   has-kept = (
     ⊎-elim inl (λ n. inr (here Field.Outcome ∙ X .blocked (λ e. n (here Field.Place ∙ ap placeCode e))))
-        (told (tells-eqb (threadAt m Field.Place t) 1)),
+        (decided (tells-eqb (threadAt m Field.Place t) 1)),
     ⊎-elim inl (λ n. inr (none-stored n))
-        (told
+        (decided
         (tells-or (tells-eqb (threadAt m Field.Outcome t) 2)
         (tells-and (tells-leb 2 (threadAt m Field.Place t)) (tells-ltb (threadAt m Field.Place t) 66)))),
   )
@@ -374,7 +374,7 @@ module _ (m : List ℕ) (s : State) (R : Reads m s) (t : ℕ) (h : t ≤ 255) wh
           → NamesWaiter s t × NamesOwner s t
       from r =
           ⊎-elim (λ z. (absent-waits z, absent-owes z)) (λ n. (waits-of (r .1 n .0 .1), owes-of (r .1 n .1)))
-          (told (tells-eqb (threadAt m Field.Place t) 0))
+          (decided (tells-eqb (threadAt m Field.Place t) 0))
 
       to : NamesWaiter s t × NamesOwner s t
           → (threadAt m Field.Place t ≡ 0 → Zeros (λ f. threadAt m f t))

@@ -23,7 +23,7 @@ use Rattle.layout.proofs.Tests.{Decides, tells-true, tells-false, tells-map, te
 use Rattle.layout.proofs.Tests.{tells-leb}
 use Rattle.layout.proofs.Tests.{tells-owns}
 use Rattle.soundness.specs.Checks.{threadAt, endpointAt, ownerTest, abortTest, statusTest}
-use Rattle.soundness.proofs.Tests.{tells-ltb, told}
+use Rattle.soundness.proofs.Tests.{tells-ltb, decided}
 use Rattle.soundness.proofs.Cursors.{FromTo}
 use Rattle.soundness.proofs.Reading.{Reads, end-joined}
 
@@ -90,7 +90,7 @@ linked-again (suc t) h = rw (le-leb t 255 (omega arith))
 marked-end :
     {c d b : ℕ} {g : ℕ → ℕ} {l part : List ℕ} → FromTo c d b g l part → (c ≡ 0) ↔ (d ≡ 0) → lastOf 0 part ≡ d
 marked-end {c} {part = part} M h =
-    ⊎-elim (λ z. ap (lastOf 0) (first-zero part (M .first ∙ z)) ∙ sym (h .0 z)) (M .last) (told (tells-eqb c 0))
+    ⊎-elim (λ z. ap (lastOf 0) (first-zero part (M .first ∙ z)) ∙ sym (h .0 z)) (M .last) (decided (tells-eqb c 0))
 
 -- From the tests to the endpoint
 

@@ -19,11 +19,11 @@ use Rattle.layout.proofs.Standing.{Queue, level, endpoint, queue?, queues-level
 use Rattle.layout.proofs.Standing.{queue-small, queue-distinct, queue-apart}
 use Rattle.layout.proofs.Neat.{NeatState, nobody}
 use Rattle.layout.proofs.Neat.{seated, seat-small}
-use Rattle.soundness.proofs.Tests.{told}
+use Rattle.soundness.proofs.Tests.{decided}
 use Rattle.soundness.proofs.Following.{chain-distinct}
 use Rattle.soundness.proofs.Cursors.{part-in}
 use Rattle.soundness.proofs.Reading.{Reads, level-joined, end-joined}
-use Rattle.soundness.proofs.Waiters.{Alike}
+use Rattle.soundness.proofs.Waiters.{AllAlike}
 use Rattle.soundness.proofs.Lines.{NoneAbove}
 use Rattle.soundness.proofs.Placed.{InQueue, Belongs, tells-belongs}
 use Rattle.soundness.proofs.Tried.{Untried}
@@ -222,15 +222,15 @@ module _ (m : List ℕ) (s : State) (R : Reads m s) (S : Sound s) (K : Linked m 
   pending-sends e t none i k = absurd k
   pending-sends e t (some a) i k = S .marks .part e a i .sends t k
 
-  alike : (e : ℕ) (l : List ℕ) → s .endpoints e .waiters ≡ l → Alike s e
+  alike : (e : ℕ) (l : List ℕ) → s .endpoints e .waiters ≡ l → AllAlike s e
   alike e [] z = inl (λ t k. absurd (subst (Mem t) z k))
   alike e (t ∷ l) z = ⊎-elim senders receivers (S .queues .queued t e .0 (rw z (inl refl)))
     where
-      senders : s .threads t .place ≡ sending e → Alike s e
+      senders : s .threads t .place ≡ sending e → AllAlike s e
       senders p =
           inl (λ u k. ⊎-elim (λ i. i) (λ i. absurd (S .queues .one-kind e t u p i)) (S .queues .queued u e .0 k))
 
-      receivers : s .threads t .place ≡ receiving e → Alike s e
+      receivers : s .threads t .place ≡ receiving e → AllAlike s e
       receivers p =
           inr (
             λ u k. ⊎-elim (λ i. absurd (S .queues .one-kind e u t i p)) (λ i. i) (S .queues .queued u e .0 k),
@@ -285,6 +285,6 @@ module _ (m : List ℕ) (s : State) (R : Reads m s) (S : Sound s) (K : Linked m 
           placed t (omega arith),
           ⊎-elim (λ b. inl (placed t (omega arith) .1 b))
               (λ n. inr (K .bare t (omega arith) (λ q k i. n (placed t (omega arith) .0 (q, omega arith, i)))))
-              (told (tells-belongs m s R t (omega arith))),
+              (decided (tells-belongs m s R t (omega arith))),
         );
       }

@@ -43,8 +43,8 @@ tells-every f P (u ∷ l) h =
     (tells-and (h u (inl refl)) (tells-every f P l (λ t k. h t (inr k))))
 
 -- A fact that is told holds, or it does not.
-pub told : {b : Bool} {P : Type 0} → Decides b P → P ⊎ (P → ⊥)
-told {b} {P} t = go b refl
+pub decided : {b : Bool} {P : Type 0} → Decides b P → P ⊎ (P → ⊥)
+decided {b} {P} t = go b refl
   where
     go : (c : Bool) → b ≡ c → P ⊎ (P → ⊥)
     go true e = inl (t .holds e)

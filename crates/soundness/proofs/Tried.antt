@@ -18,7 +18,7 @@ use Rattle.soundness.proofs.Tests.{tells-itself}
 use Rattle.soundness.proofs.Reading.{Reads, tells-level}
 use Rattle.soundness.proofs.Blocks.{NamesWaiter, NamesOwner, tells-block}
 use Rattle.soundness.proofs.Ends.{Paired, tells-paired, status-passes}
-use Rattle.soundness.proofs.Waiters.{Alike, NoneOutside, tells-waiters}
+use Rattle.soundness.proofs.Waiters.{AllAlike, NoneOutside, tells-waiters}
 use Rattle.soundness.proofs.Lines.{Fires, tells-line, NoneAbove, tells-running, summary-passes, unused-passes}
 use Rattle.soundness.proofs.Placed.{InQueue, Belongs, tells-placed}
 
@@ -66,7 +66,7 @@ pub record Untried (m : List ℕ) (s : State) : Type 0 where
       (p : ℕ) → p < 256 → (t : ℕ) → Mem t (s .levels p)
       → ((s .threads t .place ≡ able) × (s .threads t .priority ≡ p)) × (s .runs ≡ some t → ⊥)
   pub paired : (e : ℕ) → e < 64 → Paired s e
-  pub waiters : (e : ℕ) → e < 64 → Alike s e × NoneOutside s e
+  pub waiters : (e : ℕ) → e < 64 → AllAlike s e × NoneOutside s e
   pub lines : (l : ℕ) → l < 32 → Fires s l
   pub running : NoneAbove s (s .runs)
   pub placed :

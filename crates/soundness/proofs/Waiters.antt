@@ -23,7 +23,7 @@ use Rattle.layout.proofs.Following.{between-back}
 use Rattle.layout.proofs.Tests.{Decides, tells-map, tells-and, tells-or, tells-eqb}
 use Rattle.soundness.specs.declared.Phase.{Phase}
 use Rattle.soundness.specs.Checks.{threadAt, endpointAt, waitersFrom, kindOf, bannedOf, waitersTest}
-use Rattle.soundness.proofs.Tests.{tells-itself, every, tells-every, told}
+use Rattle.soundness.proofs.Tests.{tells-itself, every, tells-every, decided}
 use Rattle.soundness.proofs.Following.{phased, waiters-split, walk-found, walk-along, chain-distinct}
 use Rattle.soundness.proofs.Cursors.{FromTo, tells-marked}
 use Rattle.soundness.proofs.Reading.{Reads, end-joined, tells-seat}
@@ -86,8 +86,8 @@ module _ (m : List ℕ) (e : ℕ) where
 -- What the test tells of the state
 
 -- All that wait are senders, or all are receivers and nothing is pending.
-abbrev pub Alike : State → ℕ → Type 0
-Alike s e =
+abbrev pub AllAlike : State → ℕ → Type 0
+AllAlike s e =
     ((t : ℕ) → Mem t (s .endpoints e .waiters) → s .threads t .place ≡ sending e)
     ⊎ (((t : ℕ) → Mem t (s .endpoints e .waiters) → s .threads t .place ≡ receiving e)
     × (pendingOf (s .endpoints e .abort) ≡ []))
@@ -107,7 +107,7 @@ banned-hit m e a k = rw (eq-eqb (endpointAt m Part.Aborting e) 1 a, eq-eqb (kind
 banned-miss :
     (m : List ℕ) (e : ℕ) → ((endpointAt m Part.Aborting e ≡ 1) × (kindIn m e ≡ 2 + e) → ⊥) → bannedIn m e ≡ 2 ^ 28
 unfolding bannedOf
-banned-miss m e n = go (told (tells-eqb (endpointAt m Part.Aborting e) 1)) (told (tells-eqb (kindIn m e) (2 + e)))
+banned-miss m e n = go (decided (tells-eqb (endpointAt m Part.Aborting e) 1)) (decided (tells-eqb (kindIn m e) (2 + e)))
   where
     go : (endpointAt m Part.Aborting e ≡ 1) ⊎ (endpointAt m Part.Aborting e ≡ 1 → ⊥)
         → (kindIn m e ≡ 2 + e) ⊎ (kindIn m e ≡ 2 + e → ⊥)
@@ -175,7 +175,7 @@ module _ (m : List ℕ) (s : State) (R : Reads m s) (e : ℕ) (h : e ≤ 63) whe
 
   -- From the test
 
-  alike : Kind m e → AllOf m e l → Alike s e
+  alike : Kind m e → AllOf m e l → AllAlike s e
   alike (inl k) A = inl (sends A k)
   alike (inr k) A = inr (receives A (k .0), first-zero pend (sym (R .slots (ofEndpoint Part.Cursor e) h) ∙ k .1))
 
@@ -195,7 +195,7 @@ module _ (m : List ℕ) (s : State) (R : Reads m s) (e : ℕ) (h : e ≤ 63) whe
   kind-of code f g =
       rw (chain-first m (256 + e) 0 l (end-joined m s R e h)) (kind-first m e code l (λ t i. (small t i, f t i)) g)
 
-  to-kind : Alike s e → Kind m e × AllOf m e l
+  to-kind : AllAlike s e → Kind m e × AllOf m e l
   to-kind (inl f) =
       let there : (t : ℕ) → Mem t l → threadAt m Field.Place t ≡ 2 + e
       = λ t i. at-place t (sending e) (small t i) (f t i) in
@@ -231,7 +231,7 @@ module _ (m : List ℕ) (s : State) (R : Reads m s) (e : ℕ) (h : e ≤ 63) whe
             subst (Mem t) (sym pending-there)
             (⊎-elim (λ r. under t i b r (s .endpoints e .abort) refl)
             (λ n. absurd (omega (arith, b ∙ banned-miss m e n, badge-small K A t i)))
-            (told (tells-and (tells-eqb (endpointAt m Part.Aborting e) 1) (tells-eqb (kindIn m e) (2 + e)))));
+            (decided (tells-and (tells-eqb (endpointAt m Part.Aborting e) 1) (tells-eqb (kindIn m e) (2 + e)))));
       }
     where
       under : (t : ℕ) → Mem t l → threadAt m Field.Badge t ≡ bannedIn m e
@@ -244,7 +244,7 @@ module _ (m : List ℕ) (s : State) (R : Reads m s) (e : ℕ) (h : e ≤ 63) whe
           (sym (R .slots (ofThread Field.Badge t) (small t i)) ∙ b ∙ banned-hit m e (r .0) (r .1)
           ∙ R .slots (ofEndpoint Part.Aborted e) h ∙ ap badgeCode z)
 
-  pub tells-waiters : Decides (waitersTest m e) (Alike s e × NoneOutside s e)
+  pub tells-waiters : Decides (waitersTest m e) (AllAlike s e × NoneOutside s e)
   tells-waiters =
       tells-map (λ r. (alike (r .0) (r .1 .0), none-outside (r .0) (r .1 .0) (r .1 .1)))
       (λ r. let k = to-kind (r .0) in (k .0, (k .1, to-marks (k .0) (k .1) (r .1)))) tells-walk

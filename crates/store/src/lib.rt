@@ -187,7 +187,7 @@ pub fn load_summary(tables: &[u32]) -> Summary
 }
 
 // The word of level p and the top word become those of the summary.
-fn store_mark(tables: &mut [u32], sm: Summary, p: u32)
+fn store_level(tables: &mut [u32], sm: Summary, p: u32)
     requires { ⌜ (length (now tables) ≡ tableWords) × (p < 256) ⌝ }
     ensures { λ _. ⌜ WritesLevel (now (tables .entry)) sm p (now (tables .exit)) ⌝ }
 {
@@ -198,19 +198,19 @@ fn store_mark(tables: &mut [u32], sm: Summary, p: u32)
 }
 
 // Level p is occupied in the summary.
-pub fn mark_occupied(tables: &mut [u32], p: u32)
+pub fn set_occupied(tables: &mut [u32], p: u32)
     requires { ⌜ (length (now tables) ≡ tableWords) × (p < 256) ⌝ }
     ensures { λ _. ⌜ SetsLevel (now (tables .entry)) p true (now (tables .exit)) ⌝ }
 {
     let sm = load_summary(tables);
-    store_mark(tables, sm.occupied(p), p);
+    store_level(tables, sm.occupied(p), p);
 }
 
 // Level p is empty in the summary.
-pub fn mark_empty(tables: &mut [u32], p: u32)
+pub fn set_empty(tables: &mut [u32], p: u32)
     requires { ⌜ (length (now tables) ≡ tableWords) × (p < 256) ⌝ }
     ensures { λ _. ⌜ SetsLevel (now (tables .entry)) p false (now (tables .exit)) ⌝ }
 {
     let sm = load_summary(tables);
-    store_mark(tables, sm.emptied(p), p);
+    store_level(tables, sm.emptied(p), p);
 }

@@ -6,8 +6,8 @@ use native.Mathlib.Omega.{arith}
 use lib.ListN.{length, replicate, drop, drop-of-length-le}
 
 -- A fill up to the end has filled all.
-pub filled :
+pub fill-whole :
     (d : List ℕ) (i v : ℕ) → i ≤ length d → length d ≤ i → replicate i v ++ drop i d ≡ replicate (length d) v
-filled d i v l h =
+fill-whole d i v l h =
     let e : i ≡ length d = omega arith in
     rw (drop-of-length-le d h, append-nil) (ap (λ (n : ℕ). replicate n v) e)

@@ -8,7 +8,9 @@ has-note-requires : tie.Need-has-note-requires
 has-note-requires c κs = calls-asked (c .before .before .pre)
 
 set-owes-requires : tie.Need-set-owes-requires
-set-owes-requires c κs = note-asked (c .before .before .before .before .before .pre)
+set-owes-requires c κs =
+    let at-start = c .before .before .before .before .before in
+    note-asked (at-start .pre)
 
 plain-requires : tie.Need-plain-requires
 plain-requires c κs = search needs

@@ -33,7 +33,9 @@ returns-2 c =
     refused-closing (at-status .endpoint .ensures) (at-if2 .if2 .taken) (c .plain2 .ensures)
 
 drop-other-requires : tie.Need-drop-other-requires
-drop-other-requires c κs = calls-asked (c .before .before .before .before .before .before .pre)
+drop-other-requires c κs =
+    let at-start = c .before .before .before .before .before .before in
+    calls-asked (at-start .pre)
 
 abort-open-requires : tie.Need-abort-open-requires
 abort-open-requires c κs =

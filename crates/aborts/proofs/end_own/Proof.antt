@@ -27,7 +27,9 @@ returns c =
     (at-accept .accept .ensures)
 
 drop-debt-requires : tie.Need-drop-debt-requires
-drop-debt-requires c κs = debtor-asked (c .before .before .before .before .before .pre)
+drop-debt-requires c κs =
+    let at-start = c .before .before .before .before .before in
+    debtor-asked (at-start .pre)
 
 end-abort-requires : tie.Need-end-abort-requires
 end-abort-requires c κs = search endable-asked

@@ -30,9 +30,10 @@ thread-requires-8 c κs = search needs
 
 returns : tie.Need-returns
 returns c =
+    let at-thread5 = c .before .before .before in
     let d = c .before .before .before .before in
     loaded _ (d .before .before .before .thread .ensures) (d .before .before .thread2 .ensures)
-    (d .before .thread3 .ensures) (d .thread4 .ensures) (c .before .before .before .thread5 .ensures)
+    (d .before .thread3 .ensures) (d .thread4 .ensures) (at-thread5 .thread5 .ensures)
     (c .before .before .thread6 .ensures) (c .before .thread7 .ensures) (c .thread8 .ensures)
 
 pub load-spec : {M : Type 1} → statement M

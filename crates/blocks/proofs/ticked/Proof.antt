@@ -11,7 +11,9 @@ returns : tie.Need-returns
 returns c = ticks-out (c .before .before .args .b) (c .if1 .taken)
 
 returns-2 : tie.Need-returns-2
-returns-2 c = ticks-left (c .before .before .before .args .b) (c .before .if1 .left)
+returns-2 c =
+    let at-args = c .before .before .before in
+    ticks-left (at-args .args .b) (c .before .if1 .left)
 
 pub ticked-spec : {M : Type 1} → statement M
 ticked-spec = tie.close (tie.spec sub-ticks returns returns-2)

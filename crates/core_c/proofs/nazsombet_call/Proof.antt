@@ -1,5 +1,5 @@
 -- The call that the numbers name is taken, and its answer stored.
-use Rattle.core_c.proofs.Answering.{answered-is}
+use Rattle.core_c.proofs.Entries.{answered-is}
 use borrow.Author.Needs.{needs}
 use Rattle.core_c.proofs.nazsombet_call.Statement.{statement}
 use Rattle.core_c.proofs.nazsombet_call.Tie as tie

@@ -17,7 +17,9 @@ returns : tie.Need-returns
 returns c = numbered _ _ _ (c .before .before .running .ensures) (c .enum-told .given .1)
 
 returns-2 : tie.Need-returns-2
-returns-2 c = numbered _ _ _ (c .before .before .before .running .ensures) (c .before .thread .given .1)
+returns-2 c =
+    let at-running = c .before .before .before in
+    numbered _ _ _ (at-running .running .ensures) (c .before .thread .given .1)
 
 pub nazsombet-running-spec : {M : Type 1} → statement M
 nazsombet-running-spec =

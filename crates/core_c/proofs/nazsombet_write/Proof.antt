@@ -1,5 +1,5 @@
 -- The call that the numbers name is written, and its words stored.
-use Rattle.core_c.proofs.Answering.{written-for}
+use Rattle.core_c.proofs.Entries.{written-for}
 use borrow.Author.Needs.{needs}
 use Rattle.core_c.proofs.nazsombet_write.Statement.{statement}
 use Rattle.core_c.proofs.nazsombet_write.Tie as tie

@@ -28,7 +28,9 @@ returns c =
 
 returns-2 : tie.Need-returns-2
 unfolding reading
-returns-2 c = rw (sym (c .before .before .before .read .ensures) ∙ c .before .code .given .1)
+returns-2 c =
+    let at-read = c .before .before .before in
+    rw (sym (at-read .read .ensures) ∙ c .before .code .given .1)
 
 returns-3 : tie.Need-returns-3
 unfolding reading

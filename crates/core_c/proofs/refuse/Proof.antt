@@ -1,5 +1,5 @@
 -- The check first; 18 where it accepts.
-use Rattle.core_c.proofs.Answering.{check-refused, none-refused}
+use Rattle.core_c.proofs.Entries.{check-refused, none-refused}
 use borrow.Author.Needs.{needs}
 use Rattle.core_c.proofs.refuse.Statement.{statement}
 use Rattle.core_c.proofs.refuse.Tie as tie
@@ -15,7 +15,8 @@ same-length c = search needs
 
 returns : tie.Need-returns
 returns c =
-    check-refused _ (c .before .before .before .before .check .ensures) (c .before .if1 .taken) (c .plain .ensures)
+    let at-check = c .before .before .before .before in
+    check-refused _ (at-check .check .ensures) (c .before .if1 .taken) (c .plain .ensures)
 
 plain-requires-2 : tie.Need-plain-requires-2
 plain-requires-2 c κs = search needs
@@ -25,7 +26,8 @@ same-length-2 c = search needs
 
 returns-2 : tie.Need-returns-2
 returns-2 c =
-    none-refused _ (c .before .before .before .before .check .ensures) (c .before .if1 .left) (c .plain2 .ensures)
+    let at-check = c .before .before .before .before in
+    none-refused _ (at-check .check .ensures) (c .before .if1 .left) (c .plain2 .ensures)
 
 pub refuse-spec : {M : Type 1} → statement M
 refuse-spec =

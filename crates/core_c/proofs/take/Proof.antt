@@ -1,5 +1,5 @@
 -- By whether a call is named.
-use Rattle.core_c.proofs.Answering.{called-for}
+use Rattle.core_c.proofs.Entries.{called-for}
 use mathlib.Core.Option.{none, some}
 use borrow.Author.Needs.{needs}
 use Rattle.core_c.proofs.take.Statement.{statement}

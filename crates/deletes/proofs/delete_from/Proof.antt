@@ -51,11 +51,12 @@ same-length-2 c = search needs
 
 returns-2 : tie.Need-returns-2
 returns-2 c =
+    let at-counted2 = c .before .before .before in
     let at-status = c .before .before .before .before .before .before .before in
     let at-if1 = at-status .before .before in
     let at-remove = at-if1 .before .before .before .before .before in
     deleted-all (at-remove .remove .ensures) (at-if1 .before .first .ensures) (at-if1 .if1 .left)
-    (at-status .set-status .ensures) (c .before .before .before .counted2 .ensures)
+    (at-status .set-status .ensures) (at-counted2 .counted2 .ensures)
     (c .before .before .accept2 .ensures)
 
 pub delete-from-spec : {M : Type 1} → statement M

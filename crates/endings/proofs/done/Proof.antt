@@ -14,7 +14,9 @@ same-length : tie.Need-same-length
 same-length c = search needs
 
 returns : tie.Need-returns
-returns c = done-is (c .before .before .before .choose .ensures) (c .plain .ensures)
+returns c =
+    let at-choose = c .before .before .before in
+    done-is (at-choose .choose .ensures) (c .plain .ensures)
 
 pub done-spec : {M : Type 1} → statement M
 done-spec = tie.close (tie.spec choose-requires plain-requires same-length returns)

@@ -22,9 +22,10 @@ returns c =
 
 returns-2 : tie.Need-returns-2
 returns-2 c =
+    let at-number-in = c .before .before .before in
     let a = c .before .before .before .before .before .args in
     abort-one (a .endpoint) (a .allowance) (a .rest .now) (c .before .badge .given .0 .0)
-    (number-is _ _ (sym (c .before .badge .given .1) ∙ c .before .before .before .number-in .ensures))
+    (number-is _ _ (sym (c .before .badge .given .1) ∙ at-number-in .number-in .ensures))
 
 pub abort-spec : {M : Type 1} → statement M
 abort-spec = tie.close (tie.spec number-in-requires enum-known-badge enum-told returns returns-2)

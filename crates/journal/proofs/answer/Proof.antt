@@ -17,10 +17,14 @@ in-range-requires : tie.Need-in-range-requires
 in-range-requires c κs = search needs
 
 returns-2 : tie.Need-returns-2
-returns-2 c = rw (c .before .before .before .words .given .1, sym (c .before .in-range .ensures) ∙ c .if1 .taken)
+returns-2 c =
+    let at-words = c .before .before .before in
+    rw (at-words .words .given .1, sym (c .before .in-range .ensures) ∙ c .if1 .taken)
 
 returns-3 : tie.Need-returns-3
-returns-3 c = rw (c .before .before .before .words .given .1, sym (c .before .in-range .ensures) ∙ c .if1 .left)
+returns-3 c =
+    let at-words = c .before .before .before in
+    rw (at-words .words .given .1, sym (c .before .in-range .ensures) ∙ c .if1 .left)
 
 pub answer-spec : {M : Type 1} → statement M
 answer-spec =

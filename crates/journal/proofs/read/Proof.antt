@@ -39,7 +39,8 @@ call-at-requires c κs = search needs
 
 words-taken-requires : tie.Need-words-taken-requires
 words-taken-requires c κs =
-    omega (arith, c .before .before .shared-slice-known2 .given (c .before .before .before .before .before .args .at))
+    let at-args = c .before .before .before .before .before in
+    omega (arith, c .before .before .shared-slice-known2 .given (at-args .args .at))
 
 add-answer : tie.Need-add-answer
 add-answer c =
@@ -53,10 +54,11 @@ answer-requires c κs = search needs
 
 returns-2 : tie.Need-returns-2
 returns-2 c =
+    let at-if1 = c .before .before .before .before .before in
     let a = c .before .before .before .before .before .before .before .args in
     c .answer .ensures
     ∙ read-word-at (a .journal .now) (a .at) (c .before .words-taken .result) (c .before .before .call-at .result)
-    (c .before .before .before .before .before .if1 .left) (c .before .before .call-at .ensures)
+    (at-if1 .if1 .left) (c .before .before .call-at .ensures)
     (c .before .words-taken .ensures)
 
 pub read-spec : {M : Type 1} → statement M

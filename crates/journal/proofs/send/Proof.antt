@@ -19,7 +19,9 @@ badge-is :
 badge-is c = number-is _ _ (sym (c .badge .given .1) ∙ c .before .before .number-in .ensures)
 
 has-first : (c : tie.After-badge) → 1 ≤ length (c .before .before .before .before .args .rest .now)
-has-first c = number-there 2 (c .before .before .before .before .args .rest .now) _ (badge-is c)
+has-first c =
+    let at-args = c .before .before .before .before in
+    number-there 2 (at-args .args .rest .now) _ (badge-is c)
 
 number-in-requires : tie.Need-number-in-requires
 number-in-requires c κs = search needs
@@ -63,10 +65,11 @@ returns-2 c =
 
 returns-3 : tie.Need-returns-3
 returns-3 c =
+    let at-number-in2 = c .before .before .before in
     let found = c .before .before .before .before .before .before in
     let a = found .before .before .before .before .args in
     send-one (a .endpoint) (a .rest .now) (found .badge .given .0 .0) (c .before .message .given .0 .0) (badge-is found)
-    (number-is _ _ (sym (c .before .message .given .1) ∙ c .before .before .before .number-in2 .ensures))
+    (number-is _ _ (sym (c .before .message .given .1) ∙ at-number-in2 .number-in2 .ensures))
 
 pub send-spec : {M : Type 1} → statement M
 send-spec =

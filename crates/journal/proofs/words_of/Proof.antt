@@ -11,35 +11,40 @@ enum-known-call c = search needs
 
 one-word-requires : tie.Need-one-word-requires
 one-word-requires c κs =
-    let h = fits-of _ _ (c .before .before .before .pre) (c .before .call .given .1) in (lit< tt, h .0, h .1)
+    let at-start = c .before .before .before in
+    let h = fits-of _ _ (at-start .pre) (c .before .call .given .1) in (lit< tt, h .0, h .1)
 
 enum-known-call-2 : tie.Need-enum-known-call-2
 enum-known-call-2 c = search needs
 
 one-word-requires-2 : tie.Need-one-word-requires-2
 one-word-requires-2 c κs =
-    (lit< tt, fits-of _ _ (c .before .before .before .pre) (c .before .call2 .given .1), lit< tt)
+    let at-start = c .before .before .before in
+    (lit< tt, fits-of _ _ (at-start .pre) (c .before .call2 .given .1), lit< tt)
 
 enum-known-call-3 : tie.Need-enum-known-call-3
 enum-known-call-3 c = search needs
 
 one-word-requires-3 : tie.Need-one-word-requires-3
 one-word-requires-3 c κs =
-    let h = fits-of _ _ (c .before .before .before .pre) (c .before .call3 .given .1) in (lit< tt, h .0, h .1)
+    let at-start = c .before .before .before in
+    let h = fits-of _ _ (at-start .pre) (c .before .call3 .given .1) in (lit< tt, h .0, h .1)
 
 enum-known-call-4 : tie.Need-enum-known-call-4
 enum-known-call-4 c = search needs
 
 one-word-requires-4 : tie.Need-one-word-requires-4
 one-word-requires-4 c κs =
-    (lit< tt, fits-of _ _ (c .before .before .before .pre) (c .before .call4 .given .1), lit< tt)
+    let at-start = c .before .before .before in
+    (lit< tt, fits-of _ _ (at-start .pre) (c .before .call4 .given .1), lit< tt)
 
 enum-known-call-5 : tie.Need-enum-known-call-5
 enum-known-call-5 c = search needs
 
 one-word-requires-5 : tie.Need-one-word-requires-5
 one-word-requires-5 c κs =
-    (lit< tt, fits-of _ _ (c .before .before .before .pre) (c .before .call5 .given .1), lit< tt)
+    let at-start = c .before .before .before in
+    (lit< tt, fits-of _ _ (at-start .pre) (c .before .call5 .given .1), lit< tt)
 
 enum-told : tie.Need-enum-told
 enum-told c = search needs
@@ -51,14 +56,17 @@ enum-known-call-6 : tie.Need-enum-known-call-6
 enum-known-call-6 c = search needs
 
 send-words-requires : tie.Need-send-words-requires
-send-words-requires c κs = fits-of _ _ (c .before .before .before .pre) (c .before .call6 .given .1)
+send-words-requires c κs =
+    let at-start = c .before .before .before in
+    fits-of _ _ (at-start .pre) (c .before .call6 .given .1)
 
 enum-known-call-7 : tie.Need-enum-known-call-7
 enum-known-call-7 c = search needs
 
 one-word-requires-7 : tie.Need-one-word-requires-7
 one-word-requires-7 c κs =
-    (lit< tt, fits-of _ _ (c .before .before .before .pre) (c .before .call7 .given .1), lit< tt)
+    let at-start = c .before .before .before in
+    (lit< tt, fits-of _ _ (at-start .pre) (c .before .call7 .given .1), lit< tt)
 
 enum-told-2 : tie.Need-enum-told-2
 enum-told-2 c = search needs
@@ -71,20 +79,24 @@ enum-known-call-8 c = search needs
 
 one-word-requires-9 : tie.Need-one-word-requires-9
 one-word-requires-9 c κs =
-    (lit< tt, fits-of _ _ (c .before .before .before .pre) (c .before .call8 .given .1), lit< tt)
+    let at-start = c .before .before .before in
+    (lit< tt, fits-of _ _ (at-start .pre) (c .before .call8 .given .1), lit< tt)
 
 enum-known-call-9 : tie.Need-enum-known-call-9
 enum-known-call-9 c = search needs
 
 one-word-requires-10 : tie.Need-one-word-requires-10
 one-word-requires-10 c κs =
-    let h = fits-of _ _ (c .before .before .before .pre) (c .before .call9 .given .1) in (lit< tt, h .0, h .1)
+    let at-start = c .before .before .before in
+    let h = fits-of _ _ (at-start .pre) (c .before .call9 .given .1) in (lit< tt, h .0, h .1)
 
 enum-known-call-10 : tie.Need-enum-known-call-10
 enum-known-call-10 c = search needs
 
 abort-words-requires : tie.Need-abort-words-requires
-abort-words-requires c κs = fits-of _ _ (c .before .before .before .pre) (c .before .call10 .given .1)
+abort-words-requires c κs =
+    let at-start = c .before .before .before in
+    fits-of _ _ (at-start .pre) (c .before .call10 .given .1)
 
 returns : tie.Need-returns
 unfolding wordsOf

@@ -18,12 +18,14 @@ same-length-2 c = search needs
 
 returns : tie.Need-returns
 returns c =
-    check-refuses _ (c .before .before .before .before .check .ensures) _ (c .before .if1 .taken)
+    let at-check = c .before .before .before .before in
+    check-refuses _ (at-check .check .ensures) _ (c .before .if1 .taken)
     (c .plain .ensures)
 
 step-requires : tie.Need-step-requires
 step-requires c κs =
-    check-shown _ (c .before .before .before .before .check .ensures) (c .before .if1 .left)
+    let at-check = c .before .before .before .before in
+    check-shown _ (at-check .check .ensures) (c .before .if1 .left)
 
 same-length-3 : tie.Need-same-length-3
 same-length-3 c = search needs
@@ -33,9 +35,10 @@ same-length-4 c = search needs
 
 returns-2 : tie.Need-returns-2
 returns-2 c =
+    let at-if1 = c .before .before .before .before in
     let checked = c .before .before .before .before .before .before .before in
     step-taken _ (checked .check .ensures) (checked .before .before .before .before .before .args .c)
-    (c .before .before .before .before .if1 .left) (c .before .before .step .ensures)
+    (at-if1 .if1 .left) (c .before .before .step .ensures)
 
 pub call-spec : {M : Type 1} → statement M
 call-spec =

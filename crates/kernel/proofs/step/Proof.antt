@@ -17,17 +17,21 @@ returns c =
 
 perform-requires : tie.Need-perform-requires
 perform-requires c κs =
-    range-asked (c .before .before .before .before .args .c) (c .before .before .in-range .ensures)
-    (not-false _ (c .before .if1 .left)) (c .before .before .before .before .pre)
+    let at-args = c .before .before .before .before in
+    range-asked (at-args .args .c) (c .before .before .in-range .ensures)
+    (not-false _ (c .before .if1 .left)) (at-args .pre)
 
 same-length : tie.Need-same-length
 same-length c = search needs
 
 returns-2 : tie.Need-returns-2
 returns-2 c =
-    range-done (c .before .before .before .before .before .before .before .args .c)
-    (c .before .before .before .before .before .in-range .ensures)
-    (not-false _ (c .before .before .before .before .if1 .left)) (c .before .before .perform .ensures)
+    let at-if1 = c .before .before .before .before in
+    let at-in-range = c .before .before .before .before .before in
+    let at-args = c .before .before .before .before .before .before .before in
+    range-done (at-args .args .c)
+    (at-in-range .in-range .ensures)
+    (not-false _ (at-if1 .if1 .left)) (c .before .before .perform .ensures)
 
 pub step-spec : {M : Type 1} → statement M
 step-spec =

@@ -12,7 +12,8 @@ get-requires c κs = search needs
 
 returns : tie.Need-returns
 returns c =
-    reads-first (c .before .before .before .pre .1) (c .before .head-at .ensures) (c .get .ensures)
+    let at-start = c .before .before .before in
+    reads-first (at-start .pre .1) (c .before .head-at .ensures) (c .get .ensures)
 
 pub first-spec : {M : Type 1} → statement M
 first-spec = tie.close (tie.spec head-at-requires get-requires returns)

@@ -12,7 +12,8 @@ get-requires c κs = search needs
 
 returns : tie.Need-returns
 returns c =
-    reads-last (c .before .before .before .pre .1) (c .before .tail-at .ensures) (c .get .ensures)
+    let at-start = c .before .before .before in
+    reads-last (at-start .pre .1) (c .before .tail-at .ensures) (c .get .ensures)
 
 pub last-spec : {M : Type 1} → statement M
 last-spec = tie.close (tie.spec tail-at-requires get-requires returns)

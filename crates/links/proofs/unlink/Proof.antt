@@ -8,7 +8,9 @@ use Rattle.links.proofs.unlink.Tie as tie
 -- What is known when both links of t are read: the contract's premise, and the neighbours.
 
 abbrev start : tie.After-get2 → tie.Start
-start c = c .before .before .before .before .before .before .before
+start c =
+    let at-start = c .before .before .before .before .before .before .before in
+    at-start
 
 pre : (c : tie.After-get2) → Leavable (start c .args .tables .now) (start c .args .q) (start c .args .t)
 pre c = start c .pre
@@ -25,13 +27,19 @@ around c =
 -- The place of the two reads, from each place after it at which a link of t is asked for again.
 
 abbrev second : tie.After-put-arg2 → tie.After-get2
-second c = c .before .before .before .before .before .before
+second c =
+    let at-start = c .before .before .before .before .before .before in
+    at-start
 
 abbrev third : tie.After-put-arg3 → tie.After-get2
-third c = second (c .before .before .before .before .before)
+third c =
+    let at-start = c .before .before .before .before .before in
+    second (at-start)
 
 abbrev fourth : tie.After-put-arg4 → tie.After-get2
-fourth c = third (c .before .before .before .before .before)
+fourth c =
+    let at-start = c .before .before .before .before .before in
+    third (at-start)
 
 next-at-requires : tie.Need-next-at-requires
 next-at-requires c κs = leaver-small (c .before .before .pre)
@@ -40,7 +48,9 @@ get-requires : tie.Need-get-requires
 get-requires c κs = search needs
 
 prev-at-requires : tie.Need-prev-at-requires
-prev-at-requires c κs = leaver-small (c .before .before .before .before .before .pre)
+prev-at-requires c κs =
+    let at-start = c .before .before .before .before .before in
+    leaver-small (at-start .pre)
 
 get-requires-2 : tie.Need-get-requires-2
 get-requires-2 c κs = search needs

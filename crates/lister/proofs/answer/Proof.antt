@@ -7,7 +7,7 @@ use lib.Seq.{length-take-le}
 use borrow.Author.Needs.{needs}
 use Rattle.lent_tables.specs.Entries.{lent}
 use Rattle.lister.specs.declared.Lister.{Lister}
-use Rattle.lister.proofs.Answering.{left-answered, call-answered}
+use Rattle.lister.proofs.Taking.{left-answered, call-answered}
 use Rattle.lister.proofs.answer.Statement.{statement}
 use Rattle.lister.proofs.answer.Tie as tie
 

@@ -4,7 +4,7 @@ use borrow.Author.Needs.{needs}
 use Rattle.lent_tables.specs.Entries.{lent}
 use Rattle.texts.proofs.Writing.{counts}
 use Rattle.lister.proofs.Holding.{not-so, so}
-use Rattle.lister.proofs.Answering.{stopped-ends, nothing-ends, held-ends}
+use Rattle.lister.proofs.Taking.{stopped-ends, nothing-ends, held-ends}
 use Rattle.lister.proofs.finish.Statement.{statement}
 use Rattle.lister.proofs.finish.Tie as tie
 

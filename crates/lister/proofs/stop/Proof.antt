@@ -2,7 +2,7 @@
 use mathlib.Core.Path.{ap}
 use borrow.Author.Needs.{needs}
 use Rattle.lister.specs.declared.Lister.{Lister}
-use Rattle.lister.proofs.Answering.{over-told, stop-told}
+use Rattle.lister.proofs.Taking.{over-told, stop-told}
 use Rattle.lister.proofs.stop.Statement.{statement}
 use Rattle.lister.proofs.stop.Tie as tie
 

@@ -9,13 +9,19 @@ use Rattle.listing.proofs.fields.Statement.{statement}
 use Rattle.listing.proofs.fields.Tie as tie
 
 abbrev start : tie.After-field → tie.Start
-start c = c .before .before .before .before
+start c =
+    let at-start = c .before .before .before .before in
+    at-start
 
 abbrev first : tie.After-field2 → tie.After-field
-first c = c .before .before .before .before .before
+first c =
+    let at-start = c .before .before .before .before .before in
+    at-start
 
 abbrev second : tie.After-field3 → tie.After-field2
-second c = c .before .before .before .before .before
+second c =
+    let at-start = c .before .before .before .before .before in
+    at-start
 
 -- Room for the numbers that follow each.
 
@@ -51,19 +57,25 @@ cast-field-2 : tie.Need-cast-field-2
 cast-field-2 c = search needs
 
 field-requires-2 : tie.Need-field-requires-2
-field-requires-2 c κs = front-room _ _ (room₁ (c .before .before .before .before))
+field-requires-2 c κs =
+    let at-start = c .before .before .before .before in
+    front-room _ _ (room₁ (at-start))
 
 cast-field-3 : tie.Need-cast-field-3
 cast-field-3 c = search needs
 
 field-requires-3 : tie.Need-field-requires-3
-field-requires-3 c κs = front-room _ _ (room₂ (c .before .before .before .before))
+field-requires-3 c κs =
+    let at-start = c .before .before .before .before in
+    front-room _ _ (room₂ (at-start))
 
 cast-field-4 : tie.Need-cast-field-4
 cast-field-4 c = search needs
 
 field-requires-4 : tie.Need-field-requires-4
-field-requires-4 c κs = room₃ (c .before .before .before .before)
+field-requires-4 c κs =
+    let at-start = c .before .before .before .before in
+    room₃ (at-start)
 
 same-length : tie.Need-same-length
 same-length c = search needs

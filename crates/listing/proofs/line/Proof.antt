@@ -57,7 +57,9 @@ room₁ c =
     rest-room (spaced (r .index)) (fromCall r) (room-is (line-is r) (room (first c))) (c .field .ensures)
 
 abbrev second : tie.After-field2 → tie.After-field
-second c = c .before .before .before .before .before
+second c =
+    let at-start = c .before .before .before .before .before in
+    at-start
 
 room₂ : (c : tie.After-field2) → Room (c .field2 .last .0) (c .field2 .result) (fromAnswer (row (first (second c))))
 room₂ c =
@@ -65,7 +67,9 @@ room₂ c =
     rest-room (spaced (r .call)) (fromAnswer r) (room₁ (second c)) (c .field2 .ensures)
 
 abbrev third : tie.After-fields → tie.After-field2
-third c = c .before .before .before .before
+third c =
+    let at-start = c .before .before .before .before in
+    at-start
 
 room₃ :
     (c : tie.After-fields)
@@ -75,7 +79,9 @@ room₃ c =
     rest-room (answerText (r .answer)) (fromRunning r) (room₂ (third c)) (c .fields .ensures)
 
 abbrev fourth : tie.After-who → tie.After-fields
-fourth c = c .before .before .before .before
+fourth c =
+    let at-start = c .before .before .before .before in
+    at-start
 
 room₄ : (c : tie.After-who) → Room (c .who .last .0) (c .who .result) newline
 room₄ c =
@@ -94,13 +100,19 @@ cast-field : tie.Need-cast-field
 cast-field c = search needs
 
 field-requires-2 : tie.Need-field-requires-2
-field-requires-2 c κs = front-room _ _ (room₁ (c .before .before .before .before))
+field-requires-2 c κs =
+    let at-start = c .before .before .before .before in
+    front-room _ _ (room₁ (at-start))
 
 fields-requires : tie.Need-fields-requires
-fields-requires c κs = front-room _ _ (room₂ (c .before .before .before))
+fields-requires c κs =
+    let at-start = c .before .before .before in
+    front-room _ _ (room₂ (at-start))
 
 who-requires : tie.Need-who-requires
-who-requires c κs = front-room _ _ (room₃ (c .before .before .before))
+who-requires c κs =
+    let at-start = c .before .before .before in
+    front-room _ _ (room₃ (at-start))
 
 add-next : tie.Need-add-next
 add-next c = omega (arith, room₄ (c .before .before) .fits)

@@ -20,7 +20,8 @@ enum-told c = search needs
 slice-write-out : tie.Need-slice-write-out
 unfolding runner
 slice-write-out c =
-    omega (arith, room-is (ap said (c .enum-told .given .1)) (c .before .before .before .pre) .fits)
+    let at-start = c .before .before .before in
+    omega (arith, room-is (ap said (c .enum-told .given .1)) (at-start .pre) .fits)
 
 add-result : tie.Need-add-result
 add-result c = search needs
@@ -43,9 +44,10 @@ same-length c = search needs
 returns : tie.Need-returns
 unfolding runner
 returns c =
+    let at-start = c .before .before .before in
     let nobody = ap said (c .enum-told .given .1) in
     wrote-is (sym nobody)
-    (wrote-byte (omega (arith, room-is nobody (c .before .before .before .pre) .fits)) refl refl)
+    (wrote-byte (omega (arith, room-is nobody (at-start .pre) .fits)) refl refl)
 
 same-length-2 : tie.Need-same-length-2
 same-length-2 c = search needs

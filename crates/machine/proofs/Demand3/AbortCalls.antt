@@ -42,7 +42,7 @@ use Rattle.machine.proofs.Demand3.EachLook.{Frame, frame-keeps}
 use Rattle.machine.proofs.Demand3.OwnAbort.{Ran}
 use Rattle.machine.proofs.Demand3.Joining.{ran}
 use Rattle.machine.proofs.Preserved.Steps.{step-sound}
-use Rattle.machine.proofs.Demand3.Invariant.{stageOf, Called, Inv}
+use Rattle.machine.proofs.Demand3.Invariant.{stageOf, CallClaims, Inv}
 use Rattle.machine.proofs.Demand3.Recording.{abortCallOf}
 use Rattle.machine.proofs.Demand3.OtherCalls.{fits, idle-core}
 use Rattle.machine.proofs.Demand3.Breakable.{next}
@@ -96,7 +96,7 @@ module _ (past : List Call) (s : State) (h : History) (I : Inv past s h) (e a b 
       → (r .answer .code ≡ 0
       → Reports (recorded (h .since) o (looks e a b) r h)
       (abortCallOf e a b r (waitingIn (h .since) (r .state)) (o .reports) h))
-      → Called (recorded (h .since) o (looks e a b) r h)
+      → CallClaims (recorded (h .since) o (looks e a b) r h)
       (abortCallOf e a b r (waitingIn (h .since) (r .state)) (o .reports) h)
   unfolding recorded
   called r o F answer reports =

@@ -21,7 +21,7 @@ use Rattle.machine.specs.Sound.{Sound}
 use Rattle.machine.specs.Sorts.{Sort, other, destroys, waits, receives, yields, removes, looks, sortOf}
 use Rattle.machine.specs.History.{queues?}
 use Rattle.machine.proofs.Lists.{put-all}
-use Rattle.machine.proofs.Demand3.Standing.{callAt}
+use Rattle.machine.proofs.Demand3.Standing.{waiterCall}
 use Rattle.machine.proofs.Preserved.Sites.{differ}
 use Rattle.machine.proofs.Preserved.Statuses.{keeps-place}
 use Rattle.machine.proofs.Preserved.Debts.{mid-dropDebt, dropDebt-drops}
@@ -29,14 +29,14 @@ use Rattle.machine.proofs.Demand3.Leaving.{leaves-then, leaves-wakeFrom
 use Rattle.machine.proofs.Calls.Ticks.{is-absent}
 use Rattle.machine.proofs.Demand3.Owing.{Still, still-self, still-then, still-thread, still-endpoint}
 use Rattle.machine.proofs.Demand3.Owing.{still-wakeFrom}
-use Rattle.machine.proofs.Demand3.Blocking.{Joins, Blocks, stays-choose, leaves-choose, still-choose}
+use Rattle.machine.proofs.Demand3.Blocking.{JoinsTail, CallerBlocks, stays-choose, leaves-choose, still-choose}
 use Rattle.machine.specs.Mid.{Mid}
 use Rattle.machine.proofs.Preserved.Mid.{sound-mid}
-use Rattle.machine.proofs.Demand3.HostCalls.{dropsOf, Sheds, sheds, Turn, idle, blocks, turn-refused}
+use Rattle.machine.proofs.Demand3.HostCalls.{dropsOf, Sheds, sheds, Arrival, idle, blocks, turn-refused}
 use Rattle.machine.proofs.Demand3.HostCalls.{turn-create, turn-destroy, turn-priority, turn-endpoint}
 use Rattle.machine.proofs.Demand3.HostCalls.{turn-interrupt, turn-tick}
 
-turn-yield : (s : State) (t : ℕ) → s .runs ≡ some t → Turn s Yield (yield t s)
+turn-yield : (s : State) (t : ℕ) → s .runs ≡ some t → Arrival s Yield (yield t s)
 unfolding yield standDown enqueue
 turn-yield s t runs =
     idle (leaves-choose s _ (leaves-dropDebt t s)) refl
@@ -45,11 +45,11 @@ turn-yield s t runs =
 module _ (s : State) (S : Sound s) (t : ℕ) (runs : s .runs ≡ some t) where
   -- What the caller owes is dropped, and then it blocks at a place.
   block-at :
-      (c : Call) (p : Place) (b m : ℕ) → callAt p b m ≡ some c → queues? (sortOf c) 1 ≡ true → (x : State)
+      (c : Call) (p : Place) (b m : ℕ) → waiterCall p b m ≡ some c → queues? (sortOf c) 1 ≡ true → (x : State)
       → x .threads ≡ put (dropDebt t s .threads) t (withPlace p 0 b m (dropDebt t s .threads t))
       → ((e : ℕ) → x .endpoints e .abort ≡ dropDebt t s .endpoints e .abort)
       → ((e : ℕ) → x .endpoints e .status ≡ dropDebt t s .endpoints e .status)
-      → ((e : ℕ) → Joins t (dropDebt t s .endpoints e .waiters) (x .endpoints e .waiters)) → Blocks s c (blocked x)
+      → ((e : ℕ) → JoinsTail t (dropDebt t s .endpoints e .waiters) (x .endpoints e .waiters)) → CallerBlocks s c (blocked x)
   block-at c p b m calls queues x threads abort status joins =
       record {
         caller = t;
@@ -59,7 +59,7 @@ module _ (s : State) (S : Sound s) (t : ℕ) (runs : s .runs ≡ some t) where
         between = dropDebt t s;
         leaves = leaves-dropDebt t s;
         able =
-            ap (λ (q : Place). callAt q (dropDebt t s .threads t .badge) (dropDebt t s .threads t .message)) stands;
+            ap (λ (q : Place). waiterCall q (dropDebt t s .threads t .badge) (dropDebt t s .threads t .message)) stands;
         aside = λ e a h i. differ (M .marks .part e a h .sends t i) stands refl;
         entry = withPlace p 0 b m (dropDebt t s .threads t);
         calls = calls;
@@ -68,7 +68,7 @@ module _ (s : State) (S : Sound s) (t : ℕ) (runs : s .runs ≡ some t) where
         status = λ e. ap (λ (y : ℕ → Endpoint). y e .status) (stays-choose x .endpoints) ∙ status e;
         joins =
             λ e.
-            subst (λ (y : ℕ → Endpoint). Joins t (dropDebt t s .endpoints e .waiters) (y e .waiters))
+            subst (λ (y : ℕ → Endpoint). JoinsTail t (dropDebt t s .endpoints e .waiters) (y e .waiters))
             (sym (stays-choose x .endpoints)) (joins e);
       }
     where
@@ -80,15 +80,15 @@ module _ (s : State) (S : Sound s) (t : ℕ) (runs : s .runs ≡ some t) where
 
   -- and so it does at the tail of a queue.
   block-queue :
-      (c : Call) (p : Place) (e b m : ℕ) → callAt p b m ≡ some c → queues? (sortOf c) 1 ≡ true
-      → Blocks s c (blocked (block t p b m (joinEndpoint t e (dropDebt t s))))
+      (c : Call) (p : Place) (e b m : ℕ) → waiterCall p b m ≡ some c → queues? (sortOf c) 1 ≡ true
+      → CallerBlocks s c (blocked (block t p b m (joinEndpoint t e (dropDebt t s))))
   unfolding block joinEndpoint
   block-queue c p e b m calls queues =
       block-at c p b m calls queues (block t p b m (joinEndpoint t e (dropDebt t s))) refl
       (put-all (λ f y. y .abort ≡ dropDebt t s .endpoints f .abort) (dropDebt t s .endpoints) e _ refl (λ f n. refl))
       (put-all (λ f y. y .status ≡ dropDebt t s .endpoints f .status) (dropDebt t s .endpoints) e _ refl
       (λ f n. refl))
-      (put-all (λ f y. Joins t (dropDebt t s .endpoints f .waiters) (y .waiters)) (dropDebt t s .endpoints) e _
+      (put-all (λ f y. JoinsTail t (dropDebt t s .endpoints f .waiters) (y .waiters)) (dropDebt t s .endpoints) e _
       (inr refl) (λ f n. inl refl))
 
   -- A call that blocks drops what the caller owes.
@@ -105,11 +105,11 @@ module _ (s : State) (S : Sound s) (t : ℕ) (runs : s .runs ≡ some t) where
   unfolding joinEndpoint
   still-join e = still-endpoint (dropDebt t s) e _ refl
 
-  turn-wait : (l : ℕ) → Turn s (Wait l) (wait t l s)
+  turn-wait : (l : ℕ) → Arrival s (Wait l) (wait t l s)
   unfolding wait waitAt block
   turn-wait l = go (s .lines l)
     where
-      go : (x : Line) → Turn s (Wait l) (waitAt x t l s)
+      go : (x : Line) → Arrival s (Wait l) (waitAt x t l s)
       go quiet =
           blocks (block-at (Wait l) (waiting l) 0 0 refl refl _ refl (λ e. refl) (λ e. refl) (λ e. inl refl))
           (sheds-block (Wait l) (waiting l) 0 0 runs (setLine l (awaited t) (dropDebt t s))
@@ -119,7 +119,7 @@ module _ (s : State) (S : Sound s) (t : ℕ) (runs : s .runs ≡ some t) where
           (sheds t runs (still-choose (dropDebt t s) _ (still-self (dropDebt t s))))
       go (awaited u) = turn-refused s (Wait l) 27 refl refl
 
-  turn-sendTo : (o : Option ℕ) (e b m : ℕ) → Turn s (Send e b m) (sendTo o t e b m (dropDebt t s))
+  turn-sendTo : (o : Option ℕ) (e b m : ℕ) → Arrival s (Send e b m) (sendTo o t e b m (dropDebt t s))
   unfolding sendTo
   turn-sendTo none e b m =
       blocks (block-queue (Send e b m) (sending e) e b m refl refl)
@@ -131,20 +131,20 @@ module _ (s : State) (S : Sound s) (t : ℕ) (runs : s .runs ≡ some t) where
       (leaves-wakeFrom (dropDebt t s) e r 2 b m))) refl
       (sheds t runs (still-choose (dropDebt t s) _ (still-wakeFrom (dropDebt t s) e r 2 b m)))
 
-  turn-send : (e b m : ℕ) → Turn s (Send e b m) (send t e b m s)
+  turn-send : (e b m : ℕ) → Arrival s (Send e b m) (send t e b m s)
   unfolding send sendAt sendUnless
   turn-send e b m = go (s .endpoints e .status)
     where
-      unless : (x : Bool) → Turn s (Send e b m) (sendUnless x t e b m s)
+      unless : (x : Bool) → Arrival s (Send e b m) (sendUnless x t e b m s)
       unless true = turn-refused s (Send e b m) 26 refl refl
       unless false = turn-sendTo (first (receivers (s .threads) (s .endpoints e .waiters))) e b m
 
-      go : (x : Status) → Turn s (Send e b m) (sendAt x t e b m s)
+      go : (x : Status) → Arrival s (Send e b m) (sendAt x t e b m s)
       go missing = turn-refused s (Send e b m) 23 refl refl
       go live = unless (underAbort b (s .endpoints e .abort))
       go closing = turn-refused s (Send e b m) 25 refl refl
 
-  turn-receiveFrom : (o : Option ℕ) (e : ℕ) → Turn s (Receive e) (receiveFrom o t e (dropDebt t s))
+  turn-receiveFrom : (o : Option ℕ) (e : ℕ) → Arrival s (Receive e) (receiveFrom o t e (dropDebt t s))
   unfolding receiveFrom
   turn-receiveFrom none e =
       blocks (block-queue (Receive e) (receiving e) e 0 0 refl refl)
@@ -156,11 +156,11 @@ module _ (s : State) (S : Sound s) (t : ℕ) (runs : s .runs ≡ some t) where
       (leaves-wakeFrom (dropDebt t s) e u 1 0 0))) refl
       (sheds t runs (still-choose (dropDebt t s) _ (still-wakeFrom (dropDebt t s) e u 1 0 0)))
 
-  turn-receive : (e : ℕ) → Turn s (Receive e) (receive t e s)
+  turn-receive : (e : ℕ) → Arrival s (Receive e) (receive t e s)
   unfolding receive receiveAt
   turn-receive e = go (s .endpoints e .status)
     where
-      go : (x : Status) → Turn s (Receive e) (receiveAt x t e s)
+      go : (x : Status) → Arrival s (Receive e) (receiveAt x t e s)
       go missing = turn-refused s (Receive e) 23 refl refl
       go live = turn-receiveFrom (first (senders (s .threads) (s .endpoints e .waiters))) e
       go closing = turn-refused s (Receive e) 25 refl refl
@@ -177,14 +177,14 @@ Simple (looks e a b) = ⊥
 
 turn-caller :
     (s : State) (c : Call) (f : ℕ → State → Result) → queues? (sortOf c) 20 ≡ false
-    → ((t : ℕ) → s .runs ≡ some t → Turn s c (f t s)) → Turn s c (byCaller (s .runs) f s)
+    → ((t : ℕ) → s .runs ≡ some t → Arrival s c (f t s)) → Arrival s c (byCaller (s .runs) f s)
 turn-caller s c f q h = go (s .runs) refl
   where
-    go : (o : Option ℕ) → s .runs ≡ o → Turn s c (byCaller o f s)
+    go : (o : Option ℕ) → s .runs ≡ o → Arrival s c (byCaller o f s)
     go none e = turn-refused s c 20 refl q
     go (some t) e = h t e
 
-turn-perform : (s : State) → Sound s → (c : Call) → Simple (sortOf c) → Turn s c (perform c s)
+turn-perform : (s : State) → Sound s → (c : Call) → Simple (sortOf c) → Arrival s c (perform c s)
 unfolding perform createThread destroyThread setPriority
 turn-perform s S (CreateThread t p) _ =
     turn-create s (isAbsent (s .threads t .place)) t p
@@ -210,10 +210,10 @@ refused-name yields = refl
 refused-name (removes e) = refl
 refused-name (looks e a b) = refl
 
-pub turn : (s : State) → Sound s → (c : Call) → Simple (sortOf c) → Turn s c (step s c)
+pub turn : (s : State) → Sound s → (c : Call) → Simple (sortOf c) → Arrival s c (step s c)
 unfolding step performIf
 turn s S c n = go (inRange c)
   where
-    go : (b : Bool) → Turn s c (performIf b c s)
+    go : (b : Bool) → Arrival s c (performIf b c s)
     go true = turn-perform s S c n
     go false = turn-refused s c 19 refl (refused-name (sortOf c))

@@ -19,10 +19,11 @@ use Rattle.machine.specs.History.{Aborting, Ended, queues?}
 use Rattle.machine.specs.Claim.{isOld}
 use Rattle.machine.proofs.Lists.{Same, same, other, same?, put-all, put-same, put-other}
 use Rattle.machine.proofs.Sublists.{Sub, map-agree, entry-below, entry-last}
-use Rattle.machine.proofs.Demand3.Standing.{Stage, naming, grown, callOf, Made, Stood, Both, Over, Core, not-old}
+use Rattle.machine.proofs.Demand3.Standing.{Stage, naming, grown, callMade, Made, Stood, Both, Over, Core}
+use Rattle.machine.proofs.Demand3.Standing.{not-old}
 use Rattle.machine.proofs.Demand3.Standing.{made-grow, both-grow, over-grow}
 use Rattle.machine.proofs.Demand3.Owing.{Still}
-use Rattle.machine.proofs.Demand3.Leaving.{Leaves}
+use Rattle.machine.proofs.Demand3.Leaving.{NobodyComes}
 
 -- Threads, endpoints and lines are as they were.
 pub record Stays (s r : State) : Type 0 where
@@ -56,32 +57,32 @@ pub stays-choose : (s : State) → Stays s (choose s)
 unfolding choose
 stays-choose s = stays-for (s .runs) s
 
-pub leaves-choose : (s r : State) → Leaves s r → Leaves s (choose r)
+pub leaves-choose : (s r : State) → NobodyComes s r → NobodyComes s (choose r)
 leaves-choose s r H = rw (stays-choose r .threads, stays-choose r .endpoints) H
 
 pub still-choose : (s r : State) → Still s r → Still s (choose r)
 still-choose s r H = rw (stays-choose r .threads, stays-choose r .endpoints) H
 
 -- Of two queues, the second is the first, or t has joined its tail.
-abbrev pub Joins : ℕ → List ℕ → List ℕ → Type 0
-Joins t l m = (m ≡ l) ⊎ (m ≡ l ++ (t ∷ []))
+abbrev pub JoinsTail : ℕ → List ℕ → List ℕ → Type 0
+JoinsTail t l m = (m ≡ l) ⊎ (m ≡ l ++ (t ∷ []))
 
 -- The caller blocks in the call c: up to the state between, nobody comes to wait; then the caller does.
-pub record Blocks (s : State) (c : Call) (r : Result) : Type 0 where
+pub record CallerBlocks (s : State) (c : Call) (r : Result) : Type 0 where
   pub caller : ℕ
   pub runs : s .runs ≡ some caller
   pub answer : r .answer ≡ plain 1
   pub queues : queues? (sortOf c) 1 ≡ true
   pub between : State
-  pub leaves : Leaves s between
-  pub able : callOf (between .threads caller) ≡ none
+  pub leaves : NobodyComes s between
+  pub able : callMade (between .threads caller) ≡ none
   pub aside : (e : ℕ) (a : Abort) → between .endpoints e .abort ≡ some a → Mem caller (a .pending) → ⊥
   pub entry : Thread
-  pub calls : callOf entry ≡ some c
+  pub calls : callMade entry ≡ some c
   pub threads : r .state .threads ≡ put (between .threads) caller entry
   pub abort : (e : ℕ) → r .state .endpoints e .abort ≡ between .endpoints e .abort
   pub status : (e : ℕ) → r .state .endpoints e .status ≡ between .endpoints e .status
-  pub joins : (e : ℕ) → Joins caller (between .endpoints e .waiters) (r .state .endpoints e .waiters)
+  pub joins : (e : ℕ) → JoinsTail caller (between .endpoints e .waiters) (r .state .endpoints e .waiters)
 
 -- Core reads of an endpoint its status and its abort.
 core-same :
@@ -162,13 +163,13 @@ module _ (stage : Stage) (fits : stage .until ≤ suc (length (stage .past))) (f
             (λ u h. rw (put-other (stage .since) t u place h) (O .clean u));
       }
 
-  module _ (c : Call) (able : callOf (f t) ≡ none) (calls : callOf x ≡ some c)
+  module _ (c : Call) (able : callMade (f t) ≡ none) (calls : callMade x ≡ some c)
       (whole : length (stage .answers) ≡ length (stage .past)) where
     -- Of two waiters, u one that waited before.
     unlike :
         (u : ℕ) (d : Call)
-        → ((u : ℕ) (c : Call) → callOf (f u) ≡ some c → Made (stage .past) (stage .answers) (stage .since u) c)
-        → callOf (f u) ≡ some d → stage .since u ≡ place → ⊥
+        → ((u : ℕ) (c : Call) → callMade (f u) ≡ some c → Made (stage .past) (stage .answers) (stage .since u) c)
+        → callMade (f u) ≡ some d → stage .since u ≡ place → ⊥
     unlike u d made h q = let k = entry-below (stage .past) (stage .since u) d (made u d h .call) in omega arith
 
     -- t waits, by the call c, answered 1.
@@ -181,7 +182,7 @@ module _ (stage : Stage) (fits : stage .until ≤ suc (length (stage .past))) (f
         record {
           made =
               put-all
-              (λ u y. (d : Call) → callOf y ≡ some d
+              (λ u y. (d : Call) → callMade y ≡ some d
               → Made (stage .past ++ (c ∷ [])) (stage .answers ++ (plain 1 ∷ [])) (names u) d)
               f t x mine
               (λ u h d k. rw (put-other (stage .since) t u place h)
@@ -195,7 +196,7 @@ module _ (stage : Stage) (fits : stage .until ≤ suc (length (stage .past))) (f
         }
       where
         mine :
-            (d : Call) → callOf x ≡ some d
+            (d : Call) → callMade x ≡ some d
             → Made (stage .past ++ (c ∷ [])) (stage .answers ++ (plain 1 ∷ [])) (put (stage .since) t place t) d
         mine d h =
             let same : c ≡ d = cc in
@@ -211,11 +212,11 @@ module _ (stage : Stage) (fits : stage .until ≤ suc (length (stage .past))) (f
         new : (u : ℕ) → u ≡ t → put (stage .since) t place u ≡ place
         new u h = ap (put (stage .since) t place) h ∙ put-same (stage .since) t place
 
-        was : (u : ℕ) (d : Call) → (u ≡ t → ⊥) → callOf (put f t x u) ≡ some d → callOf (f u) ≡ some d
-        was u d h k = ap callOf (sym (put-other f t u x h)) ∙ k
+        was : (u : ℕ) (d : Call) → (u ≡ t → ⊥) → callMade (put f t x u) ≡ some d → callMade (f u) ≡ some d
+        was u d h k = ap callMade (sym (put-other f t u x h)) ∙ k
 
         apart :
-            (u v : ℕ) (k d : Call) → callOf (put f t x u) ≡ some k → callOf (put f t x v) ≡ some d
+            (u v : ℕ) (k d : Call) → callMade (put f t x u) ≡ some k → callMade (put f t x v) ≡ some d
             → put (stage .since) t place u ≡ put (stage .since) t place v → u ≡ v
         apart u v k d p q e = go (same? u t) (same? v t)
           where

@@ -18,7 +18,7 @@ use Rattle.machine.proofs.Preserved.Debts.{endAbort-entry}
 use Rattle.machine.proofs.Preserved.Ready.{none-some}
 use Rattle.machine.proofs.Sublists.{Sub, sub-refl, sub-none}
 use Rattle.machine.proofs.Demand3.Standing.{Stage, within, Both, Core}
-use Rattle.machine.proofs.Demand3.Leaving.{Leaves, Passes, leaves-self, leaves-then, leaves-endpoint}
+use Rattle.machine.proofs.Demand3.Leaving.{NobodyComes, Passes, leaves-self, leaves-then, leaves-endpoint}
 use Rattle.machine.proofs.Demand3.Leaving.{leaves-wakeFrom, leaves-dropDebt, core-leaves}
 use Rattle.machine.proofs.Demand3.Owing.{Still, still-self, still-then, still-endpoint, still-wakeFrom}
 use Rattle.machine.proofs.Demand3.Owing.{tied-still, tied-drop, tied-end}
@@ -26,7 +26,7 @@ use Rattle.machine.proofs.Demand3.Blocking.{leaves-choose, still-choose
 use Rattle.machine.proofs.Demand3.Ending.{core-end}
 use Rattle.machine.proofs.Demand3.OwnAbort.{keeps-endAbort}
 
-leaves-remove : (n : ℕ) (l : List ℕ) (e : ℕ) (s : State) → Leaves s (removeUpTo n l e s .state)
+leaves-remove : (n : ℕ) (l : List ℕ) (e : ℕ) (s : State) → NobodyComes s (removeUpTo n l e s .state)
 unfolding removeUpTo oneMore
 leaves-remove zero l e s = leaves-self s
 leaves-remove (suc n) [] e s = leaves-self s
@@ -42,8 +42,8 @@ passes-none g e none (some k) h P = absurd P
 passes-none g e (some a) k h P = absurd (none-some h refl)
 
 leaves-deleted :
-    (l : List ℕ) (e : ℕ) (s : State) (r : Removal) → s .endpoints e .abort ≡ none → Leaves s (r .state)
-    → Leaves s (deleted l e r .state)
+    (l : List ℕ) (e : ℕ) (s : State) (r : Removal) → s .endpoints e .abort ≡ none → NobodyComes s (r .state)
+    → NobodyComes s (deleted l e r .state)
 unfolding deleted
 leaves-deleted [] e s r h H =
     leaves-choose s (setEndpoint e missingEndpoint (r .state))
@@ -53,14 +53,14 @@ leaves-deleted [] e s r h H =
     (sub-none (r .state .endpoints e .waiters)) (λ t p k. absurd (live-present k refl))))
 leaves-deleted (w ∷ l) e s r h H = leaves-choose s (r .state) H
 
-leaves-delete : (e a : ℕ) (s : State) → s .endpoints e .abort ≡ none → Leaves s (deleteFrom e a s .state)
+leaves-delete : (e a : ℕ) (s : State) → s .endpoints e .abort ≡ none → NobodyComes s (deleteFrom e a s .state)
 unfolding deleteFrom
 leaves-delete e a s h =
     leaves-deleted (removeUpTo a (s .endpoints e .waiters) e s .state .endpoints e .waiters) e s
     (removeUpTo a (s .endpoints e .waiters) e s) h (leaves-remove a (s .endpoints e .waiters) e s)
 
 -- An endpoint without an abort is marked closing.
-leaves-closing : (e : ℕ) (s : State) → s .endpoints e .abort ≡ none → Leaves s (endAbort closing e s)
+leaves-closing : (e : ℕ) (s : State) → s .endpoints e .abort ≡ none → NobodyComes s (endAbort closing e s)
 unfolding endAbort note
 leaves-closing e s h =
     rw h

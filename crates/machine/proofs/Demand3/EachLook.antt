@@ -22,7 +22,7 @@ use Rattle.machine.specs.Claim.{In, removedBy, less}
 use Rattle.machine.proofs.Lists.{put-same, put-other}
 use Rattle.machine.proofs.Sublists.{sub-mem, sub-only, less-none, less-more, less-append, mem-map, map-without}
 use Rattle.machine.proofs.Preserved.Statuses.{Keeps, keeps-self}
-use Rattle.machine.proofs.Demand3.Standing.{Stage, callAt, callOf, sends-call, Stood}
+use Rattle.machine.proofs.Demand3.Standing.{Stage, waiterCall, callMade, sends-call, Stood}
 use Rattle.machine.proofs.Demand3.Together.{Gone, walkAt, Going, going-abort, settle-pending, going-look}
 use Rattle.machine.proofs.Demand3.Together.{walk-look}
 
@@ -33,10 +33,10 @@ unfolding walk
 walk-cons v l k c w = refl
 
 -- Whoever stands in a queue waits.
-pub queued-call : (s : State) (e t : ℕ) → Queued s t e → (c : Call) × (callOf (s .threads t) ≡ some c)
+pub queued-call : (s : State) (e t : ℕ) → Queued s t e → (c : Call) × (callMade (s .threads t) ≡ some c)
 queued-call s e t (inl p) = (_, sends-call (s .threads t) e p)
 queued-call s e t (inr p) =
-    (Receive e, ap (λ (q : Place). callAt q (s .threads t .badge) (s .threads t .message)) p)
+    (Receive e, ap (λ (q : Place). waiterCall q (s .threads t .badge) (s .threads t .message)) p)
 
 -- From s to r the looks have removed from the queue of e whom they say, and nobody else has left or come anywhere.
 pub record Frame (since : ℕ → ℕ) (e : ℕ) (s r : State) (looks : List Look) : Type 0 where
@@ -130,7 +130,7 @@ module _ (stage : Stage) (standing : ℕ → Option Aborting) (e : ℕ) where
         met = λ v i. ⊎-elim (λ j. rw j (mem-map since u (s .endpoints e .waiters) m)) (λ j. absurd j) i;
       }
     where
-      call : (t : ℕ) → Mem t (s .endpoints e .waiters) → (c : Call) × (callOf (s .threads t) ≡ some c)
+      call : (t : ℕ) → Mem t (s .endpoints e .waiters) → (c : Call) × (callMade (s .threads t) ≡ some c)
       call t i = queued-call s e t (G .mid .queues .queued t e .0 i)
 
       names : (t : ℕ) → Mem t (s .endpoints e .waiters) → since t ≡ since u → t ≡ u

@@ -21,7 +21,7 @@ use Rattle.machine.proofs.Lists.{Same, same, other, same?, clash, mem-o
 use Rattle.machine.proofs.Lists.{put-same}
 use Rattle.machine.proofs.Sublists.{sub-refl, map-mem, distinct-map, entry-below}
 use Rattle.machine.specs.Mid.{Mid}
-use Rattle.machine.proofs.Demand3.Standing.{Stage, callOf, sends-call, Made, Stood, Both, Over, Core}
+use Rattle.machine.proofs.Demand3.Standing.{Stage, callMade, sends-call, Made, Stood, Both, Over, Core}
 use Rattle.machine.proofs.Demand3.Standing.{stood-exact}
 use Rattle.machine.proofs.Demand3.Leaving.{Fewer, core-at}
 
@@ -114,13 +114,13 @@ module _
             ∙ subst (λ (g : ℕ). put (s .endpoints) e closed g .status ≡ live) i l))
             (M .marks .none-outside e t a was (p ∙ ap sending i) j)
 
-    end-fewer : (g : ℕ → Thread) → ((t : ℕ) → callOf (g t) ≡ callOf (s .threads t))
+    end-fewer : (g : ℕ → Thread) → ((t : ℕ) → callMade (g t) ≡ callMade (s .threads t))
         → Fewer (s .threads) g (s .endpoints) (put (s .endpoints) e closed)
     end-fewer g calls = record { calls = λ t c h. sym (calls t) ∙ h; live = λ t f p. end-live f }
 
     -- Threads whose calls are those of before.
     core-closed :
-        (g : ℕ → Thread) → ((t : ℕ) → callOf (g t) ≡ callOf (s .threads t))
+        (g : ℕ → Thread) → ((t : ℕ) → callMade (g t) ≡ callMade (s .threads t))
         → ((t : ℕ) → (f : ℕ) → g t .place ≡ sending f → s .threads t .place ≡ sending f)
         → Core stage g (put (s .endpoints) e closed) (put standing e none) (record-of ∷ ended)
     core-closed g calls places =
@@ -145,7 +145,7 @@ module _
     core-note none = core-closed (s .threads) (λ t. refl) (λ t f p. p)
     core-note (some u) =
         core-closed (put (s .threads) u (withDebt (noted e (a .badge)) (s .threads u)))
-        (put-all (λ t y. callOf y ≡ callOf (s .threads t)) (s .threads) u _ refl (λ t i. refl))
+        (put-all (λ t y. callMade y ≡ callMade (s .threads t)) (s .threads) u _ refl (λ t i. refl))
         (put-all (λ t y. (f : ℕ) → y .place ≡ sending f → s .threads t .place ≡ sending f) (s .threads) u _ (λ f p. p)
         (λ t i f p. p))
 
@@ -185,7 +185,7 @@ module _
       where
         call :
             (u : ℕ) → Mem u (senders (s .threads) (s .endpoints e .waiters))
-            → callOf (s .threads u) ≡ some (Send e (s .threads u .badge) (s .threads u .message))
+            → callMade (s .threads u) ≡ some (Send e (s .threads u .badge) (s .threads u .message))
         call u m = sends-call (s .threads u) e (sender-sends M e u m)
 
         sent :
@@ -213,8 +213,8 @@ module _
         g : ℕ → Thread
         g = put (s .threads) t (withDebt (owns e) (s .threads t))
 
-        calls : (u : ℕ) → callOf (g u) ≡ callOf (s .threads u)
-        calls = put-all (λ u y. callOf y ≡ callOf (s .threads u)) (s .threads) t _ refl (λ u i. refl)
+        calls : (u : ℕ) → callMade (g u) ≡ callMade (s .threads u)
+        calls = put-all (λ u y. callMade y ≡ callMade (s .threads u)) (s .threads) t _ refl (λ u i. refl)
 
         places : (u : ℕ) → g u .place ≡ s .threads u .place
         places = put-all (λ u y. y .place ≡ s .threads u .place) (s .threads) t _ refl (λ u i. refl)

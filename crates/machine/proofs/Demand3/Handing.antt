@@ -25,7 +25,7 @@ use Rattle.machine.proofs.Preserved.Ready.{none-some}
 use Rattle.machine.proofs.Demand3.Ending.{sender-sends}
 use Rattle.machine.proofs.Demand3.Blocking.{stays-choose}
 
-pub record Takes (s : State) (e : ℕ) (r : Result) : Type 0 where
+pub record TakesFirst (s : State) (e : ℕ) (r : Result) : Type 0 where
   pub sender : ℕ
   pub rest : List ℕ
   pub longest : s .endpoints e .waiters ≡ sender ∷ rest
@@ -84,7 +84,7 @@ module _ (s : State) (S : Sound s) (e : ℕ) where
   takes-from :
       (t : ℕ) (o : Option ℕ) → first (senders (s .threads) (s .endpoints e .waiters)) ≡ o
       → s .endpoints e .status ≡ live → receiveFrom o t e (dropDebt t s) .answer .code ≡ 0
-      → Takes s e (receiveFrom o t e (dropDebt t s))
+      → TakesFirst s e (receiveFrom o t e (dropDebt t s))
   unfolding receiveFrom wakeFrom wake enqueue leaveEndpoint
   takes-from t none h l k = no-code 0 k
   takes-from t (some u) h l k =
@@ -106,7 +106,7 @@ module _ (s : State) (S : Sound s) (e : ℕ) where
 
   takes-at :
       (t : ℕ) (x : Status) → s .endpoints e .status ≡ x → receiveAt x t e s .answer .code ≡ 0
-      → Takes s e (receiveAt x t e s)
+      → TakesFirst s e (receiveAt x t e s)
   unfolding receiveAt
   takes-at t missing h k = no-code 22 k
   takes-at t closing h k = no-code 24 k
@@ -114,15 +114,15 @@ module _ (s : State) (S : Sound s) (e : ℕ) where
 
   takes-caller :
       (o : Option ℕ) → byCaller o (λ t. receive t e) s .answer .code ≡ 0
-      → Takes s e (byCaller o (λ t. receive t e) s)
+      → TakesFirst s e (byCaller o (λ t. receive t e) s)
   unfolding receive
   takes-caller none k = no-code 19 k
   takes-caller (some t) k = takes-at t (s .endpoints e .status) refl k
 
-  pub takes : step s (Receive e) .answer .code ≡ 0 → Takes s e (step s (Receive e))
+  pub takes : step s (Receive e) .answer .code ≡ 0 → TakesFirst s e (step s (Receive e))
   unfolding step performIf perform
   takes k = go (inRange (Receive e)) k
     where
-      go : (b : Bool) → performIf b (Receive e) s .answer .code ≡ 0 → Takes s e (performIf b (Receive e) s)
+      go : (b : Bool) → performIf b (Receive e) s .answer .code ≡ 0 → TakesFirst s e (performIf b (Receive e) s)
       go true h = takes-caller (s .runs) h
       go false h = no-code 18 h

@@ -23,12 +23,12 @@ use Rattle.machine.specs.Sound.{Sound}
 use Rattle.machine.specs.Sorts.{Sort, other, destroys, waits, receives, yields, removes, looks, sortOf}
 use Rattle.machine.specs.History.{isAccepted, queues?}
 use Rattle.machine.proofs.Preserved.Debts.{live-present, dropDebt-drops}
-use Rattle.machine.proofs.Demand3.Leaving.{Leaves, no-call, leaves-clear, leaves-self, leaves-then}
+use Rattle.machine.proofs.Demand3.Leaving.{NobodyComes, no-call, leaves-clear, leaves-self, leaves-then}
 use Rattle.machine.proofs.Demand3.Leaving.{leaves-thread, leaves-endpoint, leaves-queue, leaves-dropDebt}
 use Rattle.machine.proofs.Sublists.{sub-none}
 use Rattle.machine.proofs.Demand3.Owing.{Still, still-self, still-then, still-thread, still-endpoint}
 use Rattle.machine.proofs.Demand3.Owing.{still-leaveEndpoint}
-use Rattle.machine.proofs.Demand3.Blocking.{Blocks, leaves-choose, still-choose}
+use Rattle.machine.proofs.Demand3.Blocking.{CallerBlocks, leaves-choose, still-choose}
 
 -- Whose debts an accepted call drops: its caller's, the second argument, or those of the thread that it destroys.
 abbrev pub dropsOf : Sort → Option ℕ → Option ℕ
@@ -52,32 +52,32 @@ pub data Sheds (s : State) (c : Call) (r : Result) : Type 0 where
       (t : ℕ) → dropsIf (isAccepted (r .answer)) (sortOf c) (s .runs) ≡ some t → Still (dropDebt t s) (r .state)
       → Sheds s c r
 
-pub data Turn (s : State) (c : Call) (r : Result) : Type 0 where
-  idle : Leaves s (r .state) → queues? (sortOf c) (r .answer .code) ≡ false → Sheds s c r → Turn s c r
-  blocks : Blocks s c r → Sheds s c r → Turn s c r
+pub data Arrival (s : State) (c : Call) (r : Result) : Type 0 where
+  idle : NobodyComes s (r .state) → queues? (sortOf c) (r .answer .code) ≡ false → Sheds s c r → Arrival s c r
+  blocks : CallerBlocks s c r → Sheds s c r → Arrival s c r
 
 module _ (s : State) where
   -- A refused call.
   pub turn-refused :
-      (c : Call) (n : ℕ) → isAccepted (plain n) ≡ false → queues? (sortOf c) n ≡ false → Turn s c (refuse n s)
+      (c : Call) (n : ℕ) → isAccepted (plain n) ≡ false → queues? (sortOf c) n ≡ false → Arrival s c (refuse n s)
   turn-refused c n h q =
       idle (leaves-self s) q (keeps (ap (λ (b : Bool). dropsIf b (sortOf c) (s .runs)) h) (still-self s))
 
   pub turn-create :
       (b : Bool) (t p : ℕ) → (b ≡ true → s .threads t .debt ≡ nothing)
-      → Turn s (CreateThread t p) (createIf b t p s)
+      → Arrival s (CreateThread t p) (createIf b t p s)
   unfolding createIf enqueue
   turn-create false t p free = turn-refused (CreateThread t p) 22 refl refl
   turn-create true t p free =
       idle (leaves-choose s _ (leaves-clear s t _ refl)) refl
       (keeps refl (still-choose s _ (still-thread s t _ (sym (free refl)))))
 
-  leaves-leave : (p : Place) (t : ℕ) (r : State) → Leaves r (setThread t absentThread (leave p t r))
+  leaves-leave : (p : Place) (t : ℕ) (r : State) → NobodyComes r (setThread t absentThread (leave p t r))
   unfolding leave leaveReady unqueue
   leaves-leave absent t r = leaves-clear r t absentThread refl
   leaves-leave able t r = go (isRunning t (r .runs))
     where
-      go : (b : Bool) → Leaves r (setThread t absentThread (leaveReady b t r))
+      go : (b : Bool) → NobodyComes r (setThread t absentThread (leaveReady b t r))
       go true = leaves-clear r t absentThread refl
       go false = leaves-clear r t absentThread refl
   leaves-leave (sending e) t r = leaves-queue r e t absentThread refl
@@ -102,7 +102,7 @@ module _ (s : State) where
       (still-thread (leaveEndpoint t e r) t absentThread (sym h))
   still-leave (waiting l) t r h = still-thread r t absentThread (sym h)
 
-  pub turn-destroy : (b : Bool) (t : ℕ) → Turn s (DestroyThread t) (destroyIf b t s)
+  pub turn-destroy : (b : Bool) (t : ℕ) → Arrival s (DestroyThread t) (destroyIf b t s)
   unfolding destroyIf
   turn-destroy true t = turn-refused (DestroyThread t) 21 refl refl
   turn-destroy false t =
@@ -115,7 +115,7 @@ module _ (s : State) where
       (still-choose (dropDebt t s) _
       (still-leave (s .threads t .place) t (dropDebt t s) (dropDebt-drops s t .debt))))
 
-  leaves-move : (b : Bool) (t p : ℕ) → Leaves s (moveReady b t p s)
+  leaves-move : (b : Bool) (t p : ℕ) → NobodyComes s (moveReady b t p s)
   unfolding moveReady enqueue unqueue
   leaves-move true t p = leaves-thread s t _ (λ c h. h)
   leaves-move false t p = leaves-thread s t _ (λ c h. h)
@@ -125,7 +125,7 @@ module _ (s : State) where
   still-move true t p = still-thread s t _ refl
   still-move false t p = still-thread s t _ refl
 
-  leaves-change : (b : Bool) (t p : ℕ) → Leaves s (changeUnless b t p s)
+  leaves-change : (b : Bool) (t p : ℕ) → NobodyComes s (changeUnless b t p s)
   unfolding changeUnless
   leaves-change true t p = leaves-self s
   leaves-change false t p = leaves-move (isAble (s .threads t .place) && not (isRunning t (s .runs))) t p
@@ -135,14 +135,14 @@ module _ (s : State) where
   still-change true t p = still-self s
   still-change false t p = still-move (isAble (s .threads t .place) && not (isRunning t (s .runs))) t p
 
-  pub turn-priority : (b : Bool) (t p : ℕ) → Turn s (SetPriority t p) (priorityIf b t p s)
+  pub turn-priority : (b : Bool) (t p : ℕ) → Arrival s (SetPriority t p) (priorityIf b t p s)
   unfolding priorityIf
   turn-priority true t p = turn-refused (SetPriority t p) 21 refl refl
   turn-priority false t p =
       idle (leaves-choose s _ (leaves-change (eqb (s .threads t .priority) p) t p)) refl
       (keeps refl (still-choose s _ (still-change (eqb (s .threads t .priority) p) t p)))
 
-  leaves-fire : (x : Line) (l : ℕ) → Leaves s (fire x l s)
+  leaves-fire : (x : Line) (l : ℕ) → NobodyComes s (fire x l s)
   unfolding fire wake enqueue
   leaves-fire quiet l = leaves-self s
   leaves-fire pending l = leaves-self s
@@ -154,13 +154,13 @@ module _ (s : State) where
   still-fire pending l = still-self s
   still-fire (awaited t) l = still-thread s t _ refl
 
-  pub turn-interrupt : (l : ℕ) → Turn s (Interrupt l) (interrupt l s)
+  pub turn-interrupt : (l : ℕ) → Arrival s (Interrupt l) (interrupt l s)
   unfolding interrupt
   turn-interrupt l =
       idle (leaves-choose s _ (leaves-fire (s .lines l) l)) refl
       (keeps refl (still-choose s _ (still-fire (s .lines l) l)))
 
-  leaves-ticks : (n t : ℕ) → Leaves s (leaveTicks n t s)
+  leaves-ticks : (n t : ℕ) → NobodyComes s (leaveTicks n t s)
   unfolding leaveTicks standDown enqueue
   leaves-ticks zero t = leaves-thread s t _ (λ c h. h)
   leaves-ticks (suc n) t = leaves-thread s t _ (λ c h. h)
@@ -170,7 +170,7 @@ module _ (s : State) where
   still-ticks zero t = still-thread s t _ refl
   still-ticks (suc n) t = still-thread s t _ refl
 
-  leaves-tick : (o : Option ℕ) → Leaves s (tickFor o s)
+  leaves-tick : (o : Option ℕ) → NobodyComes s (tickFor o s)
   unfolding tickFor
   leaves-tick none = leaves-self s
   leaves-tick (some t) = leaves-ticks (s .threads t .ticks - 1) t
@@ -180,7 +180,7 @@ module _ (s : State) where
   still-tick none = still-self s
   still-tick (some t) = still-ticks (s .threads t .ticks - 1) t
 
-  pub turn-tick : Turn s Tick (tick s)
+  pub turn-tick : Arrival s Tick (tick s)
   unfolding tick
   turn-tick =
       idle (leaves-choose s _ (leaves-tick (s .runs))) refl (keeps refl (still-choose s _ (still-tick (s .runs))))
@@ -192,11 +192,11 @@ module _ (s : State) (S : Sound s) where
   nobody e t h p =
       subst (λ (l : List ℕ). Mem t l) (S .statuses .empty e h) (S .queues .queued t e .1 (inl p))
 
-  pub turn-endpoint : (e : ℕ) → Turn s (CreateEndpoint e) (createEndpoint e s)
+  pub turn-endpoint : (e : ℕ) → Arrival s (CreateEndpoint e) (createEndpoint e s)
   unfolding createEndpoint createAt
   turn-endpoint e = go (s .endpoints e .status) refl
     where
-      go : (x : Status) → s .endpoints e .status ≡ x → Turn s (CreateEndpoint e) (createAt x e s)
+      go : (x : Status) → s .endpoints e .status ≡ x → Arrival s (CreateEndpoint e) (createAt x e s)
       go missing h =
           idle
           (leaves-choose s _

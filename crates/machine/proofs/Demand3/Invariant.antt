@@ -22,7 +22,8 @@ use Rattle.machine.specs.Claim.{WaitsOn, Claim}
 use Rattle.machine.specs.Tied.{Tied}
 use Rattle.machine.proofs.Sublists.{Apart, map-mem, map-only, distinct-map, entry-grow}
 use Rattle.machine.proofs.Preserved.Ready.{none-some}
-use Rattle.machine.proofs.Demand3.Standing.{Stage, callAt, callOf, sends-call, Exact, Both, Core, stood-exact}
+use Rattle.machine.proofs.Demand3.Standing.{Stage, waiterCall, callMade, sends-call, LooksExact, Both, Core}
+use Rattle.machine.proofs.Demand3.Standing.{stood-exact}
 use Rattle.machine.proofs.Demand3.Standing.{isOld-grow}
 use Rattle.machine.proofs.Demand3.EachLook.{queued-call}
 
@@ -35,7 +36,7 @@ pub record Given (past : List Call) (h : History) (d : Delivery) : Type 0 where
       → isOld past (z .abort) w ≡ false
 
 -- A call 12: what the claim says of it.
-pub record Called (h : History) (y : AbortCall) : Type 0 where
+pub record CallClaims (h : History) (y : AbortCall) : Type 0 where
   pub reports : y .code ≡ 0 → Reports h y
   pub others : (e : ℕ) → (e ≡ y .endpoint → ⊥) → y .behind .queues e ≡ y .before .queues e
   pub own : y .behind .queues (y .endpoint) ≡ less (removedBy (y .looks)) (y .before .queues (y .endpoint))
@@ -69,7 +70,7 @@ pub record Inv (past : List Call) (s : State) (h : History) : Type 0 where
   pub rising : (e : ℕ) → Rising (map (h .since) (s .endpoints e .waiters))
   pub stray : h .aborts .stray ≡ []
   pub given : (d : Delivery) → In d (h .deliveries) → Given past h d
-  pub called : (y : AbortCall) → In y (h .abortCalls) → Called h y
+  pub called : (y : AbortCall) → In y (h .abortCalls) → CallClaims h y
   pub recorded12 : (i e a b : ℕ) → getElem? past i ≡ some (Abort e a b) → Recorded12 h i e a b
   pub recorded8 :
       (i e : ℕ) (a : Answer) → getElem? past i ≡ some (Receive e) → getElem? (h .answers) i ≡ some a → a .code ≡ 0
@@ -122,7 +123,7 @@ module _ (past : List Call) (c : Call) (a : Answer) (h k : History) (longer : k 
       }
 
   pub called-grow :
-      (y : AbortCall) → ((z : Ended) → In z (h .aborts .ended) → In z (k .aborts .ended)) → Called h y → Called k y
+      (y : AbortCall) → ((z : Ended) → In z (h .aborts .ended) → In z (k .aborts .ended)) → CallClaims h y → CallClaims k y
   called-grow y more C =
       record {
         reports = λ i. reports-grow y more (C .reports i);
@@ -137,19 +138,19 @@ module _ (past : List Call) (c : Call) (a : Answer) (h k : History) (longer : k 
 -- The claim
 
 module _ (past : List Call) (s : State) (h : History) (I : Inv past s h) where
-  exact : (x : Aborting) → IsAbort h x → Exact past (h .now) x
+  exact : (x : Aborting) → IsAbort h x → LooksExact past (h .now) x
   exact x (inl (e, p)) = go (s .endpoints e .abort) (rw p at (I .core .stands e))
     where
-      go : (k : Option Standing) → Both (stageOf past h) (s .threads) e k (some x) → Exact past (h .now) x
+      go : (k : Option Standing) → Both (stageOf past h) (s .threads) e k (some x) → LooksExact past (h .now) x
       go none B = absurd B
       go (some a) B = stood-exact (stageOf past h) (s .threads) e a x B
-  exact x (inr (z, i, p)) = subst (λ (y : Aborting). Exact past (h .now) y) p (I .core .over z i .exact)
+  exact x (inr (z, i, p)) = subst (λ (y : Aborting). LooksExact past (h .now) y) p (I .core .over z i .exact)
 
   pub queue : (e : ℕ) → h .waiting .queues e ≡ map (h .since) (s .endpoints e .waiters)
   queue e = ap (λ (w : Waiting). w .queues e) (I .waiting)
 
   -- Whoever waits is named by its call.
-  named : (t w : ℕ) (c : Call) (P : Call → Type 0) → callOf (s .threads t) ≡ some c → w ≡ h .since t → P c
+  named : (t w : ℕ) (c : Call) (P : Call → Type 0) → callMade (s .threads t) ≡ some c → w ≡ h .since t → P c
       → Named past h w P
   named t w c P p i r =
       let M = I .core .made t c p in
@@ -166,7 +167,7 @@ module _ (past : List Call) (s : State) (h : History) (I : Inv past s h) where
           (inl (s .threads t .badge, s .threads t .message, refl))
       go t i (inr p) =
           named t w (Receive e) (QueuesAt e)
-          (ap (λ (q : Place). callAt q (s .threads t .badge) (s .threads t .message)) p) i (inr refl)
+          (ap (λ (q : Place). waiterCall q (s .threads t .badge) (s .threads t .message)) p) i (inr refl)
 
   messages-sent :
       (e : ℕ) → h .waiting .messages e ≡ only (λ w. isSend (getElem? past w)) (h .waiting .queues e)
@@ -183,7 +184,7 @@ module _ (past : List Call) (s : State) (h : History) (I : Inv past s h) where
           rw (
             p,
             I .core .made t (Receive e)
-                (ap (λ (q : Place). callAt q (s .threads t .badge) (s .threads t .message)) p) .call,
+                (ap (λ (q : Place). waiterCall q (s .threads t .badge) (s .threads t .message)) p) .call,
           )
 
   pub queued-apart : (e : ℕ) → Apart (h .since) (s .endpoints e .waiters)
@@ -206,7 +207,7 @@ module _ (past : List Call) (s : State) (h : History) (I : Inv past s h) where
       go (awaited t) q k =
           let i : w ≡ h .since t = cc in
           named t w (Wait l) (WaitsOn l)
-          (ap (λ (r : Place). callAt r (s .threads t .badge) (s .threads t .message))
+          (ap (λ (r : Place). waiterCall r (s .threads t .badge) (s .threads t .message))
           (I .sound .queues .on-line t l .0 q))
           i refl
 

@@ -25,7 +25,7 @@ use Rattle.machine.proofs.Preserved.Debts.{mid-dropDebt, dropDebt-drops
 use Rattle.machine.proofs.Preserved.AbortSteps.{mid-join}
 use Rattle.machine.proofs.Preserved.Aborts.{running-present, join-status, unowed, unowned, owns-this}
 use Rattle.machine.proofs.Demand3.Standing.{Stage, within, Both, Core}
-use Rattle.machine.proofs.Demand3.Leaving.{Leaves, leaves-self, leaves-then, leaves-debt, leaves-endpoint}
+use Rattle.machine.proofs.Demand3.Leaving.{NobodyComes, leaves-self, leaves-then, leaves-debt, leaves-endpoint}
 use Rattle.machine.proofs.Demand3.Leaving.{passes-owner, leaves-dropDebt, core-leaves}
 use Rattle.machine.proofs.Demand3.Owing.{tied-drop, tied-join}
 use Rattle.machine.proofs.Demand3.Together.{put-self, Gone, walkAt, Going}
@@ -35,7 +35,7 @@ use Rattle.machine.proofs.Demand3.OtherAbort.{other-works}
 
 -- Joining
 
-leaves-joinAs : (o : Option ℕ) (t e : ℕ) (s : State) → Leaves s (joinAs o t e s)
+leaves-joinAs : (o : Option ℕ) (t e : ℕ) (s : State) → NobodyComes s (joinAs o t e s)
 unfolding joinAs
 leaves-joinAs none t e s =
     leaves-then s (setThread t (withDebt (owns e) (s .threads t)) s) (joinAs none t e s)
@@ -60,7 +60,7 @@ came-in t e b o d = record { ended = d .ended; debts = comesIn t e b o (d .debts
 record Opened (t e b : ℕ) (o : Option Aborting) (d : Gone) (s q : State) : Type 0 where
   mid : Mid q
   keeps : Keeps s q
-  leaves : Leaves s q
+  leaves : NobodyComes s q
   status : q .endpoints e .status ≡ s .endpoints e .status
   owed : Owed t e b q
   tied : Tied (q .threads) (q .endpoints) (letsOther t e b o (d .debts)) (d .ended)

@@ -15,15 +15,15 @@ use Rattle.machine.specs.History.{Aborting, Ended}
 use Rattle.machine.specs.Claim.{In}
 use Rattle.machine.proofs.Lists.{Same, same, other, same?, put-all, put-same, put-other, mem-keep}
 use Rattle.machine.proofs.Sublists.{Sub, sub-refl, sub-trans, sub-map, sub-after, sub-without}
-use Rattle.machine.proofs.Demand3.Standing.{Stage, reaching, callOf, sends-call, call-sends, Both, Over, Core}
+use Rattle.machine.proofs.Demand3.Standing.{Stage, reaching, callMade, sends-call, call-sends, Both, Over, Core}
 
 -- Who waits waited before, and whoever sends at a live endpoint sent at a live endpoint.
 pub record Fewer (f g : ℕ → Thread) (x y : ℕ → Endpoint) : Type 0 where
-  pub calls : (t : ℕ) (c : Call) → callOf (g t) ≡ some c → callOf (f t) ≡ some c
+  pub calls : (t : ℕ) (c : Call) → callMade (g t) ≡ some c → callMade (f t) ≡ some c
   pub live : (t e : ℕ) → g t .place ≡ sending e → y e .status ≡ live → x e .status ≡ live
 
 -- Of what was pending, in order, those are pending who still send.
-pub record Passed (g : ℕ → Thread) (e : ℕ) (a k : Abort) : Type 0 where
+pub record PassedOver (g : ℕ → Thread) (e : ℕ) (a k : Abort) : Type 0 where
   pub badge : k .badge ≡ a .badge
   pub part : Sub (k .pending) (a .pending)
   pub kept : (t : ℕ) → Mem t (a .pending) → g t .place ≡ sending e → Mem t (k .pending)
@@ -32,15 +32,15 @@ abbrev pub Passes : (ℕ → Thread) → ℕ → Option Abort → Option Abort �
 Passes g e none none = Unit {0}
 Passes g e none (some k) = ⊥
 Passes g e (some a) none = ⊥
-Passes g e (some a) (some k) = Passed g e a k
+Passes g e (some a) (some k) = PassedOver g e a k
 
 pub record Shrinks (f g : ℕ → Thread) (x y : ℕ → Endpoint) : Type 0 where
   pub fewer : Fewer f g x y
   pub queues : (e : ℕ) → Sub (y e .waiters) (x e .waiters)
   pub aborts : (e : ℕ) → Passes g e (x e .abort) (y e .abort)
 
-abbrev pub Leaves : State → State → Type 0
-Leaves s r = Shrinks (s .threads) (r .threads) (s .endpoints) (r .endpoints)
+abbrev pub NobodyComes : State → State → Type 0
+NobodyComes s r = Shrinks (s .threads) (r .threads) (s .endpoints) (r .endpoints)
 
 -- Who made no call.
 
@@ -55,7 +55,7 @@ fewer-sends {f} {g} F t e h =
 
 -- Passing
 
-pub passed-self : (g : ℕ → Thread) (e : ℕ) (a : Abort) → Passed g e a a
+pub passed-self : (g : ℕ → Thread) (e : ℕ) (a : Abort) → PassedOver g e a a
 passed-self g e a = record { badge = refl; part = sub-refl (a .pending); kept = λ t m h. m }
 
 pub passes-self : (g : ℕ → Thread) (e : ℕ) (o : Option Abort) → Passes g e o o
@@ -94,7 +94,7 @@ passes-trans g h e F (some a) (some b) (some c) P Q =
 
 -- Shrinking, and one step after another
 
-pub leaves-self : (s : State) → Leaves s s
+pub leaves-self : (s : State) → NobodyComes s s
 leaves-self s =
     record {
       fewer = record { calls = λ t c h. h; live = λ t e h k. k };
@@ -102,7 +102,7 @@ leaves-self s =
       aborts = λ e. passes-self (s .threads) e (s .endpoints e .abort);
     }
 
-pub leaves-then : (s r q : State) → Leaves s r → Leaves r q → Leaves s q
+pub leaves-then : (s r q : State) → NobodyComes s r → NobodyComes r q → NobodyComes s q
 leaves-then s r q P Q =
     record {
       fewer =
@@ -119,14 +119,14 @@ leaves-then s r q P Q =
 
 -- The entry of thread t becomes x.
 pub leaves-thread :
-    (s : State) (t : ℕ) (x : Thread) → ((c : Call) → callOf x ≡ some c → callOf (s .threads t) ≡ some c)
-    → Leaves s (setThread t x s)
+    (s : State) (t : ℕ) (x : Thread) → ((c : Call) → callMade x ≡ some c → callMade (s .threads t) ≡ some c)
+    → NobodyComes s (setThread t x s)
 leaves-thread s t x calls =
     record {
       fewer =
           record {
             calls =
-                put-all (λ u y. (c : Call) → callOf y ≡ some c → callOf (s .threads u) ≡ some c) (s .threads) t x
+                put-all (λ u y. (c : Call) → callMade y ≡ some c → callMade (s .threads u) ≡ some c) (s .threads) t x
                 calls (λ u n c h. h);
             live = λ u e h k. k;
           };
@@ -135,10 +135,10 @@ leaves-thread s t x calls =
     }
 
 -- The entry of t becomes one that does not wait.
-pub leaves-clear : (s : State) (t : ℕ) (x : Thread) → callOf x ≡ none → Leaves s (setThread t x s)
+pub leaves-clear : (s : State) (t : ℕ) (x : Thread) → callMade x ≡ none → NobodyComes s (setThread t x s)
 leaves-clear s t x idle = leaves-thread s t x (λ c h. no-call idle h)
 
-pub leaves-debt : (s : State) (t : ℕ) (d : Debt) → Leaves s (setThread t (withDebt d (s .threads t)) s)
+pub leaves-debt : (s : State) (t : ℕ) (d : Debt) → NobodyComes s (setThread t (withDebt d (s .threads t)) s)
 leaves-debt s t d = leaves-thread s t (withDebt d (s .threads t)) (λ c h. h)
 
 -- The entry of endpoint e becomes x.
@@ -146,7 +146,7 @@ pub leaves-endpoint :
     (s : State) (e : ℕ) (x : Endpoint) → Passes (s .threads) e (s .endpoints e .abort) (x .abort)
     → Sub (x .waiters) (s .endpoints e .waiters)
     → ((t : ℕ) → s .threads t .place ≡ sending e → x .status ≡ live → s .endpoints e .status ≡ live)
-    → Leaves s (setEndpoint e x s)
+    → NobodyComes s (setEndpoint e x s)
 leaves-endpoint s e x passes part lives =
     record {
       fewer =
@@ -168,7 +168,7 @@ leaves-endpoint s e x passes part lives =
 
 -- t leaves the queue of e, and its entry becomes one that does not wait.
 pub leaves-queue :
-    (s : State) (e t : ℕ) (x : Thread) → callOf x ≡ none → Leaves s (setThread t x (leaveEndpoint t e s))
+    (s : State) (e t : ℕ) (x : Thread) → callMade x ≡ none → NobodyComes s (setThread t x (leaveEndpoint t e s))
 unfolding leaveEndpoint
 leaves-queue s e t x idle =
     leaves-then s (setThread t x s) (setThread t x (leaveEndpoint t e s)) (leaves-clear s t x idle)
@@ -179,12 +179,12 @@ leaves-queue s e t x idle =
     gone h =
         no-call idle (sends-call x e (ap (λ (y : Thread). y .place) (sym (put-same (s .threads) t x)) ∙ h))
 
-pub leaves-wakeFrom : (s : State) (e t o b m : ℕ) → Leaves s (wakeFrom e t o b m s)
+pub leaves-wakeFrom : (s : State) (e t o b m : ℕ) → NobodyComes s (wakeFrom e t o b m s)
 unfolding wakeFrom wake enqueue leaveEndpoint
 leaves-wakeFrom s e t o b m = leaves-queue s e t (withPlace able o b m (s .threads t)) refl
 
 -- t's ownership or note goes.
-leaves-dropped : (d : Debt) (t : ℕ) (s : State) → Leaves s (dropped d t s)
+leaves-dropped : (d : Debt) (t : ℕ) (s : State) → NobodyComes s (dropped d t s)
 unfolding dropped
 leaves-dropped nothing t s = leaves-self s
 leaves-dropped (owns e) t s =
@@ -194,7 +194,7 @@ leaves-dropped (owns e) t s =
     (passes-owner _ e (s .endpoints e .abort) none) (sub-refl (s .endpoints e .waiters)) (λ u h k. k))
 leaves-dropped (noted e b) t s = leaves-debt s t nothing
 
-pub leaves-dropDebt : (t : ℕ) (s : State) → Leaves s (dropDebt t s)
+pub leaves-dropDebt : (t : ℕ) (s : State) → NobodyComes s (dropDebt t s)
 unfolding dropDebt
 leaves-dropDebt t s = leaves-dropped (s .threads t .debt) t s
 

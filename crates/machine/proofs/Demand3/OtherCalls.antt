@@ -28,13 +28,13 @@ use Rattle.machine.proofs.Calls.Answers.{no-looks}
 use Rattle.machine.proofs.Sublists.{Sub, sub-mem, sub-map, rising-sub, rising-snoc, rising-least, Apart, map-mem}
 use Rattle.machine.proofs.Sublists.{map-agree, entry-below, entry-grow}
 use Rattle.machine.proofs.Demand3.Standing.{within, grown, sends-call, Made, Core, isOld-grow, core-grow}
-use Rattle.machine.proofs.Demand3.Leaving.{Leaves, core-leaves}
+use Rattle.machine.proofs.Demand3.Leaving.{NobodyComes, core-leaves}
 use Rattle.machine.proofs.Demand3.Owing.{tied-still, tied-drop}
 use Rattle.machine.proofs.Demand3.EachLook.{queued-call}
-use Rattle.machine.proofs.Demand3.Blocking.{Joins, Blocks, core-blocks}
-use Rattle.machine.proofs.Demand3.HostCalls.{dropsIf, Sheds, keeps, sheds, Turn, idle, blocks}
+use Rattle.machine.proofs.Demand3.Blocking.{JoinsTail, CallerBlocks, core-blocks}
+use Rattle.machine.proofs.Demand3.HostCalls.{dropsIf, Sheds, keeps, sheds, Arrival, idle, blocks}
 use Rattle.machine.proofs.Demand3.Arrivals.{Simple, turn}
-use Rattle.machine.proofs.Demand3.Handing.{Takes, handed-first, takes}
+use Rattle.machine.proofs.Demand3.Handing.{TakesFirst, handed-first, takes}
 use Rattle.machine.proofs.Preserved.Steps.{step-sound}
 use Rattle.machine.proofs.Demand3.Invariant.{stageOf, Given, Inv, queued-apart}
 use Rattle.machine.proofs.Demand3.Recording.{deliveryOf, Duty8, Duty12, Goes, goes}
@@ -72,7 +72,7 @@ module _ (past : List Call) (s : State) (h : History) (I : Inv past s h) where
 
   -- Nobody comes to wait, and no abort changes: Core.
   pub idle-core :
-      (c : Call) (r : Result) → Leaves s (r .state)
+      (c : Call) (r : Result) → NobodyComes s (r .state)
       → Core (grown c (r .answer) (within (stageOf past h))) (r .state .threads) (r .state .endpoints)
       (h .aborts .standing) (h .aborts .ended)
   idle-core c r L =
@@ -87,7 +87,7 @@ module _ (past : List Call) (s : State) (h : History) (I : Inv past s h) where
 
   -- A receive that is done.
   hands :
-      (e : ℕ) (r : Result) (o : Option ℕ) → Takes s e r
+      (e : ℕ) (r : Result) (o : Option ℕ) → TakesFirst s e r
       → Given (past ++ (Receive e ∷ [])) (recorded (h .since) (drops o r h) (receives e) r h)
       (deliveryOf e r (waitingIn (h .since) (r .state)) h)
   unfolding recorded
@@ -177,7 +177,7 @@ module _ (past : List Call) (s : State) (h : History) (I : Inv past s h) where
   simple-duty12 c r since o (looks e a b) n = absurd n
 
   module _ (c : Call) (n : Simple (sortOf c)) (r : Result) (S : Sound (r .state)) (unlooked : r .looks ≡ [])
-      (T : (e : ℕ) → c ≡ Receive e → r .answer .code ≡ 0 → Takes s e r) where
+      (T : (e : ℕ) → c ≡ Receive e → r .answer .code ≡ 0 → TakesFirst s e r) where
     -- Whose debts it drops.
     abbrev who : Option ℕ
     who = dropsIf (isAccepted (r .answer)) (sortOf c) (s .runs)
@@ -205,7 +205,7 @@ module _ (past : List Call) (s : State) (h : History) (I : Inv past s h) where
     no-stray =
         ap (λ (l : List Look). map (λ (v : Look). h .since (v .waiter)) l ++ h .aborts .stray) unlooked ∙ I .stray
 
-    idle-goes : Leaves s (r .state) → Sheds s c r → Goes past s h I c r (h .since) (drops who r h)
+    idle-goes : NobodyComes s (r .state) → Sheds s c r → Goes past s h I c r (h .since) (drops who r h)
     idle-goes L D =
         record {
           sound = S;
@@ -227,7 +227,7 @@ module _ (past : List Call) (s : State) (h : History) (I : Inv past s h) where
         }
 
     -- The caller comes to wait, with a name above all others.
-    module _ (B : Blocks s c r) where
+    module _ (B : CallerBlocks s c r) where
       abbrev since′ : ℕ → ℕ
       since′ = put (h .since) (B .caller) (h .now)
 
@@ -263,7 +263,7 @@ module _ (past : List Call) (s : State) (h : History) (I : Inv past s h) where
               named-before e w
               (sub-mem (sub-map (h .since) (B .leaves .queues e)) w (rw (same-names e) at m))
 
-          go : Joins (B .caller) (B .between .endpoints e .waiters) (r .state .endpoints e .waiters)
+          go : JoinsTail (B .caller) (B .between .endpoints e .waiters) (r .state .endpoints e .waiters)
               → Rising (map since′ (r .state .endpoints e .waiters))
           go (inl p) = rw p was
           go (inr p) =
@@ -293,7 +293,7 @@ module _ (past : List Call) (s : State) (h : History) (I : Inv past s h) where
           no-zero : _≡_ {A = ℕ} 1 0 → ⊥
           no-zero q = omega arith
 
-    pub advance-simple : Turn s c r → Inv (past ++ (c ∷ [])) (r .state) (told c s r h)
+    pub advance-simple : Arrival s c r → Inv (past ++ (c ∷ [])) (r .state) (told c s r h)
     unfolding named
     advance-simple (idle L q D) =
         subst (Inv (past ++ (c ∷ [])) (r .state))
@@ -315,6 +315,6 @@ module _ (past : List Call) (s : State) (h : History) (I : Inv past s h) where
   pub advance : (c : Call) → Simple (sortOf c) → Inv (past ++ (c ∷ [])) (step s c .state) (told c s (step s c) h)
   advance c n =
       advance-simple c n (step s c) (step-sound s c (I .sound)) (no-looks s c (simple-number c n))
-      (λ e p q. subst (λ (x : Call). Takes s e (step s x)) (sym p)
+      (λ e p q. subst (λ (x : Call). TakesFirst s e (step s x)) (sym p)
       (takes s (I .sound) e (ap (λ (x : Call). step s x .answer .code) (sym p) ∙ q)))
       (turn s (I .sound) c n)

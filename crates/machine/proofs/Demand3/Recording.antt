@@ -25,7 +25,7 @@ use Rattle.machine.specs.Claim.{In}
 use Rattle.machine.specs.Tied.{Tied}
 use Rattle.machine.proofs.Sublists.{entry-below, entry-keep, entry-last, entry-cases, length-grow}
 use Rattle.machine.proofs.Demand3.Standing.{within, naming, grown, Core}
-use Rattle.machine.proofs.Demand3.Invariant.{stageOf, Given, Called, Recorded12, Recorded8, Inv, given-grow}
+use Rattle.machine.proofs.Demand3.Invariant.{stageOf, Given, CallClaims, Recorded12, Recorded8, Inv, given-grow}
 use Rattle.machine.proofs.Demand3.Invariant.{called-grow}
 
 -- The record of a call 8 answered 0, and of a call 12.
@@ -80,7 +80,7 @@ module _ (past : List Call) (s : State) (h : History) (I : Inv past s h) (c : Ca
   Duty12 (receives e) = Unit {0}
   Duty12 yields = Unit {0}
   Duty12 (removes e) = Unit {0}
-  Duty12 (looks e a b) = Called k (abortCallOf e a b r w (o .reports) h)
+  Duty12 (looks e a b) = CallClaims k (abortCallOf e a b r w (o .reports) h)
 
   pub record Goes : Type 0 where
     pub sound : Sound (r .state)
@@ -220,7 +220,7 @@ module _ (past : List Call) (s : State) (h : History) (I : Inv past s h) (c : Ca
             (λ d i. given-grow past c (r .answer) h k refl d (omega arith) earlier (I .given d i)) (sortOf c)
             (λ e p q. subst Duty8 p (G .duty8) q);
         called =
-            calls (Called k) (λ y i. called-grow past c (r .answer) h k refl y (G .kept) (I .called y i)) (sortOf c)
+            calls (CallClaims k) (λ y i. called-grow past c (r .answer) h k refl y (G .kept) (I .called y i)) (sortOf c)
             (λ e a b p. subst Duty12 p (G .duty12));
         recorded12 = has12;
         recorded8 = has8;

@@ -52,26 +52,26 @@ grown c r stage =
     }
 
 -- The call that a waiter made, by its place, badge and message.
-abbrev pub callAt : Place → ℕ → ℕ → Option Call
-callAt absent b m = none
-callAt able b m = none
-callAt (sending e) b m = some (Send e b m)
-callAt (receiving e) b m = some (Receive e)
-callAt (waiting l) b m = some (Wait l)
+abbrev pub waiterCall : Place → ℕ → ℕ → Option Call
+waiterCall absent b m = none
+waiterCall able b m = none
+waiterCall (sending e) b m = some (Send e b m)
+waiterCall (receiving e) b m = some (Receive e)
+waiterCall (waiting l) b m = some (Wait l)
 
-abbrev pub callOf : Thread → Option Call
-callOf x = callAt (x .place) (x .badge) (x .message)
+abbrev pub callMade : Thread → Option Call
+callMade x = waiterCall (x .place) (x .badge) (x .message)
 
 -- Queued to send, by place and by call.
-pub sends-call : (x : Thread) (e : ℕ) → x .place ≡ sending e → callOf x ≡ some (Send e (x .badge) (x .message))
-sends-call x e h = ap (λ (p : Place). callAt p (x .badge) (x .message)) h
+pub sends-call : (x : Thread) (e : ℕ) → x .place ≡ sending e → callMade x ≡ some (Send e (x .badge) (x .message))
+sends-call x e h = ap (λ (p : Place). waiterCall p (x .badge) (x .message)) h
 
 pub call-sends :
-    (x : Thread) (e b m : ℕ) → callOf x ≡ some (Send e b m)
+    (x : Thread) (e b m : ℕ) → callMade x ≡ some (Send e b m)
     → (x .place ≡ sending e) × (x .badge ≡ b) × (x .message ≡ m)
 call-sends x e b m h = go (x .place) refl h
   where
-    go : (p : Place) → x .place ≡ p → callAt p (x .badge) (x .message) ≡ some (Send e b m)
+    go : (p : Place) → x .place ≡ p → waiterCall p (x .badge) (x .message) ≡ some (Send e b m)
         → (x .place ≡ sending e) × (x .badge ≡ b) × (x .message ≡ m)
     go absent q k = absurd (none-some refl k)
     go able q k = absurd (none-some refl k)
@@ -85,7 +85,7 @@ pub record Made (past : List Call) (answers : List Answer) (w : ℕ) (c : Call) 
   pub answer : getElem? answers w ≡ some (plain 1)
 
 -- Of an abort, ended or not, what the claim says of its looks; it began before n.
-pub record Exact (past : List Call) (n : ℕ) (x : Aborting) : Type 0 where
+pub record LooksExact (past : List Call) (n : ℕ) (x : Aborting) : Type 0 where
   pub began : x .began < n
   pub removed : x .removed ≡ only (isOld past x) (x .looked)
   pub once : Distinct (x .looked)
@@ -114,7 +114,7 @@ Both stage threads e (some a) (some x) = Stood stage threads e a x
 
 -- An abort that has ended: nobody who is queued at a live endpoint is old for it.
 pub record Over (stage : Stage) (threads : ℕ → Thread) (endpoints : ℕ → Endpoint) (z : Ended) : Type 0 where
-  pub exact : Exact (stage .past) (stage .until) (z .abort)
+  pub exact : LooksExact (stage .past) (stage .until) (z .abort)
   pub by : z .by < stage .until
   pub clean :
       (t f : ℕ) → threads t .place ≡ sending f → endpoints f .status ≡ live
@@ -126,9 +126,9 @@ pub record Core
     (ended : List Ended) : Type 0 where
   -- A waiter's name is the place of its call, and no two have the same.
   pub made :
-      (t : ℕ) (c : Call) → callOf (threads t) ≡ some c → Made (stage .past) (stage .answers) (stage .since t) c
+      (t : ℕ) (c : Call) → callMade (threads t) ≡ some c → Made (stage .past) (stage .answers) (stage .since t) c
   pub apart :
-      (t u : ℕ) (c d : Call) → callOf (threads t) ≡ some c → callOf (threads u) ≡ some d
+      (t u : ℕ) (c d : Call) → callMade (threads t) ≡ some c → callMade (threads u) ≡ some d
       → stage .since t ≡ stage .since u → t ≡ u
   pub stands : (e : ℕ) → Both stage threads e (endpoints e .abort) (standing e)
   pub over : (z : Ended) → In z ended → Over stage threads endpoints z
@@ -136,7 +136,7 @@ pub record Core
 -- What an abort says of its looks while it stands.
 pub stood-exact :
     (stage : Stage) (threads : ℕ → Thread) (e : ℕ) (a : Abort) (x : Aborting) → Stood stage threads e a x
-    → Exact (stage .past) (stage .until) x
+    → LooksExact (stage .past) (stage .until) x
 stood-exact stage threads e a x S =
     let p = sub-trans (sub-left (x .looked) (map (stage .since) (a .pending))) (S .part) in
     record {

@@ -87,7 +87,7 @@ mid-look e w l s M p = go (s .endpoints e .abort) refl p
     go (some a) h q = look-some e w l a M h q _ (ap (underAbort (s .threads w .badge)) (sym h))
 
 -- The entries have the same status, and the same abort but for what is pending.
-pub record Alike (x y : Endpoint) : Type 0 where
+pub record SameAbort (x y : Endpoint) : Type 0 where
   pub status : x .status ≡ y .status
   pub owner : ownerOf (x .abort) ≡ ownerOf (y .abort)
   pub under : (b : ℕ) → underAbort b (x .abort) ≡ underAbort b (y .abort)
@@ -96,9 +96,9 @@ pub record Alike (x y : Endpoint) : Type 0 where
 pub record Steady (s s′ : State) : Type 0 where
   pub runs : s′ .runs ≡ s .runs
   pub debt : (t : ℕ) → s′ .threads t .debt ≡ s .threads t .debt
-  pub entry : (e : ℕ) → Alike (s′ .endpoints e) (s .endpoints e)
+  pub entry : (e : ℕ) → SameAbort (s′ .endpoints e) (s .endpoints e)
 
-alike-self : (x : Endpoint) → Alike x x
+alike-self : (x : Endpoint) → SameAbort x x
 alike-self x = record { status = refl; owner = refl; under = λ b. refl }
 
 pub steady-self : (s : State) → Steady s s
@@ -130,9 +130,9 @@ module _ (w : ℕ) where
   -- The abort at e passes w.
   alike-passing :
       (f : ℕ → Endpoint) (e : ℕ) (l : List ℕ) (k : ℕ)
-      → Alike (put f e (record { status = f e .status; waiters = l; abort = passing w (f e .abort) }) k) (f k)
+      → SameAbort (put f e (record { status = f e .status; waiters = l; abort = passing w (f e .abort) }) k) (f k)
   alike-passing f e l =
-      put-all (λ k x. Alike x (f k)) f e _
+      put-all (λ k x. SameAbort x (f k)) f e _
       (record {
         status = refl;
         owner = passing-owner (f e .abort);

@@ -98,10 +98,14 @@ returns-8 : tie.Need-returns-8
 returns-8 c = search needs
 
 returns-9 : tie.Need-returns-9
-returns-9 c = rw (c .before .before .before .c6 .given .1, ← joined3 (c .before), c .if4 .taken)
+returns-9 c =
+    let at-c6 = c .before .before .before in
+    rw (at-c6 .c6 .given .1, ← joined3 (c .before), c .if4 .taken)
 
 returns-10 : tie.Need-returns-10
-returns-10 c = rw (c .before .before .before .c6 .given .1, ← joined3 (c .before), c .if4 .left)
+returns-10 c =
+    let at-c6 = c .before .before .before in
+    rw (at-c6 .c6 .given .1, ← joined3 (c .before), c .if4 .left)
 
 returns-11 : tie.Need-returns-11
 returns-11 c = rw (c .before .c7 .given .1)
@@ -113,17 +117,23 @@ returns-13 : tie.Need-returns-13
 returns-13 c = rw (c .before .c8 .given .1)
 
 returns-14 : tie.Need-returns-14
-returns-14 c = rw (c .before .before .before .c9 .given .1, le-leb _ _ (c .before .if5 .taken))
+returns-14 c =
+    let at-c9 = c .before .before .before in
+    rw (at-c9 .c9 .given .1, le-leb _ _ (c .before .if5 .taken))
     (c .is-allowance .ensures)
 
 returns-15 : tie.Need-returns-15
 returns-15 c = rw (c .before .before .c9 .given .1, lt-leb _ _ (c .if5 .left))
 
 returns-16 : tie.Need-returns-16
-returns-16 c = rw (c .before .before .before .c10 .given .1, ← joined6 (c .before), c .if7 .taken)
+returns-16 c =
+    let at-c10 = c .before .before .before in
+    rw (at-c10 .c10 .given .1, ← joined6 (c .before), c .if7 .taken)
 
 returns-17 : tie.Need-returns-17
-returns-17 c = rw (c .before .before .before .c10 .given .1, ← joined6 (c .before), c .if7 .left)
+returns-17 c =
+    let at-c10 = c .before .before .before in
+    rw (at-c10 .c10 .given .1, ← joined6 (c .before), c .if7 .left)
 
 pub in-range-spec : {M : Type 1} → statement M
 in-range-spec =

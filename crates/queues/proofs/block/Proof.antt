@@ -9,15 +9,18 @@ set-running-requires c κs = search needs
 
 set-place-requires : tie.Need-set-place-requires
 set-place-requires c κs =
-    halted-shown (c .before .before .before .set-running .ensures)
-    (c .before .before .before .before .before .before .pre)
+    let at-set-running = c .before .before .before in
+    let at-start = c .before .before .before .before .before .before in
+    halted-shown (at-set-running .set-running .ensures)
+    (at-start .pre)
 
 same-length : tie.Need-same-length
 same-length c = search needs
 
 returns : tie.Need-returns
 returns c =
-    blocked (c .before .before .before .before .before .before .set-running .ensures) _ _ _
+    let at-set-running = c .before .before .before .before .before .before in
+    blocked (at-set-running .set-running .ensures) _ _ _
     (c .before .before .set-place .ensures)
 
 pub block-spec : {M : Type 1} → statement M

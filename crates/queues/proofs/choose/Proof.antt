@@ -15,8 +15,10 @@ same-length c = search needs
 
 returns : tie.Need-returns
 returns c =
-    chosen-idle (c .before .before .before .before .before .running .ensures)
-    (c .before .before .before .before .if1 .taken) (c .before .before .dispatch .ensures)
+    let at-if1 = c .before .before .before .before in
+    let at-running = c .before .before .before .before .before in
+    chosen-idle (at-running .running .ensures)
+    (at-if1 .if1 .taken) (c .before .before .dispatch .ensures)
 
 sub-displace : tie.Need-sub-displace
 sub-displace c = search needs
@@ -26,16 +28,19 @@ cast-displace c = search needs
 
 displace-requires : tie.Need-displace-requires
 displace-requires c κs =
+    let at-start = c .before .before .before .before .before in
     runner-shown (c .before .before .running .ensures) (c .before .if1 .left)
-    (c .before .before .before .before .before .pre)
+    (at-start .pre)
 
 same-length-2 : tie.Need-same-length-2
 same-length-2 c = search needs
 
 returns-2 : tie.Need-returns-2
 returns-2 c =
-    chosen (c .before .before .before .before .before .running .ensures)
-    (c .before .before .before .before .if1 .left) (c .before .before .displace .ensures)
+    let at-if1 = c .before .before .before .before in
+    let at-running = c .before .before .before .before .before in
+    chosen (at-running .running .ensures)
+    (at-if1 .if1 .left) (c .before .before .displace .ensures)
 
 pub choose-spec : {M : Type 1} → statement M
 choose-spec =

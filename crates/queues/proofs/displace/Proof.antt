@@ -21,26 +21,33 @@ stand-down-requires c κs = search needs
 
 dispatch-requires : tie.Need-dispatch-requires
 dispatch-requires c κs =
-    stood-shown (c .before .before .before .stand-down .ensures)
-    (c .before .before .before .before .before .before .before .before .before .before .before .pre)
+    let at-stand-down = c .before .before .before in
+    let at-start = c .before .before .before .before .before .before .before .before .before .before .before in
+    stood-shown (at-stand-down .stand-down .ensures)
+    (at-start .pre)
 
 same-length : tie.Need-same-length
 same-length c = search needs
 
 returns : tie.Need-returns
 returns c =
+    let at-stand-down = c .before .before .before .before .before .before in
+    let at-if1 = c .before .before .before .before .before .before .before .before in
+    let at-highest-level = c .before .before .before .before .before .before .before .before .before in
+    let at-thread = c .before .before .before .before .before .before .before .before .before .before .before in
     displaced
-    (c .before .before .before .before .before .before .before .before .before .before .before .thread .ensures)
-    (c .before .before .before .before .before .before .before .before .before .highest-level .ensures)
-    (c .before .before .before .before .before .before .before .before .if1 .taken)
-    (c .before .before .before .before .before .before .stand-down .ensures) (c .before .before .dispatch .ensures)
+    (at-thread .thread .ensures)
+    (at-highest-level .highest-level .ensures)
+    (at-if1 .if1 .taken)
+    (at-stand-down .stand-down .ensures) (c .before .before .dispatch .ensures)
 
 same-length-2 : tie.Need-same-length-2
 same-length-2 c = search needs
 
 returns-2 : tie.Need-returns-2
 returns-2 c =
-    not-displaced (c .before .before .before .thread .ensures) (c .before .highest-level .ensures) (c .if1 .left)
+    let at-thread = c .before .before .before in
+    not-displaced (at-thread .thread .ensures) (c .before .highest-level .ensures) (c .if1 .left)
 
 pub displace-spec : {M : Type 1} → statement M
 displace-spec =

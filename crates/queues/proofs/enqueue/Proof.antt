@@ -11,22 +11,29 @@ cast-push-tail : tie.Need-cast-push-tail
 cast-push-tail c = search needs
 
 push-tail-requires : tie.Need-push-tail-requires
-push-tail-requires c κs = joinable-level (c .before .thread .ensures) (c .before .before .before .before .pre)
+push-tail-requires c κs =
+    let at-start = c .before .before .before .before in
+    joinable-level (c .before .thread .ensures) (at-start .pre)
 
-mark-occupied-requires : tie.Need-mark-occupied-requires
-mark-occupied-requires c κs =
-    markable (c .before .before .before .before .before .thread .ensures)
-    (c .before .before .before .before .before .before .before .before .pre)
-    (c .before .before .before .push-tail .ensures)
+set-occupied-requires : tie.Need-set-occupied-requires
+set-occupied-requires c κs =
+    let at-push-tail = c .before .before .before in
+    let at-thread = c .before .before .before .before .before in
+    let at-start = c .before .before .before .before .before .before .before .before in
+    markable (at-thread .thread .ensures)
+    (at-start .pre)
+    (at-push-tail .push-tail .ensures)
 
 same-length : tie.Need-same-length
 same-length c = search needs
 
 returns : tie.Need-returns
 returns c =
-    enqueued (c .before .before .before .before .before .before .before .before .thread .ensures)
-    (c .before .before .before .before .before .before .push-tail .ensures)
-    (c .before .before .mark-occupied .ensures)
+    let at-push-tail = c .before .before .before .before .before .before in
+    let at-thread = c .before .before .before .before .before .before .before .before in
+    enqueued (at-thread .thread .ensures)
+    (at-push-tail .push-tail .ensures)
+    (c .before .before .set-occupied .ensures)
 
 pub enqueue-spec : {M : Type 1} → statement M
 enqueue-spec =
@@ -35,6 +42,6 @@ enqueue-spec =
     thread-requires
     cast-push-tail
     push-tail-requires
-    mark-occupied-requires
+    set-occupied-requires
     same-length
     returns)

@@ -19,7 +19,8 @@ enum-told c = search needs
 
 returns : tie.Need-returns
 returns c =
-    tells-nothing (c .before .before .before .load-summary .ensures) (c .before .before .highest .ensures)
+    let at-load-summary = c .before .before .before in
+    tells-nothing (at-load-summary .load-summary .ensures) (c .before .before .highest .ensures)
     (c .enum-told .given .1)
 
 add-result : tie.Need-add-result
@@ -33,8 +34,10 @@ add-result c =
 
 returns-2 : tie.Need-returns-2
 returns-2 c =
-    tells-level (c .before .before .before .before .load-summary .ensures)
-    (c .before .before .before .highest .ensures) (c .before .level .given .0 .0) (c .before .level .given .1)
+    let at-highest = c .before .before .before in
+    let at-load-summary = c .before .before .before .before in
+    tells-level (at-load-summary .load-summary .ensures)
+    (at-highest .highest .ensures) (c .before .level .given .0 .0) (c .before .level .given .1)
 
 pub highest-level-spec : {M : Type 1} → statement M
 highest-level-spec =

@@ -12,15 +12,18 @@ add-unlink c = search needs
 
 unlink-requires : tie.Need-unlink-requires
 unlink-requires c κs =
-    leavable-endpoint (c .before .before .before .pass-marks .ensures)
-    (c .before .before .before .before .before .before .pre)
+    let at-pass-marks = c .before .before .before in
+    let at-start = c .before .before .before .before .before .before in
+    leavable-endpoint (at-pass-marks .pass-marks .ensures)
+    (at-start .pre)
 
 same-length : tie.Need-same-length
 same-length c = search needs
 
 returns : tie.Need-returns
 returns c =
-    left (c .before .before .before .before .before .before .pass-marks .ensures) (c .before .before .unlink .ensures)
+    let at-pass-marks = c .before .before .before .before .before .before in
+    left (at-pass-marks .pass-marks .ensures) (c .before .before .unlink .ensures)
 
 pub leave-endpoint-spec : {M : Type 1} → statement M
 leave-endpoint-spec =

@@ -10,24 +10,28 @@ unlink-requires c κs = leavable-level (c .before .before .pre)
 first-requires : tie.Need-first-requires
 first-requires c κs = search needs
 
-mark-empty-requires : tie.Need-mark-empty-requires
-mark-empty-requires c κs = search needs
+set-empty-requires : tie.Need-set-empty-requires
+set-empty-requires c κs = search needs
 
 same-length : tie.Need-same-length
 same-length c = search needs
 
 returns : tie.Need-returns
 returns c =
-    emptied (c .before .before .before .before .before .before .before .before .before .unlink .ensures)
-    (c .before .before .before .before .before .first .ensures) (c .before .before .before .before .if1 .taken)
-    (c .before .before .mark-empty .ensures)
+    let at-if1 = c .before .before .before .before in
+    let at-first = c .before .before .before .before .before in
+    let at-unlink = c .before .before .before .before .before .before .before .before .before in
+    emptied (at-unlink .unlink .ensures)
+    (at-first .first .ensures) (at-if1 .if1 .taken)
+    (c .before .before .set-empty .ensures)
 
 same-length-2 : tie.Need-same-length-2
 same-length-2 c = search needs
 
 returns-2 : tie.Need-returns-2
 returns-2 c =
-    still-occupied (c .before .before .before .before .before .unlink .ensures) (c .before .first .ensures)
+    let at-unlink = c .before .before .before .before .before in
+    still-occupied (at-unlink .unlink .ensures) (c .before .first .ensures)
     (c .if1 .left)
 
 pub leave-level-spec : {M : Type 1} → statement M
@@ -36,7 +40,7 @@ leave-level-spec =
     (tie.spec
     unlink-requires
     first-requires
-    mark-empty-requires
+    set-empty-requires
     same-length
     returns
     same-length-2

@@ -24,9 +24,13 @@ same-length c = search needs
 
 returns : tie.Need-returns
 returns c =
-    passed-both (c .before .before .before .before .before .before .before .before .endpoint .ensures)
-    (c .before .before .before .before .before .before .endpoint2 .ensures) (c .before .before .set-marks .ensures)
-    (c .before .before .before .before .before .if1 .taken) (c .before .before .before .before .if2 .taken)
+    let at-if2 = c .before .before .before .before in
+    let at-if1 = c .before .before .before .before .before in
+    let at-endpoint2 = c .before .before .before .before .before .before in
+    let at-endpoint = c .before .before .before .before .before .before .before .before in
+    passed-both (at-endpoint .endpoint .ensures)
+    (at-endpoint2 .endpoint2 .ensures) (c .before .before .set-marks .ensures)
+    (at-if1 .if1 .taken) (at-if2 .if2 .taken)
 
 next-requires : tie.Need-next-requires
 next-requires c κs = search needs
@@ -39,11 +43,16 @@ same-length-2 c = search needs
 
 returns-2 : tie.Need-returns-2
 returns-2 c =
-    passed-cursor (c .before .before .before .before .before .before .before .before .before .before .endpoint .ensures)
-    (c .before .before .before .before .before .before .before .before .endpoint2 .ensures)
-    (c .before .before .before .before .next .ensures) (c .before .before .set-marks2 .ensures)
-    (c .before .before .before .before .before .before .before .if1 .taken)
-    (c .before .before .before .before .before .before .if2 .left)
+    let at-next = c .before .before .before .before in
+    let at-if2 = c .before .before .before .before .before .before in
+    let at-if1 = c .before .before .before .before .before .before .before in
+    let at-endpoint2 = c .before .before .before .before .before .before .before .before in
+    let at-endpoint = c .before .before .before .before .before .before .before .before .before .before in
+    passed-cursor (at-endpoint .endpoint .ensures)
+    (at-endpoint2 .endpoint2 .ensures)
+    (at-next .next .ensures) (c .before .before .set-marks2 .ensures)
+    (at-if1 .if1 .taken)
+    (at-if2 .if2 .left)
 
 prev-requires : tie.Need-prev-requires
 prev-requires c κs = search needs
@@ -56,18 +65,24 @@ same-length-3 c = search needs
 
 returns-3 : tie.Need-returns-3
 returns-3 c =
-    passed-end (c .before .before .before .before .before .before .before .before .before .before .endpoint .ensures)
-    (c .before .before .before .before .before .before .before .before .endpoint2 .ensures)
-    (c .before .before .before .before .prev .ensures) (c .before .before .set-marks3 .ensures)
-    (c .before .before .before .before .before .before .before .if1 .left)
-    (c .before .before .before .before .before .before .if3 .taken)
+    let at-prev = c .before .before .before .before in
+    let at-if3 = c .before .before .before .before .before .before in
+    let at-if1 = c .before .before .before .before .before .before .before in
+    let at-endpoint2 = c .before .before .before .before .before .before .before .before in
+    let at-endpoint = c .before .before .before .before .before .before .before .before .before .before in
+    passed-end (at-endpoint .endpoint .ensures)
+    (at-endpoint2 .endpoint2 .ensures)
+    (at-prev .prev .ensures) (c .before .before .set-marks3 .ensures)
+    (at-if1 .if1 .left)
+    (at-if3 .if3 .taken)
 
 same-length-4 : tie.Need-same-length-4
 same-length-4 c = search needs
 
 returns-4 : tie.Need-returns-4
 returns-4 c =
-    passed-neither (c .before .before .before .before .endpoint .ensures) (c .before .before .endpoint2 .ensures)
+    let at-endpoint = c .before .before .before .before in
+    passed-neither (at-endpoint .endpoint .ensures) (c .before .before .endpoint2 .ensures)
     (c .before .if1 .left) (c .if3 .left)
 
 pub pass-marks-spec : {M : Type 1} → statement M

@@ -9,15 +9,18 @@ set-running-requires c κs = search needs
 
 enqueue-requires : tie.Need-enqueue-requires
 enqueue-requires c κs =
-    stopped-shown (c .before .before .before .before .before .before .pre)
-    (c .before .before .before .set-running .ensures)
+    let at-set-running = c .before .before .before in
+    let at-start = c .before .before .before .before .before .before in
+    stopped-shown (at-start .pre)
+    (at-set-running .set-running .ensures)
 
 same-length : tie.Need-same-length
 same-length c = search needs
 
 returns : tie.Need-returns
 returns c =
-    stood-down (c .before .before .before .before .before .before .set-running .ensures)
+    let at-set-running = c .before .before .before .before .before .before in
+    stood-down (at-set-running .set-running .ensures)
     (c .before .before .enqueue .ensures)
 
 pub stand-down-spec : {M : Type 1} → statement M

@@ -8,13 +8,17 @@ thread-requires : tie.Need-thread-requires
 thread-requires c κs = search needs
 
 leave-level-requires : tie.Need-leave-level-requires
-leave-level-requires c κs = own-shown (c .before .thread .ensures) (c .before .before .before .before .pre)
+leave-level-requires c κs =
+    let at-start = c .before .before .before .before in
+    own-shown (c .before .thread .ensures) (at-start .pre)
 
 same-length : tie.Need-same-length
 same-length c = search needs
 
 returns : tie.Need-returns
-returns c = unqueued (c .before .before .before .before .thread .ensures) (c .before .before .leave-level .ensures)
+returns c =
+    let at-thread = c .before .before .before .before in
+    unqueued (at-thread .thread .ensures) (c .before .before .leave-level .ensures)
 
 pub unqueue-spec : {M : Type 1} → statement M
 unqueue-spec = tie.close (tie.spec thread-requires leave-level-requires same-length returns)

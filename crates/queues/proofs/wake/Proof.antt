@@ -9,15 +9,18 @@ set-place-requires c κs = search needs
 
 enqueue-requires : tie.Need-enqueue-requires
 enqueue-requires c κs =
-    roused-shown _ _ _ (c .before .before .before .before .before .before .pre)
-    (c .before .before .before .set-place .ensures)
+    let at-set-place = c .before .before .before in
+    let at-start = c .before .before .before .before .before .before in
+    roused-shown _ _ _ (at-start .pre)
+    (at-set-place .set-place .ensures)
 
 same-length : tie.Need-same-length
 same-length c = search needs
 
 returns : tie.Need-returns
 returns c =
-    woken _ _ _ (c .before .before .before .before .before .before .set-place .ensures)
+    let at-set-place = c .before .before .before .before .before .before in
+    woken _ _ _ (at-set-place .set-place .ensures)
     (c .before .before .enqueue .ensures)
 
 pub wake-spec : {M : Type 1} → statement M

@@ -9,15 +9,18 @@ leave-endpoint-requires c κs = search needs
 
 wake-requires : tie.Need-wake-requires
 wake-requires c κs =
-    left-shown (c .before .before .before .leave-endpoint .ensures)
-    (c .before .before .before .before .before .before .pre)
+    let at-leave-endpoint = c .before .before .before in
+    let at-start = c .before .before .before .before .before .before in
+    left-shown (at-leave-endpoint .leave-endpoint .ensures)
+    (at-start .pre)
 
 same-length : tie.Need-same-length
 same-length c = search needs
 
 returns : tie.Need-returns
 returns c =
-    woken-from (c .before .before .before .before .before .before .leave-endpoint .ensures) _ _ _
+    let at-leave-endpoint = c .before .before .before .before .before .before in
+    woken-from (at-leave-endpoint .leave-endpoint .ensures) _ _ _
     (c .before .before .wake .ensures)
 
 pub wake-from-spec : {M : Type 1} → statement M

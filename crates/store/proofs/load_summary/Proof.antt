@@ -36,7 +36,8 @@ loop-less c = omega arith
 
 loop-again : tie.Need-loop-again Inv-loop μ-loop
 loop-again c =
-    read-more _ _ _ _ _ (c .before .before .before .loop .inv) (c .before .before .loop-test .taken)
+    let at-loop = c .before .before .before in
+    read-more _ _ _ _ _ (at-loop .loop .inv) (c .before .before .loop-test .taken)
     (c .before .summary-at .ensures) (c .get .ensures)
 
 top-at-requires : tie.Need-top-at-requires Inv-loop μ-loop
@@ -47,7 +48,8 @@ get-requires-2 c κs = omega arith
 
 returns : tie.Need-returns Inv-loop μ-loop
 returns c =
-    loads _ _ _ _ _ (c .before .before .before .loop .inv) (c .before .before .loop-test .left)
+    let at-loop = c .before .before .before in
+    loads _ _ _ _ _ (at-loop .loop .inv) (c .before .before .loop-test .left)
     (c .before .top-at .ensures) (c .get2 .ensures)
 
 pub load-summary-spec : {M : Type 1} → statement M

@@ -14,7 +14,9 @@ same-length : tie.Need-same-length
 same-length c = search needs
 
 returns : tie.Need-returns
-returns c = line-does _ _ (c .before .before .before .line-at .ensures) (c .before .before .put .ensures)
+returns c =
+    let at-line-at = c .before .before .before in
+    line-does _ _ (at-line-at .line-at .ensures) (c .before .before .put .ensures)
 
 pub set-line-spec : {M : Type 1} → statement M
 set-line-spec = tie.close (tie.spec line-at-requires put-requires same-length returns)

@@ -21,9 +21,12 @@ same-length c = search needs
 
 returns : tie.Need-returns
 returns c =
-    looks _ _ _ (c .before .before .before .before .before .before .before .before .endpoint-at .ensures)
-    (c .before .before .before .before .before .before .before .put .ensures)
-    (c .before .before .before .endpoint-at2 .ensures) (c .before .before .put2 .ensures)
+    let at-endpoint-at2 = c .before .before .before in
+    let at-put = c .before .before .before .before .before .before .before in
+    let at-endpoint-at = c .before .before .before .before .before .before .before .before in
+    looks _ _ _ (at-endpoint-at .endpoint-at .ensures)
+    (at-put .put .ensures)
+    (at-endpoint-at2 .endpoint-at2 .ensures) (c .before .before .put2 .ensures)
 
 pub set-marks-spec : {M : Type 1} → statement M
 set-marks-spec =

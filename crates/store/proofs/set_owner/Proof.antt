@@ -14,7 +14,9 @@ same-length : tie.Need-same-length
 same-length c = search needs
 
 returns : tie.Need-returns
-returns c = owner-does _ _ (c .before .before .before .endpoint-at .ensures) (c .before .before .put .ensures)
+returns c =
+    let at-endpoint-at = c .before .before .before in
+    owner-does _ _ (at-endpoint-at .endpoint-at .ensures) (c .before .before .put .ensures)
 
 pub set-owner-spec : {M : Type 1} → statement M
 set-owner-spec = tie.close (tie.spec endpoint-at-requires put-requires same-length returns)

@@ -14,7 +14,9 @@ same-length : tie.Need-same-length
 same-length c = search needs
 
 returns : tie.Need-returns
-returns c = priority-does _ _ (c .before .before .before .thread-at .ensures) (c .before .before .put .ensures)
+returns c =
+    let at-thread-at = c .before .before .before in
+    priority-does _ _ (at-thread-at .thread-at .ensures) (c .before .before .put .ensures)
 
 pub set-priority-spec : {M : Type 1} → statement M
 set-priority-spec = tie.close (tie.spec thread-at-requires put-requires same-length returns)

@@ -14,7 +14,9 @@ same-length : tie.Need-same-length
 same-length c = search needs
 
 returns : tie.Need-returns
-returns c = running-does _ (c .before .before .before .running-at .ensures) (c .before .before .put .ensures)
+returns c =
+    let at-running-at = c .before .before .before in
+    running-does _ (at-running-at .running-at .ensures) (c .before .before .put .ensures)
 
 pub set-running-spec : {M : Type 1} → statement M
 set-running-spec = tie.close (tie.spec running-at-requires put-requires same-length returns)

@@ -16,9 +16,10 @@ set-priority-requires c κs = search priority-asked
 
 enqueue-requires : tie.Need-enqueue-requires
 enqueue-requires c κs =
+    let at-set-priority = c .before .before .before in
     let d = c .before .before .before .before .before .before .before in
     tail-asked _ (d .before .before .before .is-ready .ensures) (d .before .before .if1 .taken) (d .unqueue .ensures)
-    (c .before .before .before .set-priority .ensures) (d .before .before .before .before .before .before .pre)
+    (at-set-priority .set-priority .ensures) (d .before .before .before .before .before .before .pre)
 
 same-length : tie.Need-same-length
 same-length c = search needs

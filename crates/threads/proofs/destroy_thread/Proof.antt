@@ -27,9 +27,10 @@ leave-requires c κs = search leave-asked
 
 clear-thread-requires : tie.Need-clear-thread-requires
 clear-thread-requires c κs =
+    let at-leave = c .before .before .before in
     let d = c .before .before .before .before .before .before .before in
     clear-asked (d .before .before .before .thread .ensures) (d .before .before .if1 .left) (d .drop-debt .ensures)
-    (c .before .before .before .leave .ensures) (d .before .before .before .before .before .before .pre)
+    (at-leave .leave .ensures) (d .before .before .before .before .before .before .pre)
 
 done-requires : tie.Need-done-requires
 done-requires c κs = search destroy-chooses

@@ -22,7 +22,8 @@ thread-requires-2 c κs = search needs
 
 done-requires : tie.Need-done-requires
 done-requires c κs =
-    same-asked (c .before .before .before .before .before .before .before .before .pre)
+    let at-start = c .before .before .before .before .before .before .before .before in
+    same-asked (at-start .pre)
 
 same-length-2 : tie.Need-same-length-2
 same-length-2 c = search needs
@@ -44,9 +45,10 @@ change-requires c κs =
 
 done-requires-2 : tie.Need-done-requires-2
 done-requires-2 c κs =
+    let at-change = c .before .before .before in
     let d = c .before .before .before .before .before .before in
     priority-chooses _ (d .before .before .before .thread .ensures) (d .before .before .if1 .left) (d .thread2 .ensures)
-    (c .before .before .before .change .ensures) (d .before .before .before .before .before .before .pre)
+    (at-change .change .ensures) (d .before .before .before .before .before .before .pre)
 
 same-length-3 : tie.Need-same-length-3
 same-length-3 c = search needs

@@ -5,7 +5,7 @@ use mathlib.Core.Path.{_≡_, refl, ap, _∙_}
 use lib.ListN.{length-set, length, replicate, drop, set}
 use borrow.Author.Fill.{fill-none, fill-more}
 use borrow.Author.Needs.{needs}
-use Rattle.words.proofs.Clearing.{filled}
+use Rattle.words.proofs.Clearing.{fill-whole}
 use Rattle.words.proofs.clear.Statement.{statement}
 use Rattle.words.proofs.clear.Tie as tie
 
@@ -45,7 +45,7 @@ same-length c = search needs
 returns : tie.Need-returns Inv-loop μ-loop
 returns c =
     let at-args = c .before .before in
-    c .before .loop .inv .1 ∙ filled (at-args .args .words .now) (c .before .loop .i) 0 (search needs)
+    c .before .loop .inv .1 ∙ fill-whole (at-args .args .words .now) (c .before .loop .i) 0 (search needs)
     (search needs)
 
 pub clear-spec : {M : Type 1} → statement M

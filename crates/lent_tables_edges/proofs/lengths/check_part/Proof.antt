@@ -6,13 +6,17 @@ use Rattle.lent_tables_edges.proofs.lengths.check_part.Statement.{state
 use Rattle.lent_tables_edges.proofs.lengths.check_part.Tie as tie
 
 slice-aggregate-check : tie.Need-slice-aggregate-check
-slice-aggregate-check c = sym (length-take-le _ _ (c .before .before .before .pre .0))
+slice-aggregate-check c =
+    let at-start = c .before .before .before in
+    sym (length-take-le _ _ (at-start .pre .0))
 
 slice-relend-prefix-check : tie.Need-slice-relend-prefix-check
 slice-relend-prefix-check c = search needs
 
 slice-aggregate-check-2 : tie.Need-slice-aggregate-check-2
-slice-aggregate-check-2 c = sym (length-take-le _ _ (c .before .before .before .before .pre .1))
+slice-aggregate-check-2 c =
+    let at-start = c .before .before .before .before in
+    sym (length-take-le _ _ (at-start .pre .1))
 
 check-requires : tie.Need-check-requires
 check-requires c κs = search needs

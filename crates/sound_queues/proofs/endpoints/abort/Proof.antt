@@ -21,23 +21,31 @@ endpoint-requires-5 c κs = search needs
 
 returns : tie.Need-returns
 returns c =
-    rw (← c .before .before .before .before .before .endpoint .ensures)
-    (abort-none _ _ (c .before .before .before .before .endpoint2 .ensures)
-    (c .before .before .before .endpoint3 .ensures)
+    let at-endpoint3 = c .before .before .before in
+    let at-endpoint2 = c .before .before .before .before in
+    let at-endpoint = c .before .before .before .before .before in
+    rw (← at-endpoint .endpoint .ensures)
+    (abort-none _ _ (at-endpoint2 .endpoint2 .ensures)
+    (at-endpoint3 .endpoint3 .ensures)
     (c .before .before .endpoint4 .ensures) _ (c .before .if1 .taken) (c .endpoint5 .ensures))
 
 returns-2 : tie.Need-returns-2
 returns-2 c =
-    rw (← c .before .before .before .before .before .endpoint .ensures) (abort-odd _ _ _ (c .if2 .taken))
+    let at-endpoint = c .before .before .before .before .before in
+    rw (← at-endpoint .endpoint .ensures) (abort-odd _ _ _ (c .if2 .taken))
 
 owner-requires : tie.Need-owner-requires
 owner-requires c κs = search needs
 
 returns-3 : tie.Need-returns-3
 returns-3 c =
-    rw (← c .before .before .before .before .before .before .endpoint .ensures)
-    (abort-stands _ _ (c .before .before .before .before .before .endpoint2 .ensures)
-    (c .before .before .before .before .endpoint3 .ensures) (c .before .before .before .endpoint4 .ensures) _
+    let at-endpoint4 = c .before .before .before in
+    let at-endpoint3 = c .before .before .before .before in
+    let at-endpoint2 = c .before .before .before .before .before in
+    let at-endpoint = c .before .before .before .before .before .before in
+    rw (← at-endpoint .endpoint .ensures)
+    (abort-stands _ _ (at-endpoint2 .endpoint2 .ensures)
+    (at-endpoint3 .endpoint3 .ensures) (at-endpoint4 .endpoint4 .ensures) _
     (c .before .before .if1 .left) (c .before .if2 .left) (c .owner .ensures))
 
 pub abort-spec : {M : Type 1} → statement M

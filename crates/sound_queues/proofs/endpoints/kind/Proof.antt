@@ -27,7 +27,8 @@ thread-requires c κs = search needs
 
 returns-3 : tie.Need-returns-3
 returns-3 c =
-    rw (← c .before .before .before .head .ensures)
+    let at-head = c .before .before .before in
+    rw (← at-head .head .ensures)
     (kind-first _ _ _ (c .before .before .if1 .left) (c .before .if2 .left) (c .thread .ensures))
 
 pub kind-spec : {M : Type 1} → statement M

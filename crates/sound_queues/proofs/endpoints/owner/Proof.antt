@@ -24,7 +24,8 @@ add-result c = search needs
 
 returns-3 : tie.Need-returns-3
 returns-3 c =
-    rw (← c .before .before .before .endpoint .ensures)
+    let at-endpoint = c .before .before .before in
+    rw (← at-endpoint .endpoint .ensures)
     (owner-owes _ _ _ (c .before .before .if1 .left) (c .before .if2 .left) (c .thread .ensures))
 
 pub owner-spec : {M : Type 1} → statement M

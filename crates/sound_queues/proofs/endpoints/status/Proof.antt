@@ -18,17 +18,20 @@ head-requires c κs = search needs
 
 returns : tie.Need-returns
 returns c =
-    rw (← c .before .before .before .endpoint .ensures)
+    let at-endpoint = c .before .before .before in
+    rw (← at-endpoint .endpoint .ensures)
     (status-absent _ _ _ (c .before .before .endpoint2 .ensures) (c .before .if1 .taken) (c .head .ensures))
 
 returns-2 : tie.Need-returns-2
 returns-2 c =
-    rw (← c .before .before .before .endpoint .ensures)
+    let at-endpoint = c .before .before .before in
+    rw (← at-endpoint .endpoint .ensures)
     (status-live _ _ _ (c .before .before .endpoint2 .ensures) (c .if2 .taken))
 
 returns-3 : tie.Need-returns-3
 returns-3 c =
-    rw (← c .before .before .before .endpoint .ensures)
+    let at-endpoint = c .before .before .before in
+    rw (← at-endpoint .endpoint .ensures)
     (status-closing _ _ _ (c .before .before .endpoint2 .ensures) (c .before .if1 .left) (c .if2 .left))
 
 pub status-spec : {M : Type 1} → statement M

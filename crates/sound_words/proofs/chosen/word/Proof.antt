@@ -34,9 +34,10 @@ share-requires c κs = search needs
 
 add-sum : tie.Need-add-sum Inv-loop μ-loop
 add-sum c =
+    let at-loop = c .before .before .before in
     record {
-      fits = sum-fits _ _ (not (eqb (c .before .head .result) 0)) (c .before .before .before .loop .inv .0)
-          (c .before .before .before .loop .inv .1)
+      fits = sum-fits _ _ (not (eqb (c .before .head .result) 0)) (at-loop .loop .inv .0)
+          (at-loop .loop .inv .1)
           (c .share .ensures);
     }
 

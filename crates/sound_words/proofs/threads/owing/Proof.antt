@@ -25,12 +25,15 @@ add-result c = search needs
 
 returns-2 : tie.Need-returns-2
 returns-2 c =
-    owing-abort _ _ (c .before .before .before .thread2 .ensures) (c .before .before .before .before .thread .ensures)
+    let at-thread2 = c .before .before .before in
+    let at-thread = c .before .before .before .before in
+    owing-abort _ _ (at-thread2 .thread2 .ensures) (at-thread .thread .ensures)
     (c .before .before .if1 .left) (c .before .if2 .taken) (c .endpoint .ensures)
 
 returns-3 : tie.Need-returns-3
 returns-3 c =
-    owing-note _ _ (c .before .before .thread2 .ensures) (c .before .before .before .thread .ensures)
+    let at-thread = c .before .before .before in
+    owing-note _ _ (c .before .before .thread2 .ensures) (at-thread .thread .ensures)
     (c .before .if1 .left) (c .if2 .left)
 
 pub owing-spec : {M : Type 1} → statement M

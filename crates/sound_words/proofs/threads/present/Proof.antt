@@ -23,8 +23,10 @@ owing-requires c κs = search needs
 
 returns-2 : tie.Need-returns-2
 returns-2 c =
-    present-all _ _ (c .before .before .before .before .numbers .ensures)
-    (not-false _ (c .before .before .before .if1 .left))
+    let at-if1 = c .before .before .before in
+    let at-numbers = c .before .before .before .before in
+    present-all _ _ (at-numbers .numbers .ensures)
+    (not-false _ (at-if1 .if1 .left))
     (c .before .before .stored .ensures) (c .before .waits .ensures) (c .owing .ensures)
 
 pub present-spec : {M : Type 1} → statement M

@@ -34,11 +34,12 @@ loop-less : tie.Need-loop-less Inv-loop μ-loop
 loop-less c = search needs
 
 loop-again : tie.Need-loop-again Inv-loop μ-loop
-loop-again c = (
-  search needs,
-  below-more _ _ (c .before .before .before .loop .inv .1)
-      (sym (c .before .block .ensures) ∙ not-false _ (c .if1 .left)),
-)
+loop-again c =
+    let at-loop = c .before .before .before in (
+      search needs,
+      below-more _ _ (at-loop .loop .inv .1)
+          (sym (c .before .block .ensures) ∙ not-false _ (c .if1 .left)),
+    )
 
 returns-2 : tie.Need-returns-2 Inv-loop μ-loop
 returns-2 c = all-hold (blockTest _) 256 (λ k l. c .before .loop .inv .1 k (omega arith))

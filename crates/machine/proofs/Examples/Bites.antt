@@ -24,9 +24,9 @@ use Rattle.machine.specs.Tied.{NotesFirst}
 use Rattle.machine.proofs.Calls.Ticks.{ticks-kept}
 use Rattle.machine.proofs.Lists.{clash}
 use Rattle.machine.proofs.Preserved.Aborts.{both-true}
-use Rattle.machine.proofs.Runs.Computed.{computed}
-use Rattle.machine.proofs.Runs.Wrong.{idler, remover, copier, boaster, taker, marker, repeater, thief, noter}
-use Rattle.machine.proofs.Runs.Wrong.{lifo, hider, ghost, latecomer, refiller}
+use Rattle.machine.proofs.Examples.Computed.{computed}
+use Rattle.machine.proofs.Examples.Wrong.{idler, remover, copier, boaster, taker, marker, repeater, thief, noter}
+use Rattle.machine.proofs.Examples.Wrong.{lifo, hider, ghost, latecomer, refiller}
 
 -- The call that the reported abort began in.
 beganOf : Option Reported → ℕ

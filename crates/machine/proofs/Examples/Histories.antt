@@ -10,7 +10,7 @@ use Rattle.machine.specs.declared.Call.the-variants.{CreateThread, Destr
 use Rattle.machine.specs.declared.Call.the-variants.{Receive, Wait, Delete, Abort}
 use Rattle.machine.specs.History.{Aborting, Ended, Delivery, AbortCall, Reported}
 use Rattle.machine.specs.Recorded.{historyOf}
-use Rattle.machine.proofs.Runs.Computed.{computed}
+use Rattle.machine.proofs.Examples.Computed.{computed}
 
 -- What a history is compared by.
 pub record Table : Type 0 where

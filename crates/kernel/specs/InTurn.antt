@@ -23,7 +23,7 @@ pub record Attempt : Type 0 where
   pub scratch : List ℕ
 
 -- The answers in order, and the tables that the last call left.
-pub record Turns : Type 0 where
+pub record CalledAll : Type 0 where
   pub answers : List Answer
   pub tables : List ℕ
 
@@ -31,12 +31,12 @@ pub record Turns : Type 0 where
 abbrev pub tried : List ℕ → Attempt → Called
 tried m x = called (lent m (x .scratch)) (x .call)
 
-unfoldable pub turns : List Attempt → List ℕ → Turns
-turns [] m = record { answers = []; tables = m }
-turns (x ∷ l) m =
+unfoldable pub calledAll : List Attempt → List ℕ → CalledAll
+calledAll [] m = record { answers = []; tables = m }
+calledAll (x ∷ l) m =
     record {
-      answers = tried m x .answer ∷ turns l (tried m x .left .tables) .answers;
-      tables = turns l (tried m x .left .tables) .tables;
+      answers = tried m x .answer ∷ calledAll l (tried m x .left .tables) .answers;
+      tables = calledAll l (tried m x .left .tables) .tables;
     }
 
 -- The calls that had a scratch of 256 words.
@@ -59,6 +59,6 @@ filled (x ∷ k) l = fill (eqb (length (x .scratch)) scratchWords) l (λ r. fill
 -- the entry gives are those of the history of the calls made, and 16 to the others, which change nothing; the tables
 -- are the memory of the machine's state; and of that history demand 3 holds.
 pub record Demanded (m : List ℕ) (l : List Attempt) : Type 0 where
-  pub answers : turns l (freshened m .tables) .answers ≡ filled l (historyOf (made l) .answers)
-  pub tables : turns l (freshened m .tables) .tables ≡ image (runFrom step (made l) freshRun .state)
+  pub answers : calledAll l (freshened m .tables) .answers ≡ filled l (historyOf (made l) .answers)
+  pub tables : calledAll l (freshened m .tables) .tables ≡ image (runFrom step (made l) freshRun .state)
   pub claim : Claim (made l) (historyOf (made l))

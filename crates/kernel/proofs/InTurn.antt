@@ -23,7 +23,7 @@ use Rattle.layout.proofs.Image.{length-image}
 use Rattle.soundness.proofs.Tables.{state-image}
 use Rattle.lent_tables.specs.Entries.{lent, zeros, Called, called}
 use Rattle.lent_tables.proofs.Verdict.{fresh-tables}
-use Rattle.kernel.specs.Turns.{Attempt, turns, made, filled, Demanded}
+use Rattle.kernel.specs.InTurn.{Attempt, calledAll, made, filled, Demanded}
 
 -- On the memory of a sound state a call does what the machine does.
 pub called-image :
@@ -50,8 +50,8 @@ called-short s scratch c n = rw (eq-eqb (length (image s)) tableWords (length-im
 record Same (l : List Attempt) (x : Run) : Type 0 where
   rest : List Answer
   more : x .history .answers ++ rest ≡ runFrom step (made l) x .history .answers
-  answers : turns l (image (x .state)) .answers ≡ filled l rest
-  tables : turns l (image (x .state)) .tables ≡ image (runFrom step (made l) x .state)
+  answers : calledAll l (image (x .state)) .answers ≡ filled l rest
+  tables : calledAll l (image (x .state)) .tables ≡ image (runFrom step (made l) x .state)
 
 next : Run → Call → Run
 next x c = record { state = step (x .state) c .state; history = told c (x .state) (step (x .state) c) (x .history) }
@@ -67,7 +67,7 @@ module _ (a : Attempt) (l : List Attempt) (n : eqb (length (a .scratch)) scratch
   filled-one r k = rw n
 
   one-more : (x : Run) → Sound (x .state) → Same l (next x (a .call)) → Same (a ∷ l) x
-  unfolding turns runFrom next told recorded
+  unfolding calledAll runFrom next told recorded
   one-more x S ih =
       let e = called-image (x .state) (a .scratch) (a .call) S (eqb-true (length (a .scratch)) scratchWords n) in
       let r = step (x .state) (a .call) .answer in
@@ -77,10 +77,10 @@ module _ (a : Attempt) (l : List Attempt) (n : eqb (length (a .scratch)) scratch
             sym (append-snoc (x .history .answers) _ _) ∙ ih .more
             ∙ ap (λ (k : List Call). runFrom step k x .history .answers) (sym made-one);
         answers =
-            ap (λ (k : Called). k .answer ∷ turns l (k .left .tables) .answers) e
+            ap (λ (k : Called). k .answer ∷ calledAll l (k .left .tables) .answers) e
             ∙ ap (λ (k : List Answer). r ∷ k) (ih .answers) ∙ sym (filled-one r (ih .rest));
         tables =
-            ap (λ (k : Called). turns l (k .left .tables) .tables) e ∙ ih .tables
+            ap (λ (k : Called). calledAll l (k .left .tables) .tables) e ∙ ih .tables
             ∙ ap (λ (k : List Call). image (runFrom step k x .state)) (sym made-one);
       }
 
@@ -95,22 +95,22 @@ module _ (a : Attempt) (l : List Attempt) (n : eqb (length (a .scratch)) scratch
   filled-none k = rw n
 
   none-more : (x : Run) → Same l x → Same (a ∷ l) x
-  unfolding turns
+  unfolding calledAll
   none-more x ih =
       let e = called-short (x .state) (a .scratch) (a .call) n in
       record {
         rest = ih .rest;
         more = ih .more ∙ ap (λ (k : List Call). runFrom step k x .history .answers) (sym made-none);
         answers =
-            ap (λ (k : Called). k .answer ∷ turns l (k .left .tables) .answers) e
+            ap (λ (k : Called). k .answer ∷ calledAll l (k .left .tables) .answers) e
             ∙ ap (λ (k : List Answer). plain 16 ∷ k) (ih .answers) ∙ sym (filled-none (ih .rest));
         tables =
-            ap (λ (k : Called). turns l (k .left .tables) .tables) e ∙ ih .tables
+            ap (λ (k : Called). calledAll l (k .left .tables) .tables) e ∙ ih .tables
             ∙ ap (λ (k : List Call). image (runFrom step k x .state)) (sym made-none);
       }
 
 same-turns : (l : List Attempt) (x : Run) → Sound (x .state) → Same l x
-unfolding turns made filled runFrom next
+unfolding calledAll made filled runFrom next
 same-turns [] x S = record { rest = []; more = append-nil (x .history .answers); answers = refl; tables = refl }
 same-turns (a ∷ l) x S = go (eqb (length (a .scratch)) scratchWords) refl (λ y Y. same-turns l y Y)
   where
@@ -125,8 +125,8 @@ demand-kept m l n =
     let e = same-turns l freshRun fresh-sound in
     record {
       answers =
-          ap (λ (k : List ℕ). turns l k .answers) (fresh-tables m n) ∙ e .answers
+          ap (λ (k : List ℕ). calledAll l k .answers) (fresh-tables m n) ∙ e .answers
           ∙ ap (λ (k : List Answer). filled l k) (e .more);
-      tables = ap (λ (k : List ℕ). turns l k .tables) (fresh-tables m n) ∙ e .tables;
+      tables = ap (λ (k : List ℕ). calledAll l k .tables) (fresh-tables m n) ∙ e .tables;
       claim = demand (made l);
     }

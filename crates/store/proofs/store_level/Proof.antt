@@ -1,8 +1,8 @@
 -- The two stores set the word of the level and the top word.
 use borrow.Author.Needs.{needs}
 use Rattle.store.proofs.Levels.{writes}
-use Rattle.store.proofs.store_mark.Statement.{statement}
-use Rattle.store.proofs.store_mark.Tie as tie
+use Rattle.store.proofs.store_level.Statement.{statement}
+use Rattle.store.proofs.store_level.Tie as tie
 
 cast-w : tie.Need-cast-w
 cast-w c = search needs
@@ -38,8 +38,8 @@ returns c =
     writes _ _ _ _ _ _ _ (at-start .pre .0) (at-start .pre .1) (at-summary-at .summary-at .ensures)
     (at-put .put .ensures) (at-top-at .top-at .ensures) (at-put2 .put2 .ensures)
 
-pub store-mark-spec : {M : Type 1} → statement M
-store-mark-spec =
+pub store-level-spec : {M : Type 1} → statement M
+store-level-spec =
     tie.close
     (tie.spec
     cast-w
