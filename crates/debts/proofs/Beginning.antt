@@ -63,7 +63,8 @@ module _ {m n : List ℕ} {t e b c d : ℕ} (C : FirstAt m e (2 + e) c)
     (D : Tells m (Alike e) d (lastSender e)) (A : SetsAbort m e 1 b (t + 1) c d n) where
   stands : (s : State) → Shows m s → BeginsAbort t e s → Shows n (setAbort e (some (begun t e b s)) s)
   stands s M B =
-      A .some (begun t e b s) refl refl (add-one t) (C .sends refl .tells s M (B .waiters)) (D .tells s M (B .waiters)) .shows s M
+      A .some (begun t e b s) refl refl (add-one t) (C .sends refl .tells s M (B .waiters))
+      (D .tells s M (B .waiters)) .shows s M
       (B .waiters .endpoint)
 
   pub beginner-asked : Shown m (BeginsAbort t e) → Shown n (IsThread t)

@@ -39,7 +39,8 @@ module _ {m : List ℕ} {e r : ℕ} (t : ℕ) (T : Tells m (IsEndpoint e) r (end
       go s M (some u) k = M
 
   pub join-free :
-      {n n′ : List ℕ} → r ≡ 0 → SetsOwner m e (t + 1) n → SetsDebt n t (1 + e) 0 n′ → Does m n′ (JoinsAbort t e) (join t e)
+      {n n′ : List ℕ} → r ≡ 0 → SetsOwner m e (t + 1) n → SetsDebt n t (1 + e) 0 n′
+      → Does m n′ (JoinsAbort t e) (join t e)
   unfolding join joinAs
   join-free {n} {n′} z O W =
       record { shows = λ s M J. go s M J (ownerOf (s .endpoints e .abort)) (T .tells s M (J .stands .0)) }

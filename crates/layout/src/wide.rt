@@ -1,5 +1,5 @@
-// The codes, and the machine's numbers, at the width at which the check reads words: a cast where one is used would be a
-// proof there. LAST is the end of a range.
+// The codes, and the machine's numbers, at the width at which the check reads words: a cast where one is used would be
+// a proof there. LAST is the end of a range.
 use crate::codes;
 
 pub const ABSENT: usize = codes::ABSENT as usize;

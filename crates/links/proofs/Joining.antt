@@ -22,7 +22,8 @@ tail-small {m} {q} {t} {i} {p} J e f =
     rw (f ∙ ap (word m) e) g
 
 module _ {m n₁ n₂ n : List ℕ} {q t p : ℕ} (J : Joinable m q t) (small : p ≤ 256) (last : word m (linkAt (tail q)) ≡ p)
-    (W₁ : WroteLink m n₁ (afterLink q p) (suc t)) (W₂ : WroteLink n₁ n₂ (prev t) p) (W₃ : WroteLink n₂ n (tail q) (suc t)) where
+    (W₁ : WroteLink m n₁ (afterLink q p) (suc t)) (W₂ : WroteLink n₁ n₂ (prev t) p)
+    (W₃ : WroteLink n₂ n (tail q) (suc t)) where
   around : Around m n q p 0 t
   around = record { others = λ k h a b c d. W₃ .others k h b ∙ W₂ .others k h d ∙ W₁ .others k h a }
 

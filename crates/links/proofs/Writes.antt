@@ -15,7 +15,8 @@ pub record WroteLink (m n : List ℕ) (k : Link) (v : ℕ) : Type 0 where
   pub slots : (a : Slot) → ValidSlot a → word n (at a) ≡ word m (at a)
 
 pub wrote :
-    {m n : List ℕ} {i v : ℕ} (k : Link) → length m ≡ 4096 → ValidLink k → i ≡ linkAt k → n ≡ set m i v → WroteLink m n k v
+    {m n : List ℕ} {i v : ℕ} (k : Link) → length m ≡ 4096 → ValidLink k → i ≡ linkAt k → n ≡ set m i v
+    → WroteLink m n k v
 wrote {m} {n} {i} {v} k size h e f =
     subst (λ (r : List ℕ). WroteLink m r k v) (sym (f ∙ ap (λ (j : ℕ). set m j v) e))
     (record {
@@ -28,6 +29,7 @@ wrote {m} {n} {i} {v} k size h e f =
 pub kept-one : {m n : List ℕ} {k : Link} {v : ℕ} → length m ≡ 4096 → WroteLink m n k v → OnlyLinks m n
 kept-one size W = record { size = W .size ∙ sym size; slots = W .slots }
 
-pub kept-more : {m n r : List ℕ} {k : Link} {v : ℕ} → OnlyLinks m n → WroteLink n r k v → length n ≡ 4096 → OnlyLinks m r
+pub kept-more :
+    {m n r : List ℕ} {k : Link} {v : ℕ} → OnlyLinks m n → WroteLink n r k v → length n ≡ 4096 → OnlyLinks m r
 kept-more K W size =
     record { size = W .size ∙ sym size ∙ K .size; slots = λ a h. W .slots a h ∙ K .slots a h }

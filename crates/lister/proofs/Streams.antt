@@ -113,7 +113,8 @@ module _ (b : ℕ) (bytes held : List ℕ) (n i : ℕ) (s : State) (x : List ℕ
         (oddOn (suc n) i (longer ++ bytes) s)
         → Goal
     still-held e v =
-        alike (fed-first b bytes (on held i s x) (holding longer (on held i s x)) (byte-held b held i s x e)) refl refl v
+        alike (fed-first b bytes (on held i s x) (holding longer (on held i s x)) (byte-held b held i s x e)) refl refl
+        v
 
     call-read :
         ready longer ≡ true → Whole longer → i + 1 < 2 ^ 64 → (c : Call) (next : ℕ)

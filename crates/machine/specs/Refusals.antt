@@ -127,7 +127,8 @@ row23 c s =
 
 -- "4: endpoint present, closing included | 24"
 abbrev pub row24 : Call → State → Refusal
-row24 c s = record { cause = oneOf (4 ∷ []) (numberOf c) && not (isMissing (endpointNamed c s .status)); number = some 24 }
+row24 c s =
+    record { cause = oneOf (4 ∷ []) (numberOf c) && not (isMissing (endpointNamed c s .status)); number = some 24 }
 
 -- "7, 8, 12: endpoint closing | 25"
 abbrev pub row25 : Call → State → Refusal
@@ -137,7 +138,10 @@ row25 c s =
 -- "7: that badge is under abort there | 26"
 abbrev pub row26 : Call → State → Refusal
 row26 c s =
-    record { cause = oneOf (7 ∷ []) (numberOf c) && underAbort (badgeOf c) (endpointNamed c s .abort); number = some 26 }
+    record {
+      cause = oneOf (7 ∷ []) (numberOf c) && underAbort (badgeOf c) (endpointNamed c s .abort);
+      number = some 26;
+    }
 
 -- "10: the line has a waiter | 27"
 abbrev pub row27 : Call → State → Refusal

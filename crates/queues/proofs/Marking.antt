@@ -101,7 +101,8 @@ module _ {m : List ℕ} {t e c d : ℕ} (C : Tells m (IsEndpoint e) c (endpointI
       end-some : (a : Abort) → s .endpoints e .abort ≡ some a → d ≡ lastOf 0 (a .pending)
       end-some a z = rw z at (E .tells s M (h .endpoint))
 
-    pub passed-both : {n : List ℕ} → SetsPending m e 0 0 n → c ≡ t + 1 → d ≡ t + 1 → Does m n (InEndpoint t e) (passingAt t e)
+    pub passed-both :
+        {n : List ℕ} → SetsPending m e 0 0 n → c ≡ t + 1 → d ≡ t + 1 → Does m n (InEndpoint t e) (passingAt t e)
     passed-both S f g =
         stored 0 0 S (λ s M h z. omega (arith, cursor-none s M h z))
         (λ s M h a z.

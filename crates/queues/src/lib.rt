@@ -169,7 +169,8 @@ pub fn leave_endpoint(tables: &mut [u32], t: usize, e: usize)
 // Thread t leaves the queue of endpoint e and is woken with an outcome.
 pub fn wake_from(tables: &mut [u32], e: usize, t: usize, outcome: u32, badge: u32, message: u32)
     requires { ⌜ Shown (now tables) (InEndpoint t e) ⌝ }
-    ensures { λ _. ⌜ Does (now (tables .entry)) (now (tables .exit)) (InEndpoint t e) (rousing e t outcome badge message) ⌝ }
+    ensures { λ _. ⌜ Does (now (tables .entry)) (now (tables .exit)) (InEndpoint t e)
+        (rousing e t outcome badge message) ⌝ }
 {
     leave_endpoint(tables, t, e);
     wake(tables, t, outcome, badge, message);

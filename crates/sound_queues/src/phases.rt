@@ -1,4 +1,5 @@
-// The phases of a walk through an abort's queue, by its marks. No sender under the aborted badge may stand outside them.
+// The phases of a walk through an abort's queue, by its marks. No sender under the aborted badge may stand outside
+// them.
 ghost use mathlib.Core.Path.{_≡_};
 ghost use Rattle.soundness.specs.Checks.{phaseAt, phaseBehind, allowed, complete};
 use layout::wide;

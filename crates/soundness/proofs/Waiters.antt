@@ -40,7 +40,8 @@ bannedIn m e = bannedOf m e (kindIn m e)
 abbrev threadsTest : List ℕ → ℕ → List ℕ → Bool
 threadsTest m e l =
     every (λ t. eqb (threadAt m Field.Place t) (kindIn m e)) l
-    && phased Phase.Ahead (endpointAt m Part.Cursor e) (endpointAt m Part.End e) (bannedIn m e) (threadAt m Field.Badge) l
+    && phased Phase.Ahead (endpointAt m Part.Cursor e) (endpointAt m Part.End e) (bannedIn m e)
+    (threadAt m Field.Badge) l
 
 -- The kind, the threads that are all of it, and the marks.
 abbrev Kind : List ℕ → ℕ → Type 0
@@ -64,7 +65,8 @@ module _ (m : List ℕ) (e : ℕ) where
       Decides
       (waitersTest m e)
       (Kind m e
-      × (waitersFrom 257 (word m (afterAt (256 + e) 0)) Phase.Ahead m (256 + e) (kindIn m e) (endpointAt m Part.Cursor e)
+      × (waitersFrom 257 (word m (afterAt (256 + e) 0)) Phase.Ahead m (256 + e) (kindIn m e)
+      (endpointAt m Part.Cursor e)
       (endpointAt m Part.End e) (bannedIn m e) 0 ≡ true))
   unfolding waitersTest
   tells-kind =

@@ -107,7 +107,8 @@ module _ (e : ℕ) (small : e ≤ 63) where
 -- The steps on an endpoint, from the stores that they are.
 
 module _ (e : ℕ) {m n₁ : List ℕ} {i₁ : ℕ} where
-  pub status-does : (code : ℕ) → Address i₁ (at (ofEndpoint Part.Status e)) → n₁ ≡ set m i₁ code → SetsStatus m e code n₁
+  pub status-does :
+      (code : ℕ) → Address i₁ (at (ofEndpoint Part.Status e)) → n₁ ≡ set m i₁ code → SetsStatus m e code n₁
   status-does code a₁ e₁ =
       record {
         does = λ x k.

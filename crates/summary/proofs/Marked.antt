@@ -53,7 +53,8 @@ module _ (f : ℕ → Bool) (p : ℕ) where
 
   -- The list of the words changes at word p div 32 alone.
   pub words-put :
-      (x : Bool) (v : ℕ) → p < 256 → v ≡ wordOf (put f p x) (p / 32) → set (levelWords f) (p / 32) v ≡ levelWords (put f p x)
+      (x : Bool) (v : ℕ) → p < 256 → v ≡ wordOf (put f p x) (p / 32)
+      → set (levelWords f) (p / 32) v ≡ levelWords (put f p x)
   words-put x v h e =
       words-are (put f p x) (set (levelWords f) (p / 32) v)
       (length-set (levelWords f) (p / 32) v ∙ words-length f)

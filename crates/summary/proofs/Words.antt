@@ -71,7 +71,8 @@ words-at f (suc (suc (suc (suc (suc (suc (suc zero))))))) h = refl
 words-at f (suc (suc (suc (suc (suc (suc (suc (suc w)))))))) h = absurd (omega arith)
 
 -- A list of eight that has the set's words at each place is the list of the set's words.
-pub words-are : (f : ℕ → Bool) (l : List ℕ) → length l ≡ 8 → ((w : ℕ) → w < 8 → getD l w 0 ≡ wordOf f w) → l ≡ levelWords f
+pub words-are :
+    (f : ℕ → Bool) (l : List ℕ) → length l ≡ 8 → ((w : ℕ) → w < 8 → getD l w 0 ≡ wordOf f w) → l ≡ levelWords f
 words-are f l e h =
     ext-getD 0 l (levelWords f) (e ∙ sym (words-length f)) (λ w b. h w (rw e at b) ∙ sym (words-at f w (rw e at b)))
 

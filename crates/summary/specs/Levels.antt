@@ -26,7 +26,8 @@ topOf occupied = bits 8 (λ w. not (eqb (wordOf occupied w) 0))
 
 -- The words 0 to 7 of the set.
 unfoldable pub levelWords : (ℕ → Bool) → List ℕ
-levelWords f = wordOf f 0 ∷ wordOf f 1 ∷ wordOf f 2 ∷ wordOf f 3 ∷ wordOf f 4 ∷ wordOf f 5 ∷ wordOf f 6 ∷ wordOf f 7 ∷ []
+levelWords f =
+    wordOf f 0 ∷ wordOf f 1 ∷ wordOf f 2 ∷ wordOf f 3 ∷ wordOf f 4 ∷ wordOf f 5 ∷ wordOf f 6 ∷ wordOf f 7 ∷ []
 
 -- The summary of the set.
 unfoldable pub summaryOf : (ℕ → Bool) → Summary

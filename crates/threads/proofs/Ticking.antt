@@ -136,7 +136,8 @@ module _ {m : List ℕ} {link : ℕ} (L : Tells m Any link runningIn) where
 
 -- Whoever runs is in no queue after a tick.
 
-apart-ticks : {t : ℕ} (s : State) → s .threads t .priority ≤ 255 → (n : ℕ) → RunnerApart s → RunnerApart (leaveTicks n t s)
+apart-ticks :
+    {t : ℕ} (s : State) → s .threads t .priority ≤ 255 → (n : ℕ) → RunnerApart s → RunnerApart (leaveTicks n t s)
 unfolding leaveTicks
 apart-ticks {t} s h zero A = stood-apart t (ticking t 5 s)
 apart-ticks {t} s h (suc n) A = apart-thread t (withTicks (suc n) (s .threads t)) h A

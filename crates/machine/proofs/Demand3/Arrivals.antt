@@ -49,7 +49,8 @@ module _ (s : State) (S : Sound s) (t : ℕ) (runs : s .runs ≡ some t) where
       → x .threads ≡ put (dropDebt t s .threads) t (withPlace p 0 b m (dropDebt t s .threads t))
       → ((e : ℕ) → x .endpoints e .abort ≡ dropDebt t s .endpoints e .abort)
       → ((e : ℕ) → x .endpoints e .status ≡ dropDebt t s .endpoints e .status)
-      → ((e : ℕ) → JoinsTail t (dropDebt t s .endpoints e .waiters) (x .endpoints e .waiters)) → CallerBlocks s c (blocked x)
+      → ((e : ℕ) → JoinsTail t (dropDebt t s .endpoints e .waiters) (x .endpoints e .waiters))
+      → CallerBlocks s c (blocked x)
   block-at c p b m calls queues x threads abort status joins =
       record {
         caller = t;

@@ -123,7 +123,8 @@ module _ (past : List Call) (c : Call) (a : Answer) (h k : History) (longer : k 
       }
 
   pub called-grow :
-      (y : AbortCall) → ((z : Ended) → In z (h .aborts .ended) → In z (k .aborts .ended)) → CallClaims h y → CallClaims k y
+      (y : AbortCall) → ((z : Ended) → In z (h .aborts .ended) → In z (k .aborts .ended)) → CallClaims h y
+      → CallClaims k y
   called-grow y more C =
       record {
         reports = λ i. reports-grow y more (C .reports i);
