@@ -49,9 +49,10 @@ fn stored(tables: &[u32], t: usize) -> bool
     let outcome = words::thread(tables, Field::Outcome, t);
     let nothing = (words::thread(tables, Field::Badge, t) == 0)
         & (words::thread(tables, Field::Message, t) == 0);
-    let sends = (wide::SENDING <= place) & (place < wide::RECEIVING);
     ((place == wide::ABLE) | (outcome == wide::NO_OUTCOME))
-        & ((outcome == wide::MESSAGE_RECEIVED) | sends | nothing)
+        & ((outcome == wide::MESSAGE_RECEIVED)
+            | ((wide::SENDING <= place) & (place < wide::RECEIVING))
+            | nothing)
 }
 
 // A thread on a line is the line's waiter.
