@@ -139,12 +139,12 @@ fn broken() {
     }
 }
 
-/// The program `tables_edges` reads these tables, and is held to what this
+/// The program `lent_tables_edges` reads these tables, and is held to what this
 /// machine says of them.
 #[test]
 fn edges() {
-    let stdin = include_str!("../../../crates/tables_edges/stdin");
-    let stdout = include_str!("../../../crates/tables_edges/stdout");
+    let stdin = include_str!("../../../crates/lent_tables_edges/stdin");
+    let stdout = include_str!("../../../crates/lent_tables_edges/stdout");
     assert_eq!(stdin, TABLES);
     assert_eq!(stdout, report_lengths() + &report_tables(&read_tables(stdin)));
 }
