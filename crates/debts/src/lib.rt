@@ -1,5 +1,5 @@
-// Who owns an abort and who has a note of one: dropping them, beginning, joining and ending an abort, and passing a
-// waiter that is kept. Each is a few steps of the store, and does what the machine's operation of its name does.
+// Who owns an abort and who has a note of one: dropping them, beginning, joining and ending an abort; and who is first
+// at an endpoint. Each is a few steps of the store, and does what the machine's operation of its name does.
 ghost use Rattle.machine.specs.Endpoints.{dropDebt};
 ghost use Rattle.machine.specs.Aborts.{dropOther, join, begin};
 ghost use Rattle.store.specs.Steps.{Shown, Does, Tells};

@@ -1,4 +1,4 @@
--- A walk through a queue: the threads passed are marked, those to come are not yet.
+-- A walk through a queue: the threads passed are met, those to come are not yet.
 use Prim.Native.Nat.{ℕ, zero, suc, _-_, _<_}
 use mathlib.Core.Bool.{Bool, true, false, _&&_, _||_, false≢true}
 use mathlib.Core.List.{List, [], _∷_}
@@ -67,7 +67,7 @@ module _ (m : List ℕ) where
   met-done (suc left) zero e = refl
   met-done (suc left) (suc t) e = absurd (omega arith)
 
-  -- The sets marked before and behind a queue.
+  -- The sets met before and behind a queue.
   pub met-below : (q : ℕ) → also (met m q) (metBelow q m) ≡ metBelow (suc q) m
   unfolding also metBelow
   met-below q = refl

@@ -1,4 +1,4 @@
-// The queues of the levels: each is walked once, by its next links, and its threads are marked. A walk ends after as
+// The queues of the levels: each is walked once, by its next links, and its threads are met. A walk ends after as
 // many threads as there are, whatever the links say.
 ghost use mathlib.Core.Path.{_≡_};
 ghost use Prim.Native.Nat.{_≤_};

@@ -1,5 +1,5 @@
 // The blocks of the threads: an absent thread's words are 0, a present thread's are in range and agree with each other.
-// Each function answers a test of checks/specs/Checks; the tests of one thread are joined without branches.
+// Each function answers a test of soundness/specs/Checks; the tests of one thread are joined without branches.
 ghost use mathlib.Core.Path.{_≡_};
 ghost use Prim.Native.Nat.{_≤_};
 ghost use lib.ListN.{length};

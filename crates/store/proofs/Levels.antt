@@ -78,7 +78,7 @@ writes m n₁ n₂ sm p i₁ i₂ size small a₁ e₁ a₂ e₂ =
     same-word : (w : ℕ) → summary w ≡ summary (p / 32) → w ≡ p / 32
     same-word w e = cc
 
--- A mark, from the summary that was loaded and the two stores of the marked one.
+-- A level is set, from the summary that was loaded and the two stores of the changed one.
 module _ (m n : List ℕ) (sm r : Summary) (p : ℕ) (x : Bool) (small : p < 256) (W : WritesLevel m r p n) where
   marked-words :
       (f : ℕ → Bool) → SummaryWords m f → r ≡ summaryOf (put f p x) → SummaryWords n (put f p x)

@@ -1,5 +1,5 @@
--- The words of the summary, and what reading them and marking a level promise. They speak of sets of levels, not of
--- states: between a change of a ready queue and its mark the memory shows no state.
+-- The words of the summary, and what reading them and setting a level promise. They speak of sets of levels, not of
+-- states: between a change of a ready queue and that of its level the memory shows no state.
 use Prim.Native.Nat.{ℕ, _/_, _≤_}
 use mathlib.Core.Path.{_≡_}
 use mathlib.Core.Bool.{Bool}

@@ -1,4 +1,4 @@
--- The summary after a level was marked: its word and the top word by `|` and `& !`, all other words as they were.
+-- The summary after a level was set: its word and the top word by `|` and `& !`, all other words as they were.
 use Prim.Native.Nat.{ℕ, _+_, _-_, _*_, _/_, _%_, _^_, _<_}
 use mathlib.Core.Path.{_≡_, sym, _∙_, ap, ap₂}
 use mathlib.Core.Bool.{Bool, true, false, not}
@@ -203,6 +203,6 @@ module _ (s : Summary) (p : ℕ) (h : p < 256) where
       changed-is f p h false (clearWord (summaryOf f) p) (summaryOf f .top) (clear-word f p h)
       (keep-top f p h (λ z. d (ap (λ (t : Summary). clearWord t p) e ∙ z))))
 
--- A summary that is marked is a summary again.
+-- With a level set it is a summary again.
 pub marked-summary : (s : Summary) (p : ℕ) (x : Bool) (r : Summary) → SetsBit s p x r → IsSummary s → IsSummary r
 marked-summary s p x r m h = record { levels = put (h .levels) p x; shown = m .marked (h .levels) (h .shown) }

@@ -59,7 +59,7 @@ leaves-delete e a s h =
     leaves-deleted (removeUpTo a (s .endpoints e .waiters) e s .state .endpoints e .waiters) e s
     (removeUpTo a (s .endpoints e .waiters) e s) h (leaves-remove a (s .endpoints e .waiters) e s)
 
--- An endpoint without an abort is marked closing.
+-- An endpoint without an abort becomes closing.
 leaves-closing : (e : ℕ) (s : State) → s .endpoints e .abort ≡ none → NobodyComes s (endAbort closing e s)
 unfolding endAbort note
 leaves-closing e s h =

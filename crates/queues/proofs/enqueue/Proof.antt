@@ -1,4 +1,4 @@
--- The thread joins its level's queue, and the level is marked.
+-- The thread joins its level's queue, and the level is set occupied.
 use Rattle.queues.proofs.Joining.{joinable-level, markable, enqueued}
 use borrow.Author.Needs.{needs}
 use Rattle.queues.proofs.enqueue.Statement.{statement}

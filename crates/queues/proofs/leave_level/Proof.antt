@@ -1,4 +1,4 @@
--- The thread leaves a level's queue, which is marked where it is then empty.
+-- The thread leaves a level's queue, and the level is set empty where it then is.
 use Rattle.queues.proofs.Leaving.{leavable-level, emptied, still-occupied}
 use borrow.Author.Needs.{needs}
 use Rattle.queues.proofs.leave_level.Statement.{statement}

@@ -1,4 +1,4 @@
--- The summary is loaded, marked, and stored where it changed.
+-- The summary is loaded, changed, and stored where it changed.
 use borrow.Author.Needs.{needs}
 use Rattle.store.proofs.Levels.{marks-in}
 use Rattle.store.proofs.set_occupied.Statement.{statement}
