@@ -9,6 +9,18 @@ passed=0
 failed=0
 example=tests/journals/example
 
+# Counts one judgement of the last try: passed where the command holds, else failed, with this sentence.
+judge() {
+    sentence=$1
+    shift
+    if "$@"; then
+        passed=$((passed + 1))
+    else
+        echo "failed: $shell, $what: $sentence"
+        failed=$((failed + 1))
+    fi
+}
+
 # Each try names itself, then gives the status that must come and a command, run by $shell; its output is in $work/out,
 # its complaints in $work/err.
 status_is() {
@@ -17,31 +29,16 @@ status_is() {
     shift 2
     "$@" >"$work/out" 2>"$work/err"
     got=$?
-    if [ "$got" -eq "$want" ]; then
-        passed=$((passed + 1))
-    else
-        echo "failed: $shell, $what: status $got, not $want"
-        failed=$((failed + 1))
-    fi
+    judge "status $got, not $want" test "$got" -eq "$want"
 }
 
 # The output of the last try is this file's content; its complaint has these words.
 output_is() {
-    if cmp -s "$work/out" "$1"; then
-        passed=$((passed + 1))
-    else
-        echo "failed: $shell, $what: another output"
-        failed=$((failed + 1))
-    fi
+    judge "another output" cmp -s "$work/out" "$1"
 }
 
 complains_of() {
-    if grep -q "$1" "$work/err"; then
-        passed=$((passed + 1))
-    else
-        echo "failed: $shell, $what: no word of '$1'"
-        failed=$((failed + 1))
-    fi
+    judge "no word of '$1'" grep -q "$1" "$work/err"
 }
 
 desk() {
