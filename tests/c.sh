@@ -1,6 +1,6 @@
 #!/bin/sh
-# Builds the library for C and tries what its header says of it; runs the example host on every journal of tests/journals, and the tests of the Rust wrapper.
-# The exit status is 0 only where nothing failed.
+# Builds the library for C and tries what its header says of it; runs the example host on every journal of
+# tests/journals, and the tests of the Rust wrapper. The exit status is 0 only where nothing failed.
 set -eu
 cd "$(dirname "$0")/.."
 rt staticlib core_c
