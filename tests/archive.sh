@@ -23,7 +23,8 @@ holds() {
 holds "other functions called" "$(nm -u "$archive" | sed -n 's/^ *U //p' | sort -u | tr '\n' ' ')" "memset "
 
 # No function calls one that is on the stack already: who calls whom has no loop.
-calls=$(sed -n -e 's/^[0-9a-f]* <\(.*\)>:$/in \1/p' -e 's/.*R_X86_64_PL*[TC]32[[:space:]]*\.text\.\(.*\)-0x4$/to \1/p' "$code" |
+calls=$(sed -n -e 's/^[0-9a-f]* <\(.*\)>:$/in \1/p' \
+    -e 's/.*R_X86_64_PL*[TC]32[[:space:]]*\.text\.\(.*\)-0x4$/to \1/p' "$code" |
     awk '/^in/{f=$2} /^to/{print f, $2}')
 holds "calls in a loop" "$(echo "$calls" | tsort 2>&1 >/dev/null)" ""
 holds "calls between its functions seen" "$([ -n "$calls" ] && echo yes)" yes

@@ -14,7 +14,9 @@ failed=0
 for document in README.md docs/*.md; do
     awk -v out="$work/$(basename "$document" .md)" '
         /^```/ { if (inside) { inside = 0; if (file) close(file); file = ""; next } inside = 1; first = 1; next }
-        inside && first && /^n call code count badge message running$/ { n++; file = out "." n ".txt"; print of > (out "." n ".of") }
+        inside && first && /^n call code count badge message running$/ {
+            n++; file = out "." n ".txt"; print of > (out "." n ".of")
+        }
         inside { first = 0; if (file) print > file; next }
         /`/ { of = $0; sub(/`[^`]*$/, "", of); sub(/.*`/, "", of) }
     ' "$document"
