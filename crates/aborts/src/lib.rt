@@ -11,6 +11,7 @@ ghost use Rattle.aborts.specs.Aborts.{Continues, ownEnded, ownBegun, joi
 use layout::Field;
 use layout::Part;
 use layout::codes;
+use layout::codes::LINK;
 use layout::codes::NOBODY;
 use machine::Answer;
 use machine::codes::BROKEN_OFF;
@@ -40,7 +41,7 @@ fn look_up_to(tables: &mut [u32], e: usize, allowance: u32) -> u32
         if cursor == NOBODY {
             return allowance - left;
         }
-        look(tables, e, (cursor - 1) as usize);
+        look(tables, e, (cursor - LINK) as usize);
         left -= 1;
     }
     allowance

@@ -11,8 +11,10 @@ use layout::Field;
 use layout::Part;
 use layout::codes;
 use layout::codes::ABORTING;
+use layout::codes::LINK;
 use layout::codes::NO_ABORT;
 use layout::codes::NOBODY;
+use layout::wide;
 
 // Thread t's ownership or note goes.
 pub fn drop_debt(tables: &mut [u32], t: usize)
@@ -92,7 +94,7 @@ pub fn join(tables: &mut [u32], t: usize, e: usize)
     if owner != NOBODY {
         return;
     }
-    store::set_owner(tables, e, (t + 1) as u32);
+    store::set_owner(tables, e, (t + wide::LINK) as u32);
     store::set_owes(tables, t, codes::OWNER + e as u32, 0);
 }
 
@@ -106,7 +108,12 @@ fn note_owner(tables: &mut [u32], e: usize)
         return;
     }
     let badge = store::endpoint(tables, Part::Aborted, e);
-    store::set_owes(tables, (owner - 1) as usize, codes::NOTE + e as u32, badge);
+    store::set_owes(
+        tables,
+        (owner - LINK) as usize,
+        codes::NOTE + e as u32,
+        badge,
+    );
 }
 
 // The abort at endpoint e, if one stands, ends, and the endpoint has the status given.
@@ -129,7 +136,7 @@ pub fn first_at(tables: &[u32], e: usize, place: u32) -> u32
     if link == NOBODY {
         return NOBODY;
     }
-    let at = store::thread(tables, Field::Place, (link - 1) as usize);
+    let at = store::thread(tables, Field::Place, (link - LINK) as usize);
     if at != place {
         return NOBODY;
     }
@@ -155,6 +162,14 @@ pub fn begin(tables: &mut [u32], t: usize, e: usize, badge: u32)
 {
     let cursor = first_at(tables, e, codes::SENDING + e as u32);
     let end = last_sender(tables, e);
-    store::set_abort(tables, e, ABORTING, badge, (t + 1) as u32, cursor, end);
+    store::set_abort(
+        tables,
+        e,
+        ABORTING,
+        badge,
+        (t + wide::LINK) as u32,
+        cursor,
+        end,
+    );
     store::set_owes(tables, t, codes::OWNER + e as u32, 0);
 }

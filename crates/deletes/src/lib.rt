@@ -8,6 +8,7 @@ ghost use Rattle.endings.specs.Results.{Calling, Performs};
 ghost use Rattle.deletes.specs.Deletes.{Closes, Removes};
 use layout::Part;
 use layout::codes;
+use layout::codes::LINK;
 use layout::codes::NOBODY;
 use machine::Answer;
 use machine::codes::BROKEN_OFF;
@@ -25,7 +26,7 @@ fn remove(tables: &mut [u32], e: usize, allowance: u32) -> u32
         if first == NOBODY {
             return allowance - left;
         }
-        queues::wake_from(tables, e, (first - 1) as usize, ENDPOINT_GONE, 0, 0);
+        queues::wake_from(tables, e, (first - LINK) as usize, ENDPOINT_GONE, 0, 0);
         left -= 1;
     }
     allowance

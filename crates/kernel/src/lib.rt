@@ -6,6 +6,7 @@ ghost use Rattle.store.specs.Steps.{Shown};
 ghost use Rattle.lent_tables.specs.Entries.{lent, Called, called, runnerIn};
 ghost use Rattle.endings.specs.Results.{Asked, Performs};
 ghost use Rattle.kernel.specs.Steps.{Ranged, Served, stepping};
+use layout::codes::LINK;
 use machine::Answer;
 use machine::Call;
 use machine::Runner;
@@ -32,29 +33,29 @@ fn carry_out(tables: &mut [u32], link: u32, c: Call) -> Answer
             message,
         } => transfers::send(
             tables,
-            (link - 1) as usize,
+            (link - LINK) as usize,
             endpoint as usize,
             badge,
             message,
         ),
         Call::Receive { endpoint } => transfers::receive(
             tables,
-            (link - 1) as usize,
+            (link - LINK) as usize,
             endpoint as usize,
         ),
-        Call::Yield => threads::yield_running(tables, (link - 1) as usize),
-        Call::Wait { line } => transfers::wait(tables, (link - 1) as usize, line as usize),
+        Call::Yield => threads::yield_running(tables, (link - LINK) as usize),
+        Call::Wait { line } => transfers::wait(tables, (link - LINK) as usize, line as usize),
         Call::Delete {
             endpoint,
             allowance,
-        } => deletes::delete(tables, (link - 1) as usize, endpoint as usize, allowance),
+        } => deletes::delete(tables, (link - LINK) as usize, endpoint as usize, allowance),
         Call::Abort {
             endpoint,
             allowance,
             badge,
         } => aborts::abort(
             tables,
-            (link - 1) as usize,
+            (link - LINK) as usize,
             endpoint as usize,
             allowance,
             badge,

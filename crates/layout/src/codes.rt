@@ -37,8 +37,10 @@ pub const PENDING: u32 = 1;
 
 pub const AWAITED: u32 = 2;
 
-// The link of nobody; that of thread t is t + 1.
+// A link: to nobody, or to a thread, which is added.
 pub const NOBODY: u32 = 0;
+
+pub const LINK: u32 = 1;
 
 // The queue of an endpoint has the endpoint added; those before are the levels'.
 pub const ENDPOINT_QUEUES: usize = 256;

@@ -38,7 +38,9 @@ pub const LAST_AWAITED: usize = AWAITED + 255;
 
 pub const NOBODY: usize = codes::NOBODY as usize;
 
-pub const LAST_LINK: usize = 256;
+pub const LINK: usize = codes::LINK as usize;
+
+pub const LAST_LINK: usize = LINK + 255;
 
 pub const NO_OUTCOME: usize = machine::codes::NO_OUTCOME as usize;
 

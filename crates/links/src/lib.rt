@@ -6,6 +6,7 @@ ghost use lib.ListN.{length};
 ghost use Rattle.layout.specs.Addresses.{tableWords};
 ghost use Rattle.links.specs.Links.{Joinable, JoinsQueue, Leavable, LeavesQueue, First, Last, Next, Prev};
 use layout::codes::NOBODY;
+use layout::wide;
 
 // Thread t joins the tail of queue q.
 pub fn push_tail(tables: &mut [u32], q: usize, t: usize)
@@ -13,7 +14,7 @@ pub fn push_tail(tables: &mut [u32], q: usize, t: usize)
     ensures { λ _. ⌜ JoinsQueue (now (tables .entry)) q t (now (tables .exit)) ⌝ }
 {
     let last = words::get(tables, words::tail_at(q));
-    let link = (t + 1) as u32;
+    let link = (t + wide::LINK) as u32;
     words::put(tables, words::after_at(q, last as usize), link);
     words::put(tables, words::prev_at(t), last);
     words::put(tables, words::tail_at(q), link);

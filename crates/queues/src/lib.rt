@@ -11,7 +11,9 @@ ghost use Rattle.queues.specs.Queues.{leaveLevel, passingAt, highestLink
 use layout::Field;
 use layout::Part;
 use layout::codes;
+use layout::codes::LINK;
 use layout::codes::NOBODY;
+use layout::wide;
 use summary::Level;
 
 // Thread t, in no queue, joins the tail of its level's.
@@ -96,7 +98,7 @@ pub fn dispatch(tables: &mut [u32])
     }
     let p = level - 1;
     let link = links::first(tables, p as usize);
-    leave_level(tables, p, (link - 1) as usize);
+    leave_level(tables, p, (link - LINK) as usize);
     store::set_running(tables, link);
 }
 
@@ -123,7 +125,7 @@ pub fn choose(tables: &mut [u32])
         dispatch(tables);
         return;
     }
-    displace(tables, (link - 1) as usize);
+    displace(tables, (link - LINK) as usize);
 }
 
 // Thread t, in no queue, joins the tail of endpoint e's.
@@ -139,7 +141,7 @@ pub fn pass_marks(tables: &mut [u32], t: usize, e: usize)
     requires { ⌜ Shown (now tables) (InEndpoint t e) ⌝ }
     ensures { λ _. ⌜ Does (now (tables .entry)) (now (tables .exit)) (InEndpoint t e) (passingAt t e) ⌝ }
 {
-    let link = (t + 1) as u32;
+    let link = (t + wide::LINK) as u32;
     let cursor = store::endpoint(tables, Part::Cursor, e);
     let end = store::endpoint(tables, Part::End, e);
     if cursor == link {

@@ -45,7 +45,7 @@ fn owner(tables: &[u32], e: usize) -> bool
     if wide::LAST_LINK < owner {
         return false;
     }
-    words::thread(tables, Field::Owes, owner - 1) == wide::OWNER + e
+    words::thread(tables, Field::Owes, owner - wide::LINK) == wide::OWNER + e
 }
 
 // No abort, or one of a badge in range.
@@ -83,7 +83,7 @@ fn kind(tables: &[u32], e: usize) -> usize
     if wide::LAST_LINK < y {
         return 0;
     }
-    words::thread(tables, Field::Place, y - 1)
+    words::thread(tables, Field::Place, y - wide::LINK)
 }
 
 // The badge that may not stand outside the marks, if there is one.
@@ -129,7 +129,7 @@ fn waiters(tables: &[u32], scratch: &mut [u32], e: usize, k: usize) -> bool
         if wide::LAST_LINK < y {
             return false;
         }
-        let t = y - 1;
+        let t = y - wide::LINK;
         let here = crate::phases::enter(f, cursor, y);
         if !stands(tables, k, banned, x, t, here) {
             return false;

@@ -20,7 +20,7 @@ fn ready(tables: &[u32], p: usize, x: usize, t: usize) -> bool
     let place = words::thread(tables, Field::Place, t);
     let priority = words::thread(tables, Field::Priority, t);
     let running = words::running(tables);
-    (prev == x) & ((place == wide::ABLE) & (priority == p) & (running != t + 1))
+    (prev == x) & ((place == wide::ABLE) & (priority == p) & (running != t + wide::LINK))
 }
 
 fn level(tables: &[u32], scratch: &mut [u32], p: usize) -> bool
@@ -38,7 +38,7 @@ fn level(tables: &[u32], scratch: &mut [u32], p: usize) -> bool
         if wide::LAST_LINK < y {
             return false;
         }
-        let t = y - 1;
+        let t = y - wide::LINK;
         if !ready(tables, p, x, t) {
             return false;
         }

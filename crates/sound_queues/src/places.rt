@@ -18,7 +18,7 @@ fn place(tables: &[u32], scratch: &[u32], t: usize) -> bool
     let met = crate::met::has_met(scratch, t);
     let place = words::thread(tables, Field::Place, t);
     let running = words::running(tables);
-    let queued = ((place == wide::ABLE) & (running != t + 1))
+    let queued = ((place == wide::ABLE) & (running != t + wide::LINK))
         | ((wide::SENDING <= place) & (place < wide::WAITING));
     let bare = (words::next(tables, t) == wide::NOBODY) & (words::prev(tables, t) == wide::NOBODY);
     (met == queued) & (met | bare)

@@ -78,7 +78,8 @@ fn owing(tables: &[u32], t: usize) -> bool
         return note == 0;
     }
     if owes <= wide::LAST_OWNER {
-        return (note == 0) & (words::endpoint(tables, Part::Owner, owes - wide::OWNER) == t + 1);
+        return (note == 0)
+            & (words::endpoint(tables, Part::Owner, owes - wide::OWNER) == t + wide::LINK);
     }
     (owes <= wide::LAST_NOTE) & (note < wide::NO_BADGE)
 }

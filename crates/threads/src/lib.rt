@@ -12,7 +12,9 @@ ghost use Rattle.threads.specs.Threads.{readyIn, Able, leavingReady, Goe
 ghost use Rattle.threads.specs.Threads.{tickingFor, InRange};
 use layout::Field;
 use layout::codes;
+use layout::codes::LINK;
 use layout::codes::NOBODY;
+use layout::wide;
 use machine::Answer;
 
 // Whether thread t is ready: able, and not the one that runs.
@@ -25,7 +27,7 @@ fn is_ready(tables: &[u32], t: usize) -> bool
         return false;
     }
     let running = store::running(tables);
-    let link = (t + 1) as u32;
+    let link = (t + wide::LINK) as u32;
     running != link
 }
 
@@ -147,7 +149,7 @@ fn tick_running(tables: &mut [u32])
     if link == NOBODY {
         return;
     }
-    take_tick(tables, (link - 1) as usize);
+    take_tick(tables, (link - LINK) as usize);
 }
 
 // 6: a tick takes one from the running thread.

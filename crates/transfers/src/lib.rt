@@ -13,6 +13,7 @@ ghost use Rattle.transfers.specs.Transfers.{takingFrom};
 use layout::Field;
 use layout::Part;
 use layout::codes;
+use layout::codes::LINK;
 use layout::codes::NOBODY;
 use machine::Answer;
 use machine::codes::LINE_FIRED;
@@ -78,7 +79,7 @@ fn hand(tables: &mut [u32], t: usize, e: usize, badge: u32, message: u32) -> Ans
         return suspend(tables, t, codes::SENDING + e as u32, badge, message);
     }
     let outcome = machine::codes::MESSAGE_RECEIVED;
-    queues::wake_from(tables, e, (link - 1) as usize, outcome, badge, message);
+    queues::wake_from(tables, e, (link - LINK) as usize, outcome, badge, message);
     endings::done(tables)
 }
 
@@ -130,7 +131,7 @@ fn take(tables: &mut [u32], t: usize, e: usize) -> Answer
         queues::join_endpoint(tables, t, e);
         return suspend(tables, t, codes::RECEIVING + e as u32, 0, 0);
     }
-    take_from(tables, e, (link - 1) as usize)
+    take_from(tables, e, (link - LINK) as usize)
 }
 
 // 8: the running thread t receives from endpoint e.

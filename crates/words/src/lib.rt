@@ -8,6 +8,7 @@ ghost use Rattle.layout.specs.Addresses.{ofLine, summary, top, running, unused,
 ghost use Rattle.words.specs.Access.{Address};
 use layout::Field;
 use layout::Part;
+use layout::wide;
 
 // The word at an address.
 pub fn get(tables: &[u32], i: usize) -> u32
@@ -149,7 +150,7 @@ pub fn after_at(q: usize, x: usize) -> usize
     if x == 0 {
         return head_at(q);
     }
-    next_at(x - 1)
+    next_at(x - wide::LINK)
 }
 
 // The link before link x of queue q.
@@ -160,7 +161,7 @@ pub fn before_at(q: usize, x: usize) -> usize
     if x == 0 {
         return tail_at(q);
     }
-    prev_at(x - 1)
+    prev_at(x - wide::LINK)
 }
 
 // The words by name, as numbers of the machine's width: what the check reads. Each function is the address of its word
