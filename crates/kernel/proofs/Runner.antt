@@ -13,7 +13,8 @@ use Rattle.machine.specs.Lists.{pick}
 use Rattle.machine.specs.State.{State}
 use Rattle.machine.specs.Results.{threadOf}
 use Rattle.machine.specs.Sound.{Sound}
-use Rattle.layout.specs.Addresses.{tableWords, word, at, running, slot}
+use Rattle.layout.specs.declared.Slot.{Slot}
+use Rattle.layout.specs.Addresses.{tableWords, word, at, slot}
 use Rattle.layout.specs.Words.{image, linkOf}
 use Rattle.layout.proofs.Ends.{none-some}
 use Rattle.layout.proofs.Image.{length-image, image-name}
@@ -25,8 +26,8 @@ pub no-tables : (m : List ℕ) → (length m ≡ tableWords → ⊥) → Nobody 
 unfolding runnerIn
 no-tables m h = rw (ne-eqb (length m) tableWords h)
 
-module _ (m : List ℕ) (i : ℕ) {r : ℕ} (h : length m ≡ tableWords) (A : Address i (at running)) (e : r ≡ word m i) where
-  here : word m (at running) ≡ r
+module _ (m : List ℕ) (i : ℕ) {r : ℕ} (h : length m ≡ tableWords) (A : Address i (at Slot.Running)) (e : r ≡ word m i) where
+  here : word m (at Slot.Running) ≡ r
   here = sym (e ∙ ap (word m) (A .is))
 
   linked : runnerOf (asLink r) ≡ runnerIn m
@@ -53,7 +54,7 @@ module _ (m : List ℕ) (i : ℕ) {r : ℕ} (h : length m ≡ tableWords) (A : A
 -- Whatever the words are, whoever runs is a thread.
 pub running-within : (m : List ℕ) (t : ℕ) → threadOf (runnerIn m) ≡ some t → t ≤ 255
 unfolding runnerIn
-running-within m t = go (eqb (length m) tableWords) (leb (word m (at running)) 256) (word m (at running)) refl
+running-within m t = go (eqb (length m) tableWords) (leb (word m (at Slot.Running)) 256) (word m (at Slot.Running)) refl
   where
     small : (w : ℕ) → w ≤ 256 → threadOf (runnerOf w) ≡ some t → t ≤ 255
     small zero k e = none-some e
@@ -69,7 +70,7 @@ running-within m t = go (eqb (length m) tableWords) (leb (word m (at running)) 2
 pub running-image : (s : State) → Sound s → threadOf (runnerIn (image s)) ≡ s .runs
 unfolding runnerIn
 running-image s S =
-    rw (eq-eqb (length (image s)) tableWords (length-image s), image-name s (slot running) tt) (go (s .runs) refl)
+    rw (eq-eqb (length (image s)) tableWords (length-image s), image-name s (slot Slot.Running) tt) (go (s .runs) refl)
   where
     go : (o : Option ℕ) → s .runs ≡ o → threadOf (runnerOf (asLink (linkOf o))) ≡ o
     go none k = refl

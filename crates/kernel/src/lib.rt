@@ -6,6 +6,7 @@ ghost use Rattle.store.specs.Steps.{Shown};
 ghost use Rattle.lent_tables.specs.Entries.{lent, Called, called, runnerIn};
 ghost use Rattle.endings.specs.Results.{Asked, Performs};
 ghost use Rattle.kernel.specs.Steps.{Ranged, Served, stepping};
+use layout::Slot;
 use layout::codes::LINK;
 use machine::Answer;
 use machine::Call;
@@ -108,7 +109,7 @@ pub fn running(tables: &[u32]) -> Runner
     if tables.len() != lent_tables::TABLE_WORDS {
         return Runner::Nobody;
     }
-    let link = words::get(tables, words::running_at());
+    let link = words::get(tables, Slot::Running);
     // The link 0, to nobody, wraps: like every word that is no link it comes out above 255.
     let thread = std::num::wrapping_sub_u32(link, 1);
     if thread > 255 {

@@ -11,9 +11,10 @@ use lib.Seq.{getD-set-same, getD-set-other}
 use borrow.Author.Tests.{lt-ltb, le-ltb, ltb-true, ltb-false}
 use Rattle.layout.specs.declared.Field.{Field}
 use Rattle.layout.specs.declared.Part.{Part}
-use Rattle.layout.specs.Addresses.{Slot, ofThread, ofEndpoint, ofLine, summary, top, running, unused, Link, next}
-use Rattle.layout.specs.Addresses.{prev, head, tail, Name, slot, link, ValidSlot, ValidLink, Valid, column}
-use Rattle.layout.specs.Addresses.{offset, at, linkAt, address, inThread, inQueue, inEndpoint, nameOf, word}
+use Rattle.layout.specs.declared.Slot.{Slot}
+use Rattle.layout.specs.declared.Link.{Link}
+use Rattle.layout.specs.Addresses.{Name, slot, link, ValidSlot, ValidLink, Valid, column, offset, at, linkAt}
+use Rattle.layout.specs.Addresses.{address, inThread, inQueue, inEndpoint, nameOf, word}
 
 -- The name of word k of a row.
 
@@ -57,7 +58,7 @@ offset-small Part.Owner = omega arith
 offset-small Part.Cursor = omega arith
 offset-small Part.End = omega arith
 
-field-name : (f : Field) (t : ℕ) → inThread t (column f) ≡ slot (ofThread f t)
+field-name : (f : Field) (t : ℕ) → inThread t (column f) ≡ slot (Slot.Thread f t)
 unfolding inThread
 field-name Field.Place t = refl
 field-name Field.Priority t = refl
@@ -68,7 +69,7 @@ field-name Field.Message t = refl
 field-name Field.Owes t = refl
 field-name Field.Note t = refl
 
-part-name : (p : Part) (e : ℕ) → inEndpoint e (offset p) ≡ slot (ofEndpoint p e)
+part-name : (p : Part) (e : ℕ) → inEndpoint e (offset p) ≡ slot (Slot.Endpoint p e)
 unfolding inEndpoint
 part-name Part.Status e = refl
 part-name Part.Aborting e = refl
@@ -79,12 +80,12 @@ part-name Part.End e = refl
 
 -- An address from 3584 on has the name that its range says.
 module _ (i : ℕ) where
-  line-name : 3584 ≤ i → i < 3616 → nameOf i ≡ slot (ofLine (i - 3584))
+  line-name : 3584 ≤ i → i < 3616 → nameOf i ≡ slot (Slot.Line (i - 3584))
   unfolding nameOf
   line-name h g =
       rw (le-ltb i 2560 (omega arith), le-ltb i 3200 (omega arith), le-ltb i 3584 h, lt-ltb i 3616 g)
 
-  summary-name : 3616 ≤ i → i < 3624 → nameOf i ≡ slot (summary (i - 3616))
+  summary-name : 3616 ≤ i → i < 3624 → nameOf i ≡ slot (Slot.Summary (i - 3616))
   unfolding nameOf
   summary-name h g =
       rw (
@@ -95,7 +96,7 @@ module _ (i : ℕ) where
         lt-ltb i 3624 g,
       )
 
-  unused-name : 3626 ≤ i → nameOf i ≡ slot (unused (i - 3626))
+  unused-name : 3626 ≤ i → nameOf i ≡ slot (Slot.Unused (i - 3626))
   unfolding nameOf
   unused-name h =
       rw (
@@ -110,35 +111,35 @@ module _ (i : ℕ) where
 
 name-at : (a : Slot) → ValidSlot a → nameOf (at a) ≡ slot a
 unfolding at
-name-at (ofThread f t) h = thread-row t (column f) h (column-small f) ∙ field-name f t
-name-at (ofEndpoint p e) h = endpoint-row e (offset p) h (offset-small p) ∙ part-name p e
-name-at (ofLine l) h =
+name-at (Slot.Thread f t) h = thread-row t (column f) h (column-small f) ∙ field-name f t
+name-at (Slot.Endpoint p e) h = endpoint-row e (offset p) h (offset-small p) ∙ part-name p e
+name-at (Slot.Line l) h =
     line-name (3584 + l) (omega arith) (omega arith)
-    ∙ ap (λ (k : ℕ). slot (ofLine k)) (let e : 3584 + l - 3584 ≡ l = omega arith in e)
-name-at (summary w) h =
+    ∙ ap (λ (k : ℕ). slot (Slot.Line k)) (let e : 3584 + l - 3584 ≡ l = omega arith in e)
+name-at (Slot.Summary w) h =
     summary-name (3616 + w) (omega arith) (omega arith)
-    ∙ ap (λ (k : ℕ). slot (summary k)) (let e : 3616 + w - 3616 ≡ w = omega arith in e)
-name-at top h = unfold nameOf in refl
-name-at running h = unfold nameOf in refl
-name-at (unused i) h =
+    ∙ ap (λ (k : ℕ). slot (Slot.Summary k)) (let e : 3616 + w - 3616 ≡ w = omega arith in e)
+name-at Slot.Top h = unfold nameOf in refl
+name-at Slot.Running h = unfold nameOf in refl
+name-at (Slot.Unused i) h =
     unused-name (3626 + i) (omega arith)
-    ∙ ap (λ (k : ℕ). slot (unused k)) (let e : 3626 + i - 3626 ≡ i = omega arith in e)
+    ∙ ap (λ (k : ℕ). slot (Slot.Unused k)) (let e : 3626 + i - 3626 ≡ i = omega arith in e)
 
 name-linkAt : (k : Link) → ValidLink k → nameOf (linkAt k) ≡ link k
 unfolding linkAt inThread inQueue
-name-linkAt (next t) h = thread-row t 6 h (omega arith)
-name-linkAt (prev t) h = thread-row t 7 h (omega arith)
-name-linkAt (head q) h = queue-row q 0 h (omega arith) (2560 + 2 * q) (omega arith)
-name-linkAt (tail q) h = queue-row q 1 h (omega arith) (2561 + 2 * q) (omega arith)
+name-linkAt (Link.Next t) h = thread-row t 6 h (omega arith)
+name-linkAt (Link.Prev t) h = thread-row t 7 h (omega arith)
+name-linkAt (Link.Head q) h = queue-row q 0 h (omega arith) (2560 + 2 * q) (omega arith)
+name-linkAt (Link.Tail q) h = queue-row q 1 h (omega arith) (2561 + 2 * q) (omega arith)
 
 -- The place in its row names a word of a thread, and of an endpoint.
-pub same-field : (f g : Field) (t : ℕ) → column f ≡ column g → ofThread f t ≡ ofThread g t
+pub same-field : (f g : Field) (t : ℕ) → column f ≡ column g → Slot.Thread f t ≡ Slot.Thread g t
 same-field f g t e =
-    let k : slot (ofThread f t) ≡ slot (ofThread g t) = sym (field-name f t) ∙ ap (inThread t) e ∙ field-name g t in cc
+    let k : slot (Slot.Thread f t) ≡ slot (Slot.Thread g t) = sym (field-name f t) ∙ ap (inThread t) e ∙ field-name g t in cc
 
-pub same-part : (p q : Part) (e : ℕ) → offset p ≡ offset q → ofEndpoint p e ≡ ofEndpoint q e
+pub same-part : (p q : Part) (e : ℕ) → offset p ≡ offset q → Slot.Endpoint p e ≡ Slot.Endpoint q e
 same-part p q e k =
-    let j : slot (ofEndpoint p e) ≡ slot (ofEndpoint q e) = sym (part-name p e) ∙ ap (inEndpoint e) k ∙ part-name q e in
+    let j : slot (Slot.Endpoint p e) ≡ slot (Slot.Endpoint q e) = sym (part-name p e) ∙ ap (inEndpoint e) k ∙ part-name q e in
     cc
 
 -- Each valid name is the name of its address: two valid names have the same address only if they are the same.
@@ -151,20 +152,20 @@ address-injective a b h g e = sym (name-address a h) ∙ ap nameOf e ∙ name-ad
 
 pub at-small : (a : Slot) → ValidSlot a → at a < 4096
 unfolding at
-at-small (ofThread f t) h = omega (arith, column-small f)
-at-small (ofEndpoint p e) h = omega (arith, offset-small p)
-at-small (ofLine l) h = omega arith
-at-small (summary w) h = omega arith
-at-small top h = omega arith
-at-small running h = omega arith
-at-small (unused i) h = omega arith
+at-small (Slot.Thread f t) h = omega (arith, column-small f)
+at-small (Slot.Endpoint p e) h = omega (arith, offset-small p)
+at-small (Slot.Line l) h = omega arith
+at-small (Slot.Summary w) h = omega arith
+at-small Slot.Top h = omega arith
+at-small Slot.Running h = omega arith
+at-small (Slot.Unused i) h = omega arith
 
 pub linkAt-small : (k : Link) → ValidLink k → linkAt k < 4096
 unfolding linkAt
-linkAt-small (next t) h = omega arith
-linkAt-small (prev t) h = omega arith
-linkAt-small (head q) h = omega arith
-linkAt-small (tail q) h = omega arith
+linkAt-small (Link.Next t) h = omega arith
+linkAt-small (Link.Prev t) h = omega arith
+linkAt-small (Link.Head q) h = omega arith
+linkAt-small (Link.Tail q) h = omega arith
 
 pub address-small : (a : Name) → Valid a → address a < 4096
 address-small (slot a) h = at-small a h
@@ -179,38 +180,38 @@ pub record HasName (i : ℕ) : Type 0 where
 -- The valid name of word k of thread t, of queue q and of endpoint e.
 in-thread : (t k i : ℕ) → t ≤ 255 → k < 10 → 10 * t + k ≡ i → HasName i
 unfolding at linkAt
-in-thread t zero i h g e = record { name = slot (ofThread Field.Place t); valid = h; here = e }
-in-thread t (suc zero) i h g e = record { name = slot (ofThread Field.Priority t); valid = h; here = e }
-in-thread t (suc (suc zero)) i h g e = record { name = slot (ofThread Field.Ticks t); valid = h; here = e }
-in-thread t (suc (suc (suc zero))) i h g e = record { name = slot (ofThread Field.Outcome t); valid = h; here = e }
-in-thread t (suc (suc (suc (suc zero)))) i h g e = record { name = slot (ofThread Field.Badge t); valid = h; here = e }
+in-thread t zero i h g e = record { name = slot (Slot.Thread Field.Place t); valid = h; here = e }
+in-thread t (suc zero) i h g e = record { name = slot (Slot.Thread Field.Priority t); valid = h; here = e }
+in-thread t (suc (suc zero)) i h g e = record { name = slot (Slot.Thread Field.Ticks t); valid = h; here = e }
+in-thread t (suc (suc (suc zero))) i h g e = record { name = slot (Slot.Thread Field.Outcome t); valid = h; here = e }
+in-thread t (suc (suc (suc (suc zero)))) i h g e = record { name = slot (Slot.Thread Field.Badge t); valid = h; here = e }
 in-thread t (suc (suc (suc (suc (suc zero))))) i h g e =
-    record { name = slot (ofThread Field.Message t); valid = h; here = e }
-in-thread t (suc (suc (suc (suc (suc (suc zero)))))) i h g e = record { name = link (next t); valid = h; here = e }
+    record { name = slot (Slot.Thread Field.Message t); valid = h; here = e }
+in-thread t (suc (suc (suc (suc (suc (suc zero)))))) i h g e = record { name = link (Link.Next t); valid = h; here = e }
 in-thread t (suc (suc (suc (suc (suc (suc (suc zero))))))) i h g e =
-    record { name = link (prev t); valid = h; here = e }
+    record { name = link (Link.Prev t); valid = h; here = e }
 in-thread t (suc (suc (suc (suc (suc (suc (suc (suc zero)))))))) i h g e =
-    record { name = slot (ofThread Field.Owes t); valid = h; here = e }
+    record { name = slot (Slot.Thread Field.Owes t); valid = h; here = e }
 in-thread t (suc (suc (suc (suc (suc (suc (suc (suc (suc zero))))))))) i h g e =
-    record { name = slot (ofThread Field.Note t); valid = h; here = e }
+    record { name = slot (Slot.Thread Field.Note t); valid = h; here = e }
 in-thread t (suc (suc (suc (suc (suc (suc (suc (suc (suc (suc k)))))))))) i h g e = absurd (omega arith)
 
 in-queue : (q k i : ℕ) → q ≤ 319 → k < 2 → 2560 + 2 * q + k ≡ i → HasName i
 unfolding linkAt
-in-queue q zero i h g e = record { name = link (head q); valid = h; here = omega arith }
-in-queue q (suc zero) i h g e = record { name = link (tail q); valid = h; here = omega arith }
+in-queue q zero i h g e = record { name = link (Link.Head q); valid = h; here = omega arith }
+in-queue q (suc zero) i h g e = record { name = link (Link.Tail q); valid = h; here = omega arith }
 in-queue q (suc (suc k)) i h g e = absurd (omega arith)
 
 in-endpoint : (n k i : ℕ) → n ≤ 63 → k < 6 → 3200 + 6 * n + k ≡ i → HasName i
 unfolding at
-in-endpoint n zero i h g e = record { name = slot (ofEndpoint Part.Status n); valid = h; here = e }
-in-endpoint n (suc zero) i h g e = record { name = slot (ofEndpoint Part.Aborting n); valid = h; here = e }
-in-endpoint n (suc (suc zero)) i h g e = record { name = slot (ofEndpoint Part.Aborted n); valid = h; here = e }
-in-endpoint n (suc (suc (suc zero))) i h g e = record { name = slot (ofEndpoint Part.Owner n); valid = h; here = e }
+in-endpoint n zero i h g e = record { name = slot (Slot.Endpoint Part.Status n); valid = h; here = e }
+in-endpoint n (suc zero) i h g e = record { name = slot (Slot.Endpoint Part.Aborting n); valid = h; here = e }
+in-endpoint n (suc (suc zero)) i h g e = record { name = slot (Slot.Endpoint Part.Aborted n); valid = h; here = e }
+in-endpoint n (suc (suc (suc zero))) i h g e = record { name = slot (Slot.Endpoint Part.Owner n); valid = h; here = e }
 in-endpoint n (suc (suc (suc (suc zero)))) i h g e =
-    record { name = slot (ofEndpoint Part.Cursor n); valid = h; here = e }
+    record { name = slot (Slot.Endpoint Part.Cursor n); valid = h; here = e }
 in-endpoint n (suc (suc (suc (suc (suc zero))))) i h g e =
-    record { name = slot (ofEndpoint Part.End n); valid = h; here = e }
+    record { name = slot (Slot.Endpoint Part.End n); valid = h; here = e }
 in-endpoint n (suc (suc (suc (suc (suc (suc k)))))) i h g e = absurd (omega arith)
 
 -- Whether a number is below a bound.
@@ -227,17 +228,17 @@ module _ (i : ℕ) (small : i < 4096) where
   from-marks h = go (below? i 3625) (below? i 3626)
     where
       go : (i < 3625) ⊎ (3625 ≤ i) → (i < 3626) ⊎ (3626 ≤ i) → HasName i
-      go (inl g) k = record { name = slot top; valid = tt; here = omega arith }
-      go (inr g) (inl k) = record { name = slot running; valid = tt; here = omega arith }
-      go (inr g) (inr k) = record { name = slot (unused (i - 3626)); valid = omega arith; here = omega arith }
+      go (inl g) k = record { name = slot Slot.Top; valid = tt; here = omega arith }
+      go (inr g) (inl k) = record { name = slot Slot.Running; valid = tt; here = omega arith }
+      go (inr g) (inr k) = record { name = slot (Slot.Unused (i - 3626)); valid = omega arith; here = omega arith }
 
   from-lines : 3584 ≤ i → HasName i
   unfolding at
   from-lines h = go (below? i 3616) (below? i 3624)
     where
       go : (i < 3616) ⊎ (3616 ≤ i) → (i < 3624) ⊎ (3624 ≤ i) → HasName i
-      go (inl g) k = record { name = slot (ofLine (i - 3584)); valid = omega arith; here = omega arith }
-      go (inr g) (inl k) = record { name = slot (summary (i - 3616)); valid = omega arith; here = omega arith }
+      go (inl g) k = record { name = slot (Slot.Line (i - 3584)); valid = omega arith; here = omega arith }
+      go (inr g) (inl k) = record { name = slot (Slot.Summary (i - 3616)); valid = omega arith; here = omega arith }
       go (inr g) (inr k) = from-marks k
 
   pub named : HasName i

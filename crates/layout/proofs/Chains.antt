@@ -7,7 +7,8 @@ use native.Mathlib.Omega.{arith}
 use borrow.Author.Tests.{eq-eqb, ne-eqb}
 use Rattle.machine.specs.Lists.{Mem, Distinct}
 use Rattle.machine.proofs.Lists.{Same, same, other, same?}
-use Rattle.layout.specs.Addresses.{next, prev, linkAt, word, afterAt, beforeAt}
+use Rattle.layout.specs.declared.Link.{Link}
+use Rattle.layout.specs.Addresses.{linkAt, word, afterAt, beforeAt}
 use Rattle.layout.specs.Words.{firstOf, lastOf, afterIn, beforeIn}
 use Rattle.layout.specs.Shows.{Chain}
 
@@ -57,34 +58,34 @@ module _ (m : List ℕ) (q : ℕ) where
   chain-last x [] c = c .before
   chain-last x (t ∷ l) c = chain-last (suc t) l (c .1)
 
-  pub chain-after : (x t : ℕ) (l : List ℕ) → Chain m q x l 0 → Mem t l → word m (linkAt (next t)) ≡ afterIn t l
+  pub chain-after : (x t : ℕ) (l : List ℕ) → Chain m q x l 0 → Mem t l → word m (linkAt (Link.Next t)) ≡ afterIn t l
   chain-after x t [] c k = absurd k
   chain-after x t (u ∷ l) c k = go (same? u t) k (chain-after (suc u) t l (c .1))
     where
-      go : Same u t → Mem t (u ∷ l) → (Mem t l → word m (linkAt (next t)) ≡ afterIn t l)
-          → word m (linkAt (next t)) ≡ afterIn t (u ∷ l)
+      go : Same u t → Mem t (u ∷ l) → (Mem t l → word m (linkAt (Link.Next t)) ≡ afterIn t l)
+          → word m (linkAt (Link.Next t)) ≡ afterIn t (u ∷ l)
       go (same e _) k ih =
-          ap (λ (v : ℕ). word m (linkAt (next v))) (sym e) ∙ chain-first (suc u) l (c .1) ∙ sym (after-hit t u l e)
+          ap (λ (v : ℕ). word m (linkAt (Link.Next v))) (sym e) ∙ chain-first (suc u) l (c .1) ∙ sym (after-hit t u l e)
       go (other n _) (inl e) ih = absurd (n (sym e))
       go (other n _) (inr k) ih = ih k ∙ sym (after-miss t u l n)
 
   pub chain-before :
-      (x t : ℕ) (l : List ℕ) → Chain m q x l 0 → Mem t l → word m (linkAt (prev t)) ≡ beforeIn x t l
+      (x t : ℕ) (l : List ℕ) → Chain m q x l 0 → Mem t l → word m (linkAt (Link.Prev t)) ≡ beforeIn x t l
   chain-before x t [] c k = absurd k
   chain-before x t (u ∷ l) c k = go (same? u t) k (chain-before (suc u) t l (c .1))
     where
-      go : Same u t → Mem t (u ∷ l) → (Mem t l → word m (linkAt (prev t)) ≡ beforeIn (suc u) t l)
-          → word m (linkAt (prev t)) ≡ beforeIn x t (u ∷ l)
+      go : Same u t → Mem t (u ∷ l) → (Mem t l → word m (linkAt (Link.Prev t)) ≡ beforeIn (suc u) t l)
+          → word m (linkAt (Link.Prev t)) ≡ beforeIn x t (u ∷ l)
       go (same e _) k ih =
-          ap (λ (v : ℕ). word m (linkAt (prev v))) (sym e) ∙ c .0 .before ∙ sym (before-hit x t u l e)
+          ap (λ (v : ℕ). word m (linkAt (Link.Prev v))) (sym e) ∙ c .0 .before ∙ sym (before-hit x t u l e)
       go (other n _) (inl e) ih = absurd (n (sym e))
       go (other n _) (inr k) ih = ih k ∙ sym (before-miss x t u l n)
 
   -- And the words that make a chain: where nobody stands twice, neighbours that are read off the list.
   pub chain-of :
       (x : ℕ) (l : List ℕ) → Distinct l → word m (afterAt q x) ≡ firstOf l → word m (beforeAt q 0) ≡ lastOf x l
-      → ((t : ℕ) → Mem t l → word m (linkAt (next t)) ≡ afterIn t l)
-      → ((t : ℕ) → Mem t l → word m (linkAt (prev t)) ≡ beforeIn x t l) → Chain m q x l 0
+      → ((t : ℕ) → Mem t l → word m (linkAt (Link.Next t)) ≡ afterIn t l)
+      → ((t : ℕ) → Mem t l → word m (linkAt (Link.Prev t)) ≡ beforeIn x t l) → Chain m q x l 0
   chain-of x [] d first last afters befores = record { after = first; before = last }
   chain-of x (u ∷ l) d first last afters befores = (
     record { after = first; before = befores u (inl refl) ∙ before-hit x u u l refl },

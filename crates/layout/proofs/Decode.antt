@@ -10,7 +10,9 @@ use Rattle.machine.specs.Lists.{pick, Mem}
 use Rattle.machine.specs.State.{State, quiet, awaited, absentThread, missingEndpoint}
 use Rattle.machine.specs.Sound.{Sound}
 use Rattle.layout.specs.declared.Part.{Part}
-use Rattle.layout.specs.Addresses.{ofThread, ofEndpoint, ofLine, running, head, at, linkAt, word}
+use Rattle.layout.specs.declared.Slot.{Slot}
+use Rattle.layout.specs.declared.Link.{Link}
+use Rattle.layout.specs.Addresses.{at, linkAt, word}
 use Rattle.layout.specs.Words.{queuesOf, endpointWord, image}
 use Rattle.layout.specs.Shows.{Shows}
 use Rattle.layout.specs.Decode.{queueFrom, linked, lineBy, threadFrom, endpointFrom, decode}
@@ -50,23 +52,23 @@ unfolding decode lineBy
 decode-neat m =
     record {
       threads = λ t.
-          pick-at 255 (threadFrom (λ f. word m (at (ofThread f t)))) absentThread (NeatThread t) t
-          (thread-neat t (λ f. word m (at (ofThread f t)))) (absent-neat t);
+          pick-at 255 (threadFrom (λ f. word m (at (Slot.Thread f t)))) absentThread (NeatThread t) t
+          (thread-neat t (λ f. word m (at (Slot.Thread f t)))) (absent-neat t);
       endpoints = λ e.
-          pick-at 63 (endpointFrom (λ p. word m (at (ofEndpoint p e))) (queueFrom m (256 + e))) missingEndpoint
+          pick-at 63 (endpointFrom (λ p. word m (at (Slot.Endpoint p e))) (queueFrom m (256 + e))) missingEndpoint
           NeatEndpoint e
-          (λ _. endpoint-neat (λ p. word m (at (ofEndpoint p e))) (queueFrom m (256 + e))
-          (walk-small m 256 (word m (linkAt (head (256 + e)))))) missing-neat;
+          (λ _. endpoint-neat (λ p. word m (at (Slot.Endpoint p e))) (queueFrom m (256 + e))
+          (walk-small m 256 (word m (linkAt (Link.Head (256 + e)))))) missing-neat;
       unused-endpoint = λ e h. pick-beyond 63 _ missingEndpoint e h;
       unused-line = λ l h. pick-beyond 31 _ quiet l h;
       unused-level = λ p h. pick-beyond 255 _ [] p h;
-      runs-small = linked-small (word m (at running));
+      runs-small = linked-small (word m (at Slot.Running));
       ready-small = λ p t.
           pick-at 255 (queueFrom m p) [] (λ l. Mem t l → t ≤ 255) p
-          (λ _. walk-small m 256 (word m (linkAt (head p))) t) (λ k. absurd k);
+          (λ _. walk-small m 256 (word m (linkAt (Link.Head p))) t) (λ k. absurd k);
       line-small = λ l t.
-          pick-at 31 (lineBy (word m (at (ofLine l)))) quiet (λ x. x ≡ awaited t → t ≤ 255) l
-          (λ _. read-small (word m (at (ofLine l))) t) (read-small 0 t);
+          pick-at 31 (lineBy (word m (at (Slot.Line l)))) quiet (λ x. x ≡ awaited t → t ≤ 255) l
+          (λ _. read-small (word m (at (Slot.Line l))) t) (read-small 0 t);
     }
 
 module _ (m : List ℕ) (s : State) (S : Sound s) (M : Shows m s) where
@@ -93,14 +95,14 @@ module _ (m : List ℕ) (s : State) (S : Sound s) (M : Shows m s) where
       N = sound-neat s S
 
       threads : (t : ℕ)
-          → pick (leb t 255) (threadFrom (λ f. word m (at (ofThread f t)))) absentThread ≡ s .threads t
+          → pick (leb t 255) (threadFrom (λ f. word m (at (Slot.Thread f t)))) absentThread ≡ s .threads t
       threads t =
-          pick-is 255 (threadFrom (λ f. word m (at (ofThread f t)))) absentThread t (s .threads t)
-          (λ h. ap threadFrom (fun-ext (λ f. M .slots (ofThread f t) h)) ∙ thread-back t (s .threads t) (N .threads t))
+          pick-is 255 (threadFrom (λ f. word m (at (Slot.Thread f t)))) absentThread t (s .threads t)
+          (λ h. ap threadFrom (fun-ext (λ f. M .slots (Slot.Thread f t) h)) ∙ thread-back t (s .threads t) (N .threads t))
           (λ h. sym (beyond-absent t (s .threads t) (N .threads t) h))
 
-      runs : linked (word m (at running)) ≡ s .runs
-      runs = ap linked (M .slots running tt) ∙ linked-back (s .runs) (N .runs-small)
+      runs : linked (word m (at Slot.Running)) ≡ s .runs
+      runs = ap linked (M .slots Slot.Running tt) ∙ linked-back (s .runs) (N .runs-small)
 
       levels : (p : ℕ) → pick (leb p 255) (queueFrom m p) [] ≡ s .levels p
       levels p =
@@ -108,23 +110,23 @@ module _ (m : List ℕ) (s : State) (S : Sound s) (M : Shows m s) where
           (λ h. queue-back p (omega arith) ∙ queues-level s p h) (λ h. sym (N .unused-level p h))
 
       endpoint-here : (e : ℕ) → e ≤ 63
-          → endpointFrom (λ p. word m (at (ofEndpoint p e))) (queueFrom m (256 + e)) ≡ s .endpoints e
+          → endpointFrom (λ p. word m (at (Slot.Endpoint p e))) (queueFrom m (256 + e)) ≡ s .endpoints e
       endpoint-here e h =
-          ap (λ (w : Part → ℕ). endpointFrom w (queueFrom m (256 + e))) (fun-ext (λ p. M .slots (ofEndpoint p e) h))
+          ap (λ (w : Part → ℕ). endpointFrom w (queueFrom m (256 + e))) (fun-ext (λ p. M .slots (Slot.Endpoint p e) h))
           ∙ ap (endpointFrom (endpointWord (s .endpoints e))) (queue-back (256 + e) (omega arith) ∙ queues-endpoint s e)
           ∙ endpoint-back (s .endpoints e) (N .endpoints e) (S .queues .queued-once e)
 
       endpoints : (e : ℕ)
-          → pick (leb e 63) (endpointFrom (λ p. word m (at (ofEndpoint p e))) (queueFrom m (256 + e))) missingEndpoint
+          → pick (leb e 63) (endpointFrom (λ p. word m (at (Slot.Endpoint p e))) (queueFrom m (256 + e))) missingEndpoint
           ≡ s .endpoints e
       endpoints e =
-          pick-is 63 (endpointFrom (λ p. word m (at (ofEndpoint p e))) (queueFrom m (256 + e))) missingEndpoint e
+          pick-is 63 (endpointFrom (λ p. word m (at (Slot.Endpoint p e))) (queueFrom m (256 + e))) missingEndpoint e
           (s .endpoints e) (endpoint-here e) (λ h. sym (N .unused-endpoint e h))
 
-      lines : (l : ℕ) → pick (leb l 31) (lineBy (word m (at (ofLine l)))) quiet ≡ s .lines l
+      lines : (l : ℕ) → pick (leb l 31) (lineBy (word m (at (Slot.Line l)))) quiet ≡ s .lines l
       lines l =
-          pick-is 31 (lineBy (word m (at (ofLine l)))) quiet l (s .lines l)
-          (λ h. ap lineBy (M .slots (ofLine l) h) ∙ line-back (s .lines l) (N .line-small l))
+          pick-is 31 (lineBy (word m (at (Slot.Line l)))) quiet l (s .lines l)
+          (λ h. ap lineBy (M .slots (Slot.Line l) h) ∙ line-back (s .lines l) (N .line-small l))
           (λ h. sym (N .unused-line l h))
 
 -- Of a memory that is a sound state's image, it shows the state.

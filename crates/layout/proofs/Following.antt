@@ -11,7 +11,8 @@ use borrow.Author.Tests.{eq-eqb, ne-eqb, le-leb, leb-true}
 use Rattle.machine.specs.Lists.{pick, without, Mem, Distinct}
 use Rattle.machine.proofs.Lists.{Same, same, other, same?, distinct-left, distinct-right, distinct-apart, without-hit}
 use Rattle.machine.proofs.Lists.{without-miss, without-none, mem-without, distinct-without}
-use Rattle.layout.specs.Addresses.{next, linkAt, word, afterAt}
+use Rattle.layout.specs.declared.Link.{Link}
+use Rattle.layout.specs.Addresses.{linkAt, word, afterAt}
 use Rattle.layout.specs.Words.{firstOf, lastOf}
 use Rattle.layout.specs.Shows.{Chain}
 use Rattle.layout.specs.Decode.{followed, since, upTo, between}
@@ -45,10 +46,10 @@ module _ (m : List ℕ) where
   unfolding followed
   walk-small zero x t k = absurd k
   walk-small (suc n) zero t k = absurd k
-  walk-small (suc n) (suc u) t k = go (leb u 255) refl k (walk-small n (word m (linkAt (next u))) t)
+  walk-small (suc n) (suc u) t k = go (leb u 255) refl k (walk-small n (word m (linkAt (Link.Next u))) t)
     where
       rest : List ℕ
-      rest = followed m n (word m (linkAt (next u)))
+      rest = followed m n (word m (linkAt (Link.Next u)))
 
       go : (b : Bool) → leb u 255 ≡ b → Mem t (pick b (u ∷ rest) []) → (Mem t rest → t ≤ 255) → t ≤ 255
       go true e (inl f) ih = omega (arith, leb-true u 255 e)

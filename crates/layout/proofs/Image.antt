@@ -15,8 +15,9 @@ use Rattle.machine.proofs.Lists.{mem?}
 use Rattle.summary.specs.Levels.{wordOf, topOf, bits}
 use Rattle.layout.specs.declared.Field.{Field}
 use Rattle.layout.specs.declared.Part.{Part}
-use Rattle.layout.specs.Addresses.{ofThread, ofEndpoint, ofLine, summary, top, running, unused, next, prev, head}
-use Rattle.layout.specs.Addresses.{tail, Name, slot, link, Valid, address, at, linkAt, nameOf, word}
+use Rattle.layout.specs.declared.Slot.{Slot}
+use Rattle.layout.specs.declared.Link.{Link}
+use Rattle.layout.specs.Addresses.{Name, slot, link, Valid, address, at, linkAt, nameOf, word}
 use Rattle.layout.specs.Words.{firstOf, lastOf, threadWord, endpointWord, afterIn, beforeIn, queuesOf, queueOf}
 use Rattle.layout.specs.Words.{wordAt, tabulate, image, occupiedIn}
 use Rattle.layout.specs.Shows.{Chain, Shows}
@@ -62,12 +63,12 @@ module _ (s : State) (R : Ranges s) (Q : Queues s) where
     -- The links of a thread in a memory that shows the state.
     link-words :
         (t : ℕ) → t ≤ 255
-        → (word m (linkAt (next t)) ≡ afterIn t (queueOf s t)) × (word m (linkAt (prev t)) ≡ beforeIn 0 t (queueOf s t))
+        → (word m (linkAt (Link.Next t)) ≡ afterIn t (queueOf s t)) × (word m (linkAt (Link.Prev t)) ≡ beforeIn 0 t (queueOf s t))
     link-words t h = go (mem? t (queueOf s t))
       where
         go : Mem t (queueOf s t) ⊎ (Mem t (queueOf s t) → ⊥)
-            → (word m (linkAt (next t)) ≡ afterIn t (queueOf s t))
-            × (word m (linkAt (prev t)) ≡ beforeIn 0 t (queueOf s t))
+            → (word m (linkAt (Link.Next t)) ≡ afterIn t (queueOf s t))
+            × (word m (linkAt (Link.Prev t)) ≡ beforeIn 0 t (queueOf s t))
         go (inl k) =
             let w = stands s R Q t k in
             let q = w .queue in
@@ -79,10 +80,10 @@ module _ (s : State) (R : Ranges s) (Q : Queues s) where
 
     shown : (a : Name) → Valid a → word m (address a) ≡ wordAt s a
     shown (slot a) h = S .slots a h
-    shown (link (next t)) h = link-words t h .0
-    shown (link (prev t)) h = link-words t h .1
-    shown (link (head q)) h = chain-first m q 0 (queuesOf s q) (S .links .chains q h)
-    shown (link (tail q)) h = chain-last m q 0 (queuesOf s q) (S .links .chains q h)
+    shown (link (Link.Next t)) h = link-words t h .0
+    shown (link (Link.Prev t)) h = link-words t h .1
+    shown (link (Link.Head q)) h = chain-first m q 0 (queuesOf s q) (S .links .chains q h)
+    shown (link (Link.Tail q)) h = chain-last m q 0 (queuesOf s q) (S .links .chains q h)
 
     -- A memory that shows the state is its image.
     pub shows-image : m ≡ image s
@@ -107,29 +108,29 @@ module _ (s : State) (R : Ranges s) (Q : Queues s) where
     where
       chained : (q : ℕ) → q ≤ 319 → Chain (image s) q 0 (queuesOf s q) 0
       chained q h =
-          chain-of (image s) q 0 (queuesOf s q) (queue-distinct s R Q q h) (image-name s (link (head q)) h)
-          (image-name s (link (tail q)) h)
-          (λ t k. image-name s (link (next t)) (queue-small s R Q q t h k)
+          chain-of (image s) q 0 (queuesOf s q) (queue-distinct s R Q q h) (image-name s (link (Link.Head q)) h)
+          (image-name s (link (Link.Tail q)) h)
+          (λ t k. image-name s (link (Link.Next t)) (queue-small s R Q q t h k)
           ∙ ap (afterIn t) (sym (stands-there s R Q t q h k)))
-          (λ t k. image-name s (link (prev t)) (queue-small s R Q q t h k)
+          (λ t k. image-name s (link (Link.Prev t)) (queue-small s R Q q t h k)
           ∙ ap (beforeIn 0 t) (sym (stands-there s R Q t q h k)))
 
       alone : (t : ℕ) → t ≤ 255 → ((q : ℕ) → q ≤ 319 → Mem t (queuesOf s q) → ⊥)
-          → (word (image s) (linkAt (next t)) ≡ 0) × (word (image s) (linkAt (prev t)) ≡ 0)
+          → (word (image s) (linkAt (Link.Next t)) ≡ 0) × (word (image s) (linkAt (Link.Prev t)) ≡ 0)
       alone t h n =
           let away : Mem t (queueOf s t) → ⊥
           = λ k. let w = stands s R Q t k in n (w .queue) (w .small) (subst (Mem t) (sym (w .here)) k) in (
-            image-name s (link (next t)) h ∙ after-none t (queueOf s t) away,
-            image-name s (link (prev t)) h ∙ before-none 0 t (queueOf s t) away,
+            image-name s (link (Link.Next t)) h ∙ after-none t (queueOf s t) away,
+            image-name s (link (Link.Prev t)) h ∙ before-none 0 t (queueOf s t) away,
           )
 
 -- The summary in the image is that of the levels with a ready thread.
 
-pub image-summary : (s : State) (w : ℕ) → w ≤ 7 → word (image s) (at (summary w)) ≡ wordOf (occupiedIn s) w
-image-summary s w h = image-name s (slot (summary w)) h
+pub image-summary : (s : State) (w : ℕ) → w ≤ 7 → word (image s) (at (Slot.Summary w)) ≡ wordOf (occupiedIn s) w
+image-summary s w h = image-name s (slot (Slot.Summary w)) h
 
-pub image-top : (s : State) → word (image s) (at top) ≡ topOf (occupiedIn s)
-image-top s = image-name s (slot top) tt
+pub image-top : (s : State) → word (image s) (at Slot.Top) ≡ topOf (occupiedIn s)
+image-top s = image-name s (slot Slot.Top) tt
 
 -- The memory with no thread, endpoint or pending line is all 0.
 
@@ -173,17 +174,17 @@ fresh-queues q = go (ltb q 256)
     go false = refl
 
 fresh-word : (a : Name) → wordAt freshState a ≡ 0
-fresh-word (slot (ofThread f t)) = fresh-thread f
-fresh-word (slot (ofEndpoint p e)) = fresh-endpoint p
-fresh-word (slot (ofLine l)) = refl
-fresh-word (slot (summary w)) = word-none w
-fresh-word (slot top) = top-none
-fresh-word (slot running) = refl
-fresh-word (slot (unused i)) = refl
-fresh-word (link (next t)) = unfold queueOf afterIn in refl
-fresh-word (link (prev t)) = unfold queueOf beforeIn in refl
-fresh-word (link (head q)) = ap firstOf (fresh-queues q)
-fresh-word (link (tail q)) = ap (lastOf 0) (fresh-queues q)
+fresh-word (slot (Slot.Thread f t)) = fresh-thread f
+fresh-word (slot (Slot.Endpoint p e)) = fresh-endpoint p
+fresh-word (slot (Slot.Line l)) = refl
+fresh-word (slot (Slot.Summary w)) = word-none w
+fresh-word (slot Slot.Top) = top-none
+fresh-word (slot Slot.Running) = refl
+fresh-word (slot (Slot.Unused i)) = refl
+fresh-word (link (Link.Next t)) = unfold queueOf afterIn in refl
+fresh-word (link (Link.Prev t)) = unfold queueOf beforeIn in refl
+fresh-word (link (Link.Head q)) = ap firstOf (fresh-queues q)
+fresh-word (link (Link.Tail q)) = ap (lastOf 0) (fresh-queues q)
 
 pub image-fresh : image freshState ≡ replicate 4096 0
 image-fresh =

@@ -8,8 +8,9 @@ use lib.ListN.{length, set, length-set}
 use Rattle.machine.specs.Lists.{Mem}
 use Rattle.machine.specs.State.{State}
 use Rattle.machine.proofs.Lists.{Same, same, other, same?}
-use Rattle.layout.specs.Addresses.{Slot, Link, next, prev, head, tail, slot, link, ValidSlot, ValidLink, at}
-use Rattle.layout.specs.Addresses.{linkAt, word, afterAt, beforeAt}
+use Rattle.layout.specs.declared.Slot.{Slot}
+use Rattle.layout.specs.declared.Link.{Link}
+use Rattle.layout.specs.Addresses.{slot, link, ValidSlot, ValidLink, at, linkAt, word, afterAt, beforeAt}
 use Rattle.layout.specs.Words.{content, queuesOf}
 use Rattle.layout.specs.Shows.{Joined, Chain, Linked, Shows}
 use Rattle.layout.proofs.Addresses.{address-injective, at-small, linkAt-small, word-set-same, word-set-other}
@@ -55,12 +56,12 @@ module _ (m : List ℕ) (size : length m ≡ 4096) (v : ℕ) where
 
 module _ (m n : List ℕ) (keep : (k : Link) → ValidLink k → word n (linkAt k) ≡ word m (linkAt k)) where
   after-keep : (q x : ℕ) → q ≤ 319 → x ≤ 256 → word n (afterAt q x) ≡ word m (afterAt q x)
-  after-keep q zero h g = keep (head q) h
-  after-keep q (suc t) h g = keep (next t) (omega arith)
+  after-keep q zero h g = keep (Link.Head q) h
+  after-keep q (suc t) h g = keep (Link.Next t) (omega arith)
 
   before-keep : (q x : ℕ) → q ≤ 319 → x ≤ 256 → word n (beforeAt q x) ≡ word m (beforeAt q x)
-  before-keep q zero h g = keep (tail q) h
-  before-keep q (suc t) h g = keep (prev t) (omega arith)
+  before-keep q zero h g = keep (Link.Tail q) h
+  before-keep q (suc t) h g = keep (Link.Prev t) (omega arith)
 
   joined-keep : (q x y : ℕ) → q ≤ 319 → x ≤ 256 → y ≤ 256 → Joined m q x y → Joined n q x y
   joined-keep q x y h g k j =
@@ -81,7 +82,7 @@ module _ (m n : List ℕ) (keep : (k : Link) → ValidLink k → word n (linkAt 
         small = L .small;
         once = L .once;
         apart = L .apart;
-        bare = λ t h f. (keep (next t) h ∙ L .bare t h f .0, keep (prev t) h ∙ L .bare t h f .1);
+        bare = λ t h f. (keep (Link.Next t) h ∙ L .bare t h f .0, keep (Link.Prev t) h ∙ L .bare t h f .1);
       }
 
 -- Tables with the same queues are linked alike.

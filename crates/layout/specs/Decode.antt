@@ -10,8 +10,9 @@ use Rattle.machine.specs.State.{noted, Abort, live, closing, Endpoint, Line, qu
 use Rattle.machine.specs.State.{missingEndpoint, messageReceived}
 use Rattle.layout.specs.declared.Field.{Field}
 use Rattle.layout.specs.declared.Part.{Part}
-use Rattle.layout.specs.Addresses.{ofThread, ofEndpoint, ofLine, running, next, head, at, linkAt, word}
-use Rattle.layout.specs.Addresses.{endpointQueue}
+use Rattle.layout.specs.declared.Slot.{Slot}
+use Rattle.layout.specs.declared.Link.{Link}
+use Rattle.layout.specs.Addresses.{at, linkAt, word, endpointQueue}
 use Rattle.layout.specs.Words.{placeCode, debtCode}
 
 -- The number if it is at most the one given, otherwise 0.
@@ -88,7 +89,7 @@ threadFrom w = threadBy (placeOf (w Field.Place)) w
 unfoldable pub followed : List ℕ → ℕ → ℕ → List ℕ
 followed m zero x = []
 followed m (suc n) zero = []
-followed m (suc n) (suc t) = pick (leb t 255) (t ∷ followed m n (word m (linkAt (next t)))) []
+followed m (suc n) (suc t) = pick (leb t 255) (t ∷ followed m n (word m (linkAt (Link.Next t)))) []
 
 -- The part of a list from one link on, up to one link, and from the one to the other.
 unfoldable pub since : ℕ → List ℕ → List ℕ
@@ -122,17 +123,17 @@ endpointFrom w l = endpointBy (w Part.Status) w l
 
 -- The queue whose head stands at an address.
 abbrev pub queueFrom : List ℕ → ℕ → List ℕ
-queueFrom m q = followed m 256 (word m (linkAt (head q)))
+queueFrom m q = followed m 256 (word m (linkAt (Link.Head q)))
 
 -- Past the last index stand the empty entries.
 unfoldable pub decode : List ℕ → State
 decode m =
     record {
-      threads = λ t. pick (leb t 255) (threadFrom (λ f. word m (at (ofThread f t)))) absentThread;
-      runs = linked (word m (at running));
+      threads = λ t. pick (leb t 255) (threadFrom (λ f. word m (at (Slot.Thread f t)))) absentThread;
+      runs = linked (word m (at Slot.Running));
       levels = λ p. pick (leb p 255) (queueFrom m p) [];
       endpoints = λ e.
-          pick (leb e 63) (endpointFrom (λ p. word m (at (ofEndpoint p e))) (queueFrom m (endpointQueue e)))
+          pick (leb e 63) (endpointFrom (λ p. word m (at (Slot.Endpoint p e))) (queueFrom m (endpointQueue e)))
           missingEndpoint;
-      lines = λ l. pick (leb l 31) (lineBy (word m (at (ofLine l)))) quiet;
+      lines = λ l. pick (leb l 31) (lineBy (word m (at (Slot.Line l)))) quiet;
     }

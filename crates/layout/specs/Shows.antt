@@ -5,7 +5,9 @@ use mathlib.Core.List.{List, [], _∷_}
 use lib.ListN.{length}
 use Rattle.machine.specs.Lists.{Mem, Distinct}
 use Rattle.machine.specs.State.{State}
-use Rattle.layout.specs.Addresses.{tableWords, Slot, ValidSlot, at, next, prev, linkAt, word, afterAt, beforeAt}
+use Rattle.layout.specs.declared.Slot.{Slot}
+use Rattle.layout.specs.declared.Link.{Link}
+use Rattle.layout.specs.Addresses.{tableWords, ValidSlot, at, linkAt, word, afterAt, beforeAt}
 use Rattle.layout.specs.Words.{content, queuesOf}
 
 -- Links x and y of queue q are joined both ways: y comes after x, and x before y.
@@ -27,7 +29,7 @@ pub record Linked (m : List ℕ) (queues : ℕ → List ℕ) : Type 0 where
   pub apart : (q r t : ℕ) → q ≤ 319 → r ≤ 319 → Mem t (queues q) → Mem t (queues r) → q ≡ r
   pub bare :
       (t : ℕ) → t ≤ 255 → ((q : ℕ) → q ≤ 319 → Mem t (queues q) → ⊥)
-      → (word m (linkAt (next t)) ≡ 0) × (word m (linkAt (prev t)) ≡ 0)
+      → (word m (linkAt (Link.Next t)) ≡ 0) × (word m (linkAt (Link.Prev t)) ≡ 0)
 
 pub record Shows (m : List ℕ) (s : State) : Type 0 where
   pub size : length m ≡ tableWords

@@ -12,8 +12,9 @@ use Rattle.machine.specs.Endpoints.{ownerOf, pendingOf}
 use Rattle.summary.specs.Levels.{wordOf, topOf}
 use Rattle.layout.specs.declared.Field.{Field}
 use Rattle.layout.specs.declared.Part.{Part}
-use Rattle.layout.specs.Addresses.{Slot, ofThread, ofEndpoint, ofLine, summary, top, running, unused, Link, next}
-use Rattle.layout.specs.Addresses.{prev, head, tail, Name, slot, link, nameOf, tableWords, endpointQueue}
+use Rattle.layout.specs.declared.Slot.{Slot}
+use Rattle.layout.specs.declared.Link.{Link}
+use Rattle.layout.specs.Addresses.{Name, slot, link, nameOf, tableWords, endpointQueue}
 
 -- None is 0, and thread t is t + 1.
 abbrev pub linkOf : Option ℕ → ℕ
@@ -101,13 +102,13 @@ occupiedIn s p = occupied (s .levels p)
 
 -- What a word that is no link holds.
 abbrev pub content : State → Slot → ℕ
-content s (ofThread f t) = threadWord (s .threads t) f
-content s (ofEndpoint p e) = endpointWord (s .endpoints e) p
-content s (ofLine l) = lineCode (s .lines l)
-content s (summary w) = wordOf (occupiedIn s) w
-content s top = topOf (occupiedIn s)
-content s running = linkOf (s .runs)
-content s (unused i) = 0
+content s (Slot.Thread f t) = threadWord (s .threads t) f
+content s (Slot.Endpoint p e) = endpointWord (s .endpoints e) p
+content s (Slot.Line l) = lineCode (s .lines l)
+content s (Slot.Summary w) = wordOf (occupiedIn s) w
+content s Slot.Top = topOf (occupiedIn s)
+content s Slot.Running = linkOf (s .runs)
+content s (Slot.Unused i) = 0
 
 -- The queues of a state: those of the levels, then those of the endpoints.
 unfoldable pub queuesOf : State → ℕ → List ℕ
@@ -126,10 +127,10 @@ queueOf s t = queueAt s (s .threads t .place) (s .threads t .priority)
 
 -- What a link holds; a thread in no queue has links 0.
 abbrev pub linkWord : State → Link → ℕ
-linkWord s (next t) = afterIn t (queueOf s t)
-linkWord s (prev t) = beforeIn 0 t (queueOf s t)
-linkWord s (head q) = firstOf (queuesOf s q)
-linkWord s (tail q) = lastOf 0 (queuesOf s q)
+linkWord s (Link.Next t) = afterIn t (queueOf s t)
+linkWord s (Link.Prev t) = beforeIn 0 t (queueOf s t)
+linkWord s (Link.Head q) = firstOf (queuesOf s q)
+linkWord s (Link.Tail q) = lastOf 0 (queuesOf s q)
 
 abbrev pub wordAt : State → Name → ℕ
 wordAt s (slot a) = content s a

@@ -25,3 +25,24 @@ pub enum Part {
     Cursor,
     End,
 }
+
+// A word that is no link.
+pub enum Slot {
+    Thread(Field, usize),
+    Endpoint(Part, usize),
+    Line(usize),
+    // A word of the summary, and its top word.
+    Summary(usize),
+    Top,
+    // The thread that runs.
+    Running,
+    Unused(usize),
+}
+
+// A link: of a thread, to the next and to the one before it in its queue; of a queue, to its first and to its last.
+pub enum Link {
+    Next(usize),
+    Prev(usize),
+    Head(usize),
+    Tail(usize),
+}

@@ -14,7 +14,8 @@ use Rattle.machine.specs.Lists.{pick}
 use Rattle.machine.specs.State.{State, freshState}
 use Rattle.machine.specs.Results.{plain}
 use Rattle.machine.specs.Machine.{step}
-use Rattle.layout.specs.Addresses.{tableWords, scratchWords, word, at, running}
+use Rattle.layout.specs.declared.Slot.{Slot}
+use Rattle.layout.specs.Addresses.{tableWords, scratchWords, word, at}
 use Rattle.layout.specs.Words.{image}
 use Rattle.soundness.specs.Tables.{stateOf}
 
@@ -87,4 +88,4 @@ asLink w = pick (leb w 256) w 0
 
 -- Who runs, whatever the words are; nobody in tables not of 4,096 words.
 unfoldable pub runnerIn : List ℕ → Runner
-runnerIn m = pick (eqb (length m) tableWords) (runnerOf (asLink (word m (at running)))) Nobody
+runnerIn m = pick (eqb (length m) tableWords) (runnerOf (asLink (word m (at Slot.Running)))) Nobody

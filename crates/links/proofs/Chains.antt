@@ -5,7 +5,8 @@ use mathlib.Core.Logic.{inl, inr}
 use mathlib.Core.List.{List, [], _∷_, _++_, append-nil}
 use native.Mathlib.Omega.{arith}
 use Rattle.machine.specs.Lists.{Mem, Distinct}
-use Rattle.layout.specs.Addresses.{Link, next, prev, head, tail, ValidLink, linkAt, word, afterAt, beforeAt}
+use Rattle.layout.specs.declared.Link.{Link}
+use Rattle.layout.specs.Addresses.{ValidLink, linkAt, word, afterAt, beforeAt}
 use Rattle.layout.specs.Words.{firstOf, lastOf}
 use Rattle.layout.specs.Shows.{Joined, Chain}
 use Rattle.layout.proofs.Following.{last-in}
@@ -17,9 +18,9 @@ use Rattle.links.proofs.Splits.{Outside}
 -- A chain whose words are the same.
 pub chain-frame :
     (m n : List ℕ) (q x : ℕ) (l : List ℕ) → word n (afterAt q x) ≡ word m (afterAt q x)
-    → ((u : ℕ) → Mem u l → word n (linkAt (next u)) ≡ word m (linkAt (next u)))
-    → ((u : ℕ) → Mem u l → word n (linkAt (prev u)) ≡ word m (linkAt (prev u)))
-    → word n (linkAt (tail q)) ≡ word m (linkAt (tail q)) → Chain m q x l 0 → Chain n q x l 0
+    → ((u : ℕ) → Mem u l → word n (linkAt (Link.Next u)) ≡ word m (linkAt (Link.Next u)))
+    → ((u : ℕ) → Mem u l → word n (linkAt (Link.Prev u)) ≡ word m (linkAt (Link.Prev u)))
+    → word n (linkAt (Link.Tail q)) ≡ word m (linkAt (Link.Tail q)) → Chain m q x l 0 → Chain n q x l 0
 chain-frame m n q x [] a ns ps e c = record { after = a ∙ c .after; before = e ∙ c .before }
 chain-frame m n q x (u ∷ l) a ns ps e c = (
   record { after = a ∙ c .0 .after; before = ps u (inl refl) ∙ c .0 .before },
@@ -40,29 +41,29 @@ chain-behind m q x t (u ∷ a) b c = chain-behind m q (suc u) t a b (c .1)
 -- The words of n are those of m, but for the links after p and before w of queue q and the links of thread t.
 pub record Around (m n : List ℕ) (q p w t : ℕ) : Type 0 where
   pub others :
-      (k : Link) → ValidLink k → (k ≡ afterLink q p → ⊥) → (k ≡ beforeLink q w → ⊥) → (k ≡ next t → ⊥)
-      → (k ≡ prev t → ⊥) → word n (linkAt k) ≡ word m (linkAt k)
+      (k : Link) → ValidLink k → (k ≡ afterLink q p → ⊥) → (k ≡ beforeLink q w → ⊥) → (k ≡ Link.Next t → ⊥)
+      → (k ≡ Link.Prev t → ⊥) → word n (linkAt k) ≡ word m (linkAt k)
 
 module _ {m n : List ℕ} {q p w t : ℕ} (A : Around m n q p w t) where
   pub nexts :
-      (u : ℕ) → u ≤ 255 → (u ≡ t → ⊥) → (suc u ≡ p → ⊥) → word n (linkAt (next u)) ≡ word m (linkAt (next u))
+      (u : ℕ) → u ≤ 255 → (u ≡ t → ⊥) → (suc u ≡ p → ⊥) → word n (linkAt (Link.Next u)) ≡ word m (linkAt (Link.Next u))
   nexts u h a b =
-      A .others (next u) h (λ e. b (next-after u q p e)) (next-before u q w) (λ e. a (next-next u t e)) (next-prev u t)
+      A .others (Link.Next u) h (λ e. b (next-after u q p e)) (next-before u q w) (λ e. a (next-next u t e)) (next-prev u t)
 
   pub prevs :
-      (u : ℕ) → u ≤ 255 → (u ≡ t → ⊥) → (suc u ≡ w → ⊥) → word n (linkAt (prev u)) ≡ word m (linkAt (prev u))
+      (u : ℕ) → u ≤ 255 → (u ≡ t → ⊥) → (suc u ≡ w → ⊥) → word n (linkAt (Link.Prev u)) ≡ word m (linkAt (Link.Prev u))
   prevs u h a b =
-      A .others (prev u) h (prev-after u q p) (λ e. b (prev-before u q w e)) (λ e. next-prev t u (sym e))
+      A .others (Link.Prev u) h (prev-after u q p) (λ e. b (prev-before u q w e)) (λ e. next-prev t u (sym e))
       (λ e. a (prev-prev u t e))
 
-  pub heads : (r : ℕ) → r ≤ 319 → (r ≡ q → p ≡ 0 → ⊥) → word n (linkAt (head r)) ≡ word m (linkAt (head r))
+  pub heads : (r : ℕ) → r ≤ 319 → (r ≡ q → p ≡ 0 → ⊥) → word n (linkAt (Link.Head r)) ≡ word m (linkAt (Link.Head r))
   heads r h a =
-      A .others (head r) h (λ e. a (head-after r q p e .0) (head-after r q p e .1)) (head-before r q w)
+      A .others (Link.Head r) h (λ e. a (head-after r q p e .0) (head-after r q p e .1)) (head-before r q w)
       (λ e. next-head t r (sym e)) (λ e. prev-head t r (sym e))
 
-  pub tails : (r : ℕ) → r ≤ 319 → (r ≡ q → w ≡ 0 → ⊥) → word n (linkAt (tail r)) ≡ word m (linkAt (tail r))
+  pub tails : (r : ℕ) → r ≤ 319 → (r ≡ q → w ≡ 0 → ⊥) → word n (linkAt (Link.Tail r)) ≡ word m (linkAt (Link.Tail r))
   tails r h a =
-      A .others (tail r) h (tail-after r q p) (λ e. a (tail-before r q w e .0) (tail-before r q w e .1))
+      A .others (Link.Tail r) h (tail-after r q p) (λ e. a (tail-before r q w e .0) (tail-before r q w e .1))
       (λ e. next-tail t r (sym e)) (λ e. prev-tail t r (sym e))
 
   after-same :
@@ -92,8 +93,8 @@ module _ {m n : List ℕ} {q p w t : ℕ} (A : Around m n q p w t) where
   -- t joins a chain at its end.
   pub chain-join :
       (l : List ℕ) → q ≤ 319 → w ≡ 0 → lastOf 0 l ≡ p → Distinct l → ((u : ℕ) → Mem u l → (u ≤ 255) × (u ≡ t → ⊥))
-      → word n (afterAt q p) ≡ suc t → word n (linkAt (prev t)) ≡ p → word n (linkAt (next t)) ≡ 0
-      → word n (linkAt (tail q)) ≡ suc t → Chain m q 0 l 0 → Chain n q 0 (l ++ (t ∷ [])) 0
+      → word n (afterAt q p) ≡ suc t → word n (linkAt (Link.Prev t)) ≡ p → word n (linkAt (Link.Next t)) ≡ 0
+      → word n (linkAt (Link.Tail q)) ≡ suc t → Chain m q 0 l 0 → Chain n q 0 (l ++ (t ∷ [])) 0
   chain-join l h z e d k fa fb fn ft c =
       prefix 0 l [] (t ∷ []) h (omega arith) (λ y. omega arith) (λ u y. absurd (omega arith)) e d
       (λ u j. (k u j .0, k u j .1, λ y. omega arith))

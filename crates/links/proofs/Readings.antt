@@ -4,7 +4,8 @@ use mathlib.Core.Path.{_≡_, sym, _∙_, ap, subst}
 use mathlib.Core.Logic.{inr}
 use mathlib.Core.List.{List, _∷_, _++_}
 use Rattle.machine.proofs.Lists.{mem-left, mem-right}
-use Rattle.layout.specs.Addresses.{next, prev, head, tail, linkAt, word}
+use Rattle.layout.specs.declared.Link.{Link}
+use Rattle.layout.specs.Addresses.{linkAt, word}
 use Rattle.layout.specs.Words.{firstOf, lastOf}
 use Rattle.layout.specs.Shows.{Chain, Linked}
 use Rattle.layout.proofs.Chains.{chain-first, chain-last}
@@ -16,13 +17,13 @@ use Rattle.links.proofs.Chains.{chain-joint, chain-behind}
 module _ {m : List ℕ} {queues : ℕ → List ℕ} (L : Linked m queues) (q : ℕ) (h : q ≤ 319) where
   -- The first and the last of a queue.
 
-  pub head-word : word m (linkAt (head q)) ≡ firstOf (queues q)
+  pub head-word : word m (linkAt (Link.Head q)) ≡ firstOf (queues q)
   head-word = chain-first m q 0 (queues q) (L .chains q h)
 
-  pub tail-word : word m (linkAt (tail q)) ≡ lastOf 0 (queues q)
+  pub tail-word : word m (linkAt (Link.Tail q)) ≡ lastOf 0 (queues q)
   tail-word = chain-last m q 0 (queues q) (L .chains q h)
 
-  pub tail-of : Of (queues q) (word m (linkAt (tail q)))
+  pub tail-of : Of (queues q) (word m (linkAt (Link.Tail q)))
   tail-of = subst (λ (x : ℕ). Of (queues q) x) (sym tail-word) (last-of 0 (queues q) (queues q) tt (λ _ k. k))
 
   -- The link of a thread of the queue, or 0, is at most 256.
@@ -34,37 +35,37 @@ module _ {m : List ℕ} {queues : ℕ → List ℕ} (L : Linked m queues) (q : �
     pub chained : Chain m q 0 (a ++ (t ∷ b)) 0
     chained = rw e at (L .chains q h)
 
-    pub next-split : word m (linkAt (next t)) ≡ firstOf b
+    pub next-split : word m (linkAt (Link.Next t)) ≡ firstOf b
     next-split = chain-first m q (suc t) b (chain-behind m q 0 t a b chained)
 
-    pub prev-split : word m (linkAt (prev t)) ≡ lastOf 0 a
+    pub prev-split : word m (linkAt (Link.Prev t)) ≡ lastOf 0 a
     prev-split = chain-joint m q 0 t a b chained .before
 
-    pub next-of : Of b (word m (linkAt (next t)))
+    pub next-of : Of b (word m (linkAt (Link.Next t)))
     next-of = subst (λ (x : ℕ). Of b x) (sym next-split) (first-of b b (λ _ k. k))
 
-    pub prev-of : Of a (word m (linkAt (prev t)))
+    pub prev-of : Of a (word m (linkAt (Link.Prev t)))
     prev-of = subst (λ (x : ℕ). Of a x) (sym prev-split) (last-of 0 a a tt (λ _ k. k))
 
-    pub next-small : word m (linkAt (next t)) ≤ 256
+    pub next-small : word m (linkAt (Link.Next t)) ≤ 256
     next-small =
-        of-small b (word m (linkAt (next t))) (λ u k. L .small q u h (rw e (mem-right u a (t ∷ b) (inr k)))) next-of
+        of-small b (word m (linkAt (Link.Next t))) (λ u k. L .small q u h (rw e (mem-right u a (t ∷ b) (inr k)))) next-of
 
-    pub prev-small : word m (linkAt (prev t)) ≤ 256
-    prev-small = of-small a (word m (linkAt (prev t))) (λ u k. L .small q u h (rw e (mem-left u a (t ∷ b) k))) prev-of
+    pub prev-small : word m (linkAt (Link.Prev t)) ≤ 256
+    prev-small = of-small a (word m (linkAt (Link.Prev t))) (λ u k. L .small q u h (rw e (mem-left u a (t ∷ b) k))) prev-of
 
 -- The links as the functions read them, at the address that an address function gave.
 
-pub reads-first : {m : List ℕ} {q r i : ℕ} → q ≤ 319 → Address i (linkAt (head q)) → r ≡ word m i → First m q r
+pub reads-first : {m : List ℕ} {q r i : ℕ} → q ≤ 319 → Address i (linkAt (Link.Head q)) → r ≡ word m i → First m q r
 reads-first {m} {q} h a e = record { first = λ queues L. e ∙ ap (word m) (a .is) ∙ head-word L q h }
 
-pub reads-last : {m : List ℕ} {q r i : ℕ} → q ≤ 319 → Address i (linkAt (tail q)) → r ≡ word m i → Last m q r
+pub reads-last : {m : List ℕ} {q r i : ℕ} → q ≤ 319 → Address i (linkAt (Link.Tail q)) → r ≡ word m i → Last m q r
 reads-last {m} {q} h a e = record { last = λ queues L. e ∙ ap (word m) (a .is) ∙ tail-word L q h }
 
-pub reads-next : {m : List ℕ} {t r i : ℕ} → Address i (linkAt (next t)) → r ≡ word m i → Next m t r
+pub reads-next : {m : List ℕ} {t r i : ℕ} → Address i (linkAt (Link.Next t)) → r ≡ word m i → Next m t r
 reads-next {m} {t} a e =
     record { next = λ queues L q before behind g s. e ∙ ap (word m) (a .is) ∙ next-split L q g t before behind s }
 
-pub reads-prev : {m : List ℕ} {t r i : ℕ} → Address i (linkAt (prev t)) → r ≡ word m i → Prev m t r
+pub reads-prev : {m : List ℕ} {t r i : ℕ} → Address i (linkAt (Link.Prev t)) → r ≡ word m i → Prev m t r
 reads-prev {m} {t} a e =
     record { prev = λ queues L q before behind g s. e ∙ ap (word m) (a .is) ∙ prev-split L q g t before behind s }

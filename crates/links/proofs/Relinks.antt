@@ -6,7 +6,8 @@ use mathlib.Core.List.{List, [], _∷_, _++_}
 use Rattle.machine.specs.Lists.{Mem, Distinct, put, without}
 use Rattle.machine.proofs.Lists.{Same, same, other, same?, put-same, put-all, put-other, mem-left, mem-right, mem-last}
 use Rattle.machine.proofs.Lists.{mem-keep, distinct-left, distinct-right, distinct-apart}
-use Rattle.layout.specs.Addresses.{next, prev, tail, linkAt, word, afterAt, beforeAt}
+use Rattle.layout.specs.declared.Link.{Link}
+use Rattle.layout.specs.Addresses.{linkAt, word, afterAt, beforeAt}
 use Rattle.layout.specs.Words.{firstOf, lastOf}
 use Rattle.layout.specs.Shows.{Chain, Linked}
 use Rattle.links.specs.Links.{Free}
@@ -33,7 +34,7 @@ module _ {m n : List ℕ} {q p w t : ℕ} {queues : ℕ → List ℕ} (A : Aroun
   pub relinked :
       (l : List ℕ) → NeatQueues (put queues q l) → Chain n q 0 l 0
       → ((u : ℕ) → (u ≡ t → ⊥) → Mem u (queues q) → Mem u l)
-      → ((Mem t l → ⊥) → (word n (linkAt (next t)) ≡ 0) × (word n (linkAt (prev t)) ≡ 0))
+      → ((Mem t l → ⊥) → (word n (linkAt (Link.Next t)) ≡ 0) × (word n (linkAt (Link.Prev t)) ≡ 0))
       → Linked n (put queues q l)
   relinked l N c stay bare-t =
       record {
@@ -55,9 +56,9 @@ module _ {m n : List ℕ} {q p w t : ℕ} {queues : ℕ → List ℕ} (A : Aroun
           at-r (other o _) = free r g (rw (put-other queues q r l o) k)
 
       go : (u : ℕ) → u ≤ 255 → Free (put queues q l) u → Same u t
-          → (word n (linkAt (next u)) ≡ 0) × (word n (linkAt (prev u)) ≡ 0)
+          → (word n (linkAt (Link.Next u)) ≡ 0) × (word n (linkAt (Link.Prev u)) ≡ 0)
       go u g free (same e _) =
-          subst (λ (v : ℕ). (word n (linkAt (next v)) ≡ 0) × (word n (linkAt (prev v)) ≡ 0)) (sym e)
+          subst (λ (v : ℕ). (word n (linkAt (Link.Next v)) ≡ 0) × (word n (linkAt (Link.Prev v)) ≡ 0)) (sym e)
           (bare-t (λ k. free q h (rw (put-same queues q l) (subst (λ (v : ℕ). Mem v l) (sym e) k))))
       go u g free (other d _) =
           let f = back u free d in
@@ -69,9 +70,9 @@ module _ {m n : List ℕ} {q p w t : ℕ} {queues : ℕ → List ℕ} (A : Aroun
 -- t joins the tail of queue q: the link after the last one, the link back from t and the tail are stored.
 pub linked-join :
     {m n : List ℕ} {q p t : ℕ} (queues : ℕ → List ℕ) → Around m n q p 0 t → Linked m queues
-    → Free queues t → q ≤ 319 → t ≤ 255 → word m (linkAt (tail q)) ≡ p → word n (afterAt q p) ≡ suc t
-    → word n (linkAt (prev t)) ≡ p → word n (linkAt (next t)) ≡ word m (linkAt (next t))
-    → word n (linkAt (tail q)) ≡ suc t → Linked n (put queues q (queues q ++ (t ∷ [])))
+    → Free queues t → q ≤ 319 → t ≤ 255 → word m (linkAt (Link.Tail q)) ≡ p → word n (afterAt q p) ≡ suc t
+    → word n (linkAt (Link.Prev t)) ≡ p → word n (linkAt (Link.Next t)) ≡ word m (linkAt (Link.Next t))
+    → word n (linkAt (Link.Tail q)) ≡ suc t → Linked n (put queues q (queues q ++ (t ∷ [])))
 linked-join {m} {n} {q} {p} {t} queues A L free h g e fa fb fn ft =
     let l = queues q in
     let z : lastOf 0 l ≡ p = sym (tail-word L q h) ∙ e in
@@ -85,9 +86,9 @@ linked-join {m} {n} {q} {p} {t} queues A L free h g e fa fb fn ft =
 -- t leaves queue q: its neighbours are joined, and its own links are 0.
 pub linked-leave :
     {m n : List ℕ} {q p w t : ℕ} (queues : ℕ → List ℕ) → Around m n q p w t → Linked m queues
-    → Mem t (queues q) → q ≤ 319 → word m (linkAt (prev t)) ≡ p → word m (linkAt (next t)) ≡ w
+    → Mem t (queues q) → q ≤ 319 → word m (linkAt (Link.Prev t)) ≡ p → word m (linkAt (Link.Next t)) ≡ w
     → word n (afterAt q p) ≡ w → word n (beforeAt q w) ≡ p
-    → (word n (linkAt (next t)) ≡ 0) × (word n (linkAt (prev t)) ≡ 0) → Linked n (put queues q (without t (queues q)))
+    → (word n (linkAt (Link.Next t)) ≡ 0) × (word n (linkAt (Link.Prev t)) ≡ 0) → Linked n (put queues q (without t (queues q)))
 linked-leave {m} {n} {q} {p} {w} {t} queues A L k h ep ew fa fb bare-t = go (split t (queues q) k)
   where
     go : Split t (queues q) → Linked n (put queues q (without t (queues q)))

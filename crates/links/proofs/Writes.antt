@@ -3,7 +3,9 @@ use Prim.Native.Nat.{ℕ}
 use mathlib.Core.Path.{_≡_, sym, _∙_, ap, subst}
 use mathlib.Core.List.{List}
 use lib.ListN.{length, set, length-set}
-use Rattle.layout.specs.Addresses.{Slot, Link, ValidSlot, ValidLink, at, linkAt, word}
+use Rattle.layout.specs.declared.Slot.{Slot}
+use Rattle.layout.specs.declared.Link.{Link}
+use Rattle.layout.specs.Addresses.{ValidSlot, ValidLink, at, linkAt, word}
 use Rattle.layout.proofs.Stores.{link-same, link-other, link-slot}
 use Rattle.links.specs.Links.{OnlyLinks}
 

@@ -5,6 +5,7 @@ ghost use Prim.Native.Nat.{_≤_};
 ghost use lib.ListN.{length};
 ghost use Rattle.layout.specs.Addresses.{tableWords};
 ghost use Rattle.links.specs.Links.{Joinable, JoinsQueue, Leavable, LeavesQueue, First, Last, Next, Prev};
+use layout::Link;
 use layout::codes::NOBODY;
 use layout::wide;
 
@@ -13,11 +14,11 @@ pub fn push_tail(tables: &mut [u32], q: usize, t: usize)
     requires { ⌜ Joinable (now tables) q t ⌝ }
     ensures { λ _. ⌜ JoinsQueue (now (tables .entry)) q t (now (tables .exit)) ⌝ }
 {
-    let last = words::get(tables, words::tail_at(q));
+    let last = words::get_link(tables, Link::Tail(q));
     let link = (t + wide::LINK) as u32;
-    words::put(tables, words::after_at(q, last as usize), link);
-    words::put(tables, words::prev_at(t), last);
-    words::put(tables, words::tail_at(q), link);
+    words::put_after(tables, q, last as usize, link);
+    words::put_link(tables, Link::Prev(t), last);
+    words::put_link(tables, Link::Tail(q), link);
 }
 
 // Thread t leaves queue q, in which it stands.
@@ -25,12 +26,12 @@ pub fn unlink(tables: &mut [u32], q: usize, t: usize)
     requires { ⌜ Leavable (now tables) q t ⌝ }
     ensures { λ _. ⌜ LeavesQueue (now (tables .entry)) q t (now (tables .exit)) ⌝ }
 {
-    let next = words::get(tables, words::next_at(t));
-    let prev = words::get(tables, words::prev_at(t));
-    words::put(tables, words::after_at(q, prev as usize), next);
-    words::put(tables, words::before_at(q, next as usize), prev);
-    words::put(tables, words::next_at(t), NOBODY);
-    words::put(tables, words::prev_at(t), NOBODY);
+    let next = words::get_link(tables, Link::Next(t));
+    let prev = words::get_link(tables, Link::Prev(t));
+    words::put_after(tables, q, prev as usize, next);
+    words::put_before(tables, q, next as usize, prev);
+    words::put_link(tables, Link::Next(t), NOBODY);
+    words::put_link(tables, Link::Prev(t), NOBODY);
 }
 
 // The link to the first of queue q: thread t is t + 1, and none is 0.
@@ -38,7 +39,7 @@ pub fn first(tables: &[u32], q: usize) -> u32
     requires { ⌜ (length (now tables) ≡ tableWords) × (q ≤ 319) ⌝ }
     ensures { λ r. ⌜ First (now (tables .entry)) q r ⌝ }
 {
-    words::get(tables, words::head_at(q))
+    words::get_link(tables, Link::Head(q))
 }
 
 // The link to the last of queue q, 0 for none.
@@ -46,7 +47,7 @@ pub fn last(tables: &[u32], q: usize) -> u32
     requires { ⌜ (length (now tables) ≡ tableWords) × (q ≤ 319) ⌝ }
     ensures { λ r. ⌜ Last (now (tables .entry)) q r ⌝ }
 {
-    words::get(tables, words::tail_at(q))
+    words::get_link(tables, Link::Tail(q))
 }
 
 // The link to the one behind thread t in its queue.
@@ -54,7 +55,7 @@ pub fn next(tables: &[u32], t: usize) -> u32
     requires { ⌜ (length (now tables) ≡ tableWords) × (t ≤ 255) ⌝ }
     ensures { λ r. ⌜ Next (now (tables .entry)) t r ⌝ }
 {
-    words::get(tables, words::next_at(t))
+    words::get_link(tables, Link::Next(t))
 }
 
 // The link to the one before thread t in its queue.
@@ -62,5 +63,5 @@ pub fn prev(tables: &[u32], t: usize) -> u32
     requires { ⌜ (length (now tables) ≡ tableWords) × (t ≤ 255) ⌝ }
     ensures { λ r. ⌜ Prev (now (tables .entry)) t r ⌝ }
 {
-    words::get(tables, words::prev_at(t))
+    words::get_link(tables, Link::Prev(t))
 }

@@ -12,8 +12,8 @@ use Rattle.machine.specs.State.{State, Endpoint, setLevel, setEndpoint}
 use Rattle.machine.specs.Scheduling.{occupied}
 use Rattle.machine.proofs.Lists.{Same, same, other, same?, put-same, put-other}
 use Rattle.layout.specs.declared.Part.{Part}
-use Rattle.layout.specs.Addresses.{Slot, ofThread, ofEndpoint}
-use Rattle.layout.specs.Addresses.{ofLine, summary, top, running, unused, ValidSlot, at, word}
+use Rattle.layout.specs.declared.Slot.{Slot}
+use Rattle.layout.specs.Addresses.{ValidSlot, at, word}
 use Rattle.layout.specs.Words.{endpointWord, content, queuesOf, occupiedIn}
 use Rattle.layout.specs.Shows.{Linked, Shows}
 use Rattle.layout.proofs.Stores.{linked-keep, linked-same}
@@ -72,13 +72,13 @@ module _ {m : List ℕ} {s : State} (p : ℕ) (l : List ℕ) (h : p ≤ 255) (M 
       (n : List ℕ) → ((a : Slot) → ValidSlot a → NotSummary a → word n (at a) ≡ word m (at a))
       → SummaryWords n (occupiedIn (setLevel p l s)) → (a : Slot) → ValidSlot a
       → word n (at a) ≡ content (setLevel p l s) a
-  level-slots n k w (ofThread f t) v = k (ofThread f t) v tt ∙ M .slots (ofThread f t) v
-  level-slots n k w (ofEndpoint f e) v = k (ofEndpoint f e) v tt ∙ M .slots (ofEndpoint f e) v
-  level-slots n k w (ofLine j) v = k (ofLine j) v tt ∙ M .slots (ofLine j) v
-  level-slots n k w (summary j) v = w .words j v
-  level-slots n k w top v = w .top
-  level-slots n k w running v = k running v tt ∙ M .slots running v
-  level-slots n k w (unused i) v = k (unused i) v tt ∙ M .slots (unused i) v
+  level-slots n k w (Slot.Thread f t) v = k (Slot.Thread f t) v tt ∙ M .slots (Slot.Thread f t) v
+  level-slots n k w (Slot.Endpoint f e) v = k (Slot.Endpoint f e) v tt ∙ M .slots (Slot.Endpoint f e) v
+  level-slots n k w (Slot.Line j) v = k (Slot.Line j) v tt ∙ M .slots (Slot.Line j) v
+  level-slots n k w (Slot.Summary j) v = w .words j v
+  level-slots n k w Slot.Top v = w .top
+  level-slots n k w Slot.Running v = k Slot.Running v tt ∙ M .slots Slot.Running v
+  level-slots n k w (Slot.Unused i) v = k (Slot.Unused i) v tt ∙ M .slots (Slot.Unused i) v
 
   level-shows :
       (n : List ℕ) → length n ≡ length m → Linked n (put (queuesOf s) p l)
@@ -95,8 +95,8 @@ module _ {m : List ℕ} {s : State} (p : ℕ) (l : List ℕ) (h : p ≤ 255) (M 
   kept-words : (n : List ℕ) → OnlyLinks m n → SummaryWords n (occupiedIn s)
   kept-words n K =
       record {
-        words = λ w v. K .slots (summary w) v ∙ M .slots (summary w) v;
-        top = K .slots top tt ∙ M .slots top tt;
+        words = λ w v. K .slots (Slot.Summary w) v ∙ M .slots (Slot.Summary w) v;
+        top = K .slots Slot.Top tt ∙ M .slots Slot.Top tt;
       }
 
   -- The mark of the level says whether l is empty.
@@ -144,13 +144,13 @@ module _ (s : State) (e : ℕ) (l : List ℕ) where
   endpoint-words f u (other d _) = rw (put-other (s .endpoints) e u _ d)
 
   waited-content : (a : Slot) → content (waited e l s) a ≡ content s a
-  waited-content (ofThread f t) = refl
-  waited-content (ofEndpoint f u) = endpoint-words f u (same? u e)
-  waited-content (ofLine j) = refl
-  waited-content (summary j) = refl
-  waited-content top = refl
-  waited-content running = refl
-  waited-content (unused i) = refl
+  waited-content (Slot.Thread f t) = refl
+  waited-content (Slot.Endpoint f u) = endpoint-words f u (same? u e)
+  waited-content (Slot.Line j) = refl
+  waited-content (Slot.Summary j) = refl
+  waited-content Slot.Top = refl
+  waited-content Slot.Running = refl
+  waited-content (Slot.Unused i) = refl
 
   pub waiters-linked :
       {m n : List ℕ} → e ≤ 63 → Shows m s → OnlyLinks m n → Linked n (put (queuesOf s) (256 + e) l)

@@ -7,7 +7,8 @@ use native.Mathlib.Omega.{arith}
 use lib.Dec.{eqb, leb}
 use lib.ListN.{length}
 use borrow.Author.Tests.{le-leb, lt-leb}
-use Rattle.layout.specs.Addresses.{word, linkAt, head, tail, next, prev}
+use Rattle.layout.specs.declared.Link.{Link}
+use Rattle.layout.specs.Addresses.{word, linkAt}
 use Rattle.soundness.specs.Checks.{readyTest, levelFrom, levelTest, metFrom, met}
 use Rattle.sound_queues.specs.Met.{Meets, Follows}
 use Rattle.sound_queues.proofs.Walking.{and-right, MetSoFar, passed-none, passed-more, passed-all, met-more}
@@ -18,11 +19,11 @@ pub record LevelAt (m : List ℕ) (p : ℕ) (before after : List ℕ) (x y left 
   pub few : left ≤ 257
   pub kept : length after ≡ 256
   pub same : levelTest m p ≡ levelFrom left y m p x
-  pub passed : MetSoFar before after (metFrom 257 (word m (linkAt (head p))) m) (metFrom left y m)
+  pub passed : MetSoFar before after (metFrom 257 (word m (linkAt (Link.Head p))) m) (metFrom left y m)
 
 -- Thread t is met behind link x as it should be.
 abbrev met-well : List ℕ → ℕ → ℕ → ℕ → Bool
-met-well m p x t = leb t 255 && eqb (word m (linkAt (prev t))) x && readyTest m p t
+met-well m p x t = leb t 255 && eqb (word m (linkAt (Link.Prev t))) x && readyTest m p t
 
 module _ (m : List ℕ) (p : ℕ) where
   -- One turn more makes no difference where the walk comes to its end.
@@ -32,21 +33,21 @@ module _ (m : List ℕ) (p : ℕ) where
   level-short zero (suc t) x e = absurd (false≢true (and-right (met-well m p x t) false e))
   level-short (suc n) zero x e = refl
   level-short (suc n) (suc t) x e =
-      let y : ℕ = word m (linkAt (next t)) in
+      let y : ℕ = word m (linkAt (Link.Next t)) in
       ap (λ (l : List ℕ). t ∷ l)
       (level-short n y (suc t) (and-right (met-well m p x t) (levelFrom (suc n) y m p (suc t)) e))
 
-  level-met : levelTest m p ≡ true → metFrom 257 (word m (linkAt (head p))) m ≡ met m p
+  level-met : levelTest m p ≡ true → metFrom 257 (word m (linkAt (Link.Head p))) m ≡ met m p
   unfolding levelTest met
-  level-met e = level-short 256 (word m (linkAt (head p))) 0 e
+  level-met e = level-short 256 (word m (linkAt (Link.Head p))) 0 e
 
-  pub level-holds : (s : List ℕ) {y : ℕ} → length s ≡ 256 → y ≡ word m (linkAt (head p)) → LevelAt m p s s 0 y 257
+  pub level-holds : (s : List ℕ) {y : ℕ} → length s ≡ 256 → y ≡ word m (linkAt (Link.Head p)) → LevelAt m p s s 0 y 257
   unfolding levelTest
   level-holds s {y} h e = rw e (record { few = omega arith; kept = h; same = refl; passed = passed-none _ _ })
 
   level-end :
       (left y x : ℕ) {w : ℕ} → 0 < left → y ≡ 0 → levelTest m p ≡ levelFrom left y m p x
-      → w ≡ word m (linkAt (tail p)) → eqb w x ≡ levelTest m p
+      → w ≡ word m (linkAt (Link.Tail p)) → eqb w x ≡ levelTest m p
   unfolding levelFrom
   level-end zero y x h z e f = absurd (omega arith)
   level-end (suc n) zero x h z e f = rw f (sym e)
@@ -61,7 +62,7 @@ module _ (m : List ℕ) (p : ℕ) where
 
   -- The thread of link y, behind link x, is as it should be.
   abbrev pub ReadyStands : ℕ → ℕ → Bool → Type 0
-  ReadyStands x y r = r ≡ (eqb (word m (linkAt (prev (y - 1)))) x && readyTest m p (y - 1))
+  ReadyStands x y r = r ≡ (eqb (word m (linkAt (Link.Prev (y - 1)))) x && readyTest m p (y - 1))
 
   level-not :
       (left y x : ℕ) {r : Bool} → 0 < left → (y ≡ 0 → ⊥) → y ≤ 256 → ReadyStands x y r → r ≡ false
@@ -71,12 +72,12 @@ module _ (m : List ℕ) (p : ℕ) where
   level-not (suc l) zero x h n z k b e = absurd (n refl)
   level-not (suc l) (suc t) x {r} h n z k b e =
       let q : suc t - 1 ≡ t = omega arith in
-      let s : (eqb (word m (linkAt (prev t))) x && readyTest m p t) ≡ false = sym (rw q at k) ∙ b in
+      let s : (eqb (word m (linkAt (Link.Prev t))) x && readyTest m p t) ≡ false = sym (rw q at k) ∙ b in
       rw (e, le-leb t 255 (omega arith), s)
 
   level-next :
       (left y x : ℕ) {r : Bool} {z : ℕ} → 0 < left → (y ≡ 0 → ⊥) → y ≤ 256 → ReadyStands x y r → r ≡ true
-      → z ≡ word m (linkAt (next (y - 1))) → levelTest m p ≡ levelFrom left y m p x
+      → z ≡ word m (linkAt (Link.Next (y - 1))) → levelTest m p ≡ levelFrom left y m p x
       → levelTest m p ≡ levelFrom (left - 1) z m p y
   unfolding levelFrom
   level-next zero y x h n z k b w e = absurd (omega arith)
@@ -84,12 +85,12 @@ module _ (m : List ℕ) (p : ℕ) where
   level-next (suc l) (suc t) x {r} h n z k b w e =
       let q : suc t - 1 ≡ t = omega arith in
       let o : suc l - 1 ≡ l = omega arith in
-      let s : (eqb (word m (linkAt (prev t))) x && readyTest m p t) ≡ true = sym (rw q at k) ∙ b in
+      let s : (eqb (word m (linkAt (Link.Prev t))) x && readyTest m p t) ≡ true = sym (rw q at k) ∙ b in
       rw (o, w, q) (rw (le-leb t 255 (omega arith), s) at e)
 
   module _ {before after : List ℕ} {x y left : ℕ} (c : LevelAt m p before after x y left) where
     pub level-walked :
-        {w : ℕ} → 0 < left → y ≡ 0 → w ≡ word m (linkAt (tail p))
+        {w : ℕ} → 0 < left → y ≡ 0 → w ≡ word m (linkAt (Link.Tail p))
         → Follows before after (met m p) (levelTest m p) (eqb w x)
     level-walked {w} h z f =
         let i : eqb w x ≡ levelTest m p = level-end left y x h z (c .same) f in
@@ -112,7 +113,7 @@ module _ (m : List ℕ) (p : ℕ) where
 
     pub level-again :
         {r : Bool} {z : ℕ} {marked : List ℕ} → 0 < left → (y ≡ 0 → ⊥) → y ≤ 256 → ReadyStands x y r → r ≡ true
-        → Meets after marked (y - 1) → length marked ≡ length after → z ≡ word m (linkAt (next (y - 1)))
+        → Meets after marked (y - 1) → length marked ≡ length after → z ≡ word m (linkAt (Link.Next (y - 1)))
         → LevelAt m p before marked y z (left - 1)
     level-again {z = z} h n l k b d s w =
         record {

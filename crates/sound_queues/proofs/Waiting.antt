@@ -10,7 +10,8 @@ use lib.ListN.{length}
 use borrow.Author.Tests.{eq-eqb, ne-eqb, le-leb, lt-leb}
 use Rattle.layout.specs.declared.Field.{Field}
 use Rattle.layout.specs.declared.Part.{Part}
-use Rattle.layout.specs.Addresses.{word, linkAt, head, tail, next, prev}
+use Rattle.layout.specs.declared.Link.{Link}
+use Rattle.layout.specs.Addresses.{word, linkAt}
 use Rattle.soundness.specs.declared.Phase.{Phase}
 use Rattle.soundness.specs.Checks.{phaseAt, phaseBehind, allowed, complete, threadAt, endpointAt}
 use Rattle.soundness.specs.Checks.{kindOf, bannedOf, waitersFrom, waitersTest, statusTest, abortTest, endpointTest}
@@ -44,12 +45,12 @@ pub record WaitersAt (m : List ℕ) (e k c d b : ℕ) (before after : List ℕ) 
   pub few : left ≤ 257
   pub kept : length after ≡ 256
   pub same : waitersAs m e k ≡ waitersFrom left y f m (256 + e) k c d b x
-  pub passed : MetSoFar before after (metFrom 257 (word m (linkAt (head (256 + e)))) m) (metFrom left y m)
+  pub passed : MetSoFar before after (metFrom 257 (word m (linkAt (Link.Head (256 + e)))) m) (metFrom left y m)
 
 -- Thread t is met behind link x, in phase f, as it should be.
 abbrev met-well : List ℕ → ℕ → ℕ → ℕ → Phase → ℕ → ℕ → Bool
 met-well m k c b f x t =
-    leb t 255 && eqb (word m (linkAt (prev t))) x && eqb (threadAt m Field.Place t) k
+    leb t 255 && eqb (word m (linkAt (Link.Prev t))) x && eqb (threadAt m Field.Place t) k
     && allowed (phaseAt f c (suc t)) b (threadAt m Field.Badge t)
 
 module _ (m : List ℕ) (q k c d b : ℕ) where
@@ -62,14 +63,14 @@ module _ (m : List ℕ) (q k c d b : ℕ) where
   waiters-short zero (suc t) f x e = absurd (false≢true (and-right (met-well m k c b f x t) false e))
   waiters-short (suc n) zero f x e = refl
   waiters-short (suc n) (suc t) f x e =
-      let y : ℕ = word m (linkAt (next t)) in
+      let y : ℕ = word m (linkAt (Link.Next t)) in
       let g : Phase = phaseBehind (phaseAt f c (suc t)) d (suc t) in
       ap (λ (l : List ℕ). t ∷ l)
       (waiters-short n y g (suc t)
       (and-right (met-well m k c b f x t) (waitersFrom (suc n) y g m q k c d b (suc t)) e))
 
   waiters-end :
-      (left y : ℕ) (f : Phase) (x : ℕ) {w : ℕ} {r : Bool} → 0 < left → y ≡ 0 → w ≡ word m (linkAt (tail q))
+      (left y : ℕ) (f : Phase) (x : ℕ) {w : ℕ} {r : Bool} → 0 < left → y ≡ 0 → w ≡ word m (linkAt (Link.Tail q))
       → r ≡ complete f c → (eqb w x && r) ≡ waitersFrom left y f m q k c d b x
   unfolding waitersFrom
   waiters-end zero y f x h z e g = absurd (omega arith)
@@ -86,7 +87,7 @@ module _ (m : List ℕ) (q k c d b : ℕ) where
   -- The thread of link y, behind link x and in phase f, is as it should be.
   abbrev pub WaiterStands : Phase → ℕ → ℕ → Bool → Type 0
   WaiterStands f x y r =
-      r ≡ (eqb (word m (linkAt (prev (y - 1)))) x && eqb (threadAt m Field.Place (y - 1)) k
+      r ≡ (eqb (word m (linkAt (Link.Prev (y - 1)))) x && eqb (threadAt m Field.Place (y - 1)) k
       && allowed f b (threadAt m Field.Badge (y - 1)))
 
   waiters-not :
@@ -102,7 +103,7 @@ module _ (m : List ℕ) (q k c d b : ℕ) where
 
   waiters-next :
       (left y : ℕ) (f : Phase) (x : ℕ) {h g : Phase} {r : Bool} {u : ℕ} → 0 < left → (y ≡ 0 → ⊥) → y ≤ 256
-      → h ≡ phaseAt f c y → WaiterStands h x y r → r ≡ true → g ≡ phaseBehind h d y → u ≡ word m (linkAt (next (y - 1)))
+      → h ≡ phaseAt f c y → WaiterStands h x y r → r ≡ true → g ≡ phaseBehind h d y → u ≡ word m (linkAt (Link.Next (y - 1)))
       → waitersFrom left y f m q k c d b x ≡ waitersFrom (left - 1) u g m q k c d b y
   unfolding waitersFrom
   waiters-next zero y f x l n z i s v a w = absurd (omega arith)
@@ -116,22 +117,22 @@ module _ (m : List ℕ) (q k c d b : ℕ) where
 module _ (m : List ℕ) (e k : ℕ) where
   pub waiters-holds :
       (s : List ℕ) {c d b y : ℕ} → length s ≡ 256 → c ≡ endpointAt m Part.Cursor e → d ≡ endpointAt m Part.End e
-      → b ≡ bannedOf m e k → y ≡ word m (linkAt (head (256 + e))) → WaitersAt m e k c d b s s Phase.Ahead 0 y 257
+      → b ≡ bannedOf m e k → y ≡ word m (linkAt (Link.Head (256 + e))) → WaitersAt m e k c d b s s Phase.Ahead 0 y 257
   waiters-holds s {c} {d} {b} {y} h i j l o =
       rw (i, j, l, o) (record { few = omega arith; kept = h; same = refl; passed = passed-none _ _ })
 
-  waiters-met : waitersAs m e k ≡ true → metFrom 257 (word m (linkAt (head (256 + e)))) m ≡ met m (256 + e)
+  waiters-met : waitersAs m e k ≡ true → metFrom 257 (word m (linkAt (Link.Head (256 + e)))) m ≡ met m (256 + e)
   unfolding met
   waiters-met h =
       waiters-short m (256 + e) k (endpointAt m Part.Cursor e) (endpointAt m Part.End e) (bannedOf m e k) 256
-      (word m (linkAt (head (256 + e)))) Phase.Ahead 0 h
+      (word m (linkAt (Link.Head (256 + e)))) Phase.Ahead 0 h
 
   module _
       {c d b : ℕ} {before after : List ℕ} {f : Phase} {x y left : ℕ}
       (at : WaitersAt m e k c d b before after f x y left) (turn : 0 < left)
     where
       pub waiters-walked :
-          {w : ℕ} {r : Bool} → y ≡ 0 → w ≡ word m (linkAt (tail (256 + e))) → r ≡ complete f c
+          {w : ℕ} {r : Bool} → y ≡ 0 → w ≡ word m (linkAt (Link.Tail (256 + e))) → r ≡ complete f c
           → Follows before after (met m (256 + e)) (waitersAs m e k) (eqb w x && r)
       waiters-walked {w} {r} z g h =
           let i : (eqb w x && r) ≡ waitersAs m e k =
@@ -152,7 +153,7 @@ module _ (m : List ℕ) (e k : ℕ) where
       pub waiters-again :
           {h g : Phase} {r : Bool} {u : ℕ} {marked : List ℕ} → (y ≡ 0 → ⊥) → y ≤ 256 → h ≡ phaseAt f c y
           → WaiterStands m (256 + e) k c d b h x y r → r ≡ true → g ≡ phaseBehind h d y
-          → Meets after marked (y - 1) → length marked ≡ length after → u ≡ word m (linkAt (next (y - 1)))
+          → Meets after marked (y - 1) → length marked ≡ length after → u ≡ word m (linkAt (Link.Next (y - 1)))
           → WaitersAt m e k c d b before marked g y u (left - 1)
       waiters-again {u = u} n z i s v a t l w =
           record {
@@ -176,7 +177,7 @@ and-assoc : (a b c : Bool) → (a && (b && c)) ≡ ((a && b) && c)
 and-assoc true b c = refl
 and-assoc false b c = refl
 
-module _ (m : List ℕ) (e : ℕ) {k : ℕ} (kind : k ≡ kindOf (word m (linkAt (head (256 + e)))) m e) where
+module _ (m : List ℕ) (e : ℕ) {k : ℕ} (kind : k ≡ kindOf (word m (linkAt (Link.Head (256 + e)))) m e) where
   -- What is tried before the walk.
   abbrev pub first-tests : Bool
   first-tests =

@@ -6,7 +6,8 @@ use mathlib.Core.Path.{_≡_, refl, ap, sym, _∙_, fun-ext}
 use native.Mathlib.Omega.{arith}
 use lib.Dec.{eqb}
 use Rattle.machine.specs.Lists.{pick, put}
-use Rattle.layout.specs.Addresses.{word, linkAt, next}
+use Rattle.layout.specs.declared.Link.{Link}
+use Rattle.layout.specs.Addresses.{word, linkAt}
 use Rattle.layout.specs.Tests.{member}
 use Rattle.soundness.specs.Checks.{metFrom, metBelow, met}
 use Rattle.sound_queues.specs.Met.{metIn, also, Meets, Follows}
@@ -51,7 +52,7 @@ walk-failed e = record { is = e; meets = λ h. absurd (false≢true h) }
 
 module _ (m : List ℕ) where
   pub met-more :
-      (left y : ℕ) {z : ℕ} → 0 < left → (y ≡ 0 → ⊥) → z ≡ word m (linkAt (next (y - 1)))
+      (left y : ℕ) {z : ℕ} → 0 < left → (y ≡ 0 → ⊥) → z ≡ word m (linkAt (Link.Next (y - 1)))
       → metFrom left y m ≡ (y - 1) ∷ metFrom (left - 1) z m
   unfolding metFrom
   met-more zero y h n e = absurd (omega arith)

@@ -11,6 +11,7 @@ ghost use Rattle.soundness.specs.Checks.{statusTest, endpointTest, met, metBelo
 ghost use Rattle.sound_queues.specs.Steps.{standsBehind, waitersAs, kindFits};
 ghost use Rattle.sound_queues.specs.Met.{metIn, Follows, FollowsAll};
 use layout::Field;
+use layout::Link;
 use layout::Part;
 use layout::codes::ENDPOINT_QUEUES;
 use layout::wide;
@@ -24,7 +25,8 @@ fn status(tables: &[u32], e: usize) -> bool
     let status = words::endpoint(tables, Part::Status, e);
     let aborting = words::endpoint(tables, Part::Aborting, e);
     if status == wide::MISSING {
-        return (words::head(tables, ENDPOINT_QUEUES + e) == wide::NOBODY)
+        let q = ENDPOINT_QUEUES + e;
+        return (words::wide_link(tables, Link::Head(q)) == wide::NOBODY)
             & (aborting == wide::NO_ABORT);
     }
     if status == wide::LIVE {
@@ -76,7 +78,8 @@ fn kind(tables: &[u32], e: usize) -> usize
     requires { ⌜ (length (now tables) ≡ tableWords) × (e ≤ 63) ⌝ }
     ensures { λ r. ⌜ r ≡ kindIn (now (tables .entry)) e ⌝ }
 {
-    let y = words::head(tables, ENDPOINT_QUEUES + e);
+    let q = ENDPOINT_QUEUES + e;
+    let y = words::wide_link(tables, Link::Head(q));
     if y == wide::NOBODY {
         return wide::SENDING + e;
     }
@@ -103,7 +106,7 @@ fn stands(tables: &[u32], k: usize, b: usize, x: usize, t: usize, f: Phase) -> b
     requires { ⌜ (length (now tables) ≡ tableWords) × (t ≤ 255) ⌝ }
     ensures { λ r. ⌜ r ≡ standsBehind (now (tables .entry)) k b f x t ⌝ }
 {
-    let prev = words::prev(tables, t);
+    let prev = words::wide_link(tables, Link::Prev(t));
     let place = words::thread(tables, Field::Place, t);
     let badge = words::thread(tables, Field::Badge, t);
     (prev == x) & (place == k) & crate::phases::allowed(f, b, badge)
@@ -114,16 +117,17 @@ fn waiters(tables: &[u32], scratch: &mut [u32], e: usize, k: usize) -> bool
     ensures { λ r. ⌜ Follows (now (scratch .entry)) (now (scratch .exit)) (met (now (tables .entry)) (endpointQueue e))
         (waitersAs (now (tables .entry)) e k) r ⌝ }
 {
+    let q = ENDPOINT_QUEUES + e;
     let cursor = words::endpoint(tables, Part::Cursor, e);
     let end = words::endpoint(tables, Part::End, e);
     let banned = banned(tables, e, k);
     let mut f = Phase::Ahead;
     let mut x: usize = wide::NOBODY;
-    let mut y = words::head(tables, ENDPOINT_QUEUES + e);
+    let mut y = words::wide_link(tables, Link::Head(q));
     let mut left: usize = 257;
     while 0 < left {
         if y == wide::NOBODY {
-            return (words::tail(tables, ENDPOINT_QUEUES + e) == x)
+            return (words::wide_link(tables, Link::Tail(q)) == x)
                 & crate::phases::complete(f, cursor);
         }
         if wide::LAST_LINK < y {
@@ -137,7 +141,7 @@ fn waiters(tables: &[u32], scratch: &mut [u32], e: usize, k: usize) -> bool
         crate::met::meet(scratch, t);
         f = crate::phases::leave(here, end, y);
         x = y;
-        y = words::next(tables, t);
+        y = words::wide_link(tables, Link::Next(t));
         left -= 1;
     }
     false

@@ -9,6 +9,8 @@ ghost use Rattle.soundness.specs.Checks.{levelTest, met, metBelow};
 ghost use Rattle.sound_queues.specs.Steps.{readyBehind};
 ghost use Rattle.sound_queues.specs.Met.{metIn, Follows, FollowsAll};
 use layout::Field;
+use layout::Link;
+use layout::Slot;
 use layout::wide;
 
 // Thread t, met behind link x in the queue of level p: it is linked back, and ready at p.
@@ -16,10 +18,10 @@ fn ready(tables: &[u32], p: usize, x: usize, t: usize) -> bool
     requires { ⌜ (length (now tables) ≡ tableWords) × (t ≤ 255) ⌝ }
     ensures { λ r. ⌜ r ≡ readyBehind (now (tables .entry)) p x t ⌝ }
 {
-    let prev = words::prev(tables, t);
+    let prev = words::wide_link(tables, Link::Prev(t));
     let place = words::thread(tables, Field::Place, t);
     let priority = words::thread(tables, Field::Priority, t);
-    let running = words::running(tables);
+    let running = words::wide(tables, Slot::Running);
     (prev == x) & ((place == wide::ABLE) & (priority == p) & (running != t + wide::LINK))
 }
 
@@ -29,11 +31,11 @@ fn level(tables: &[u32], scratch: &mut [u32], p: usize) -> bool
         (levelTest (now (tables .entry)) p) r ⌝ }
 {
     let mut x: usize = wide::NOBODY;
-    let mut y = words::head(tables, p);
+    let mut y = words::wide_link(tables, Link::Head(p));
     let mut left: usize = 257;
     while 0 < left {
         if y == wide::NOBODY {
-            return words::tail(tables, p) == x;
+            return words::wide_link(tables, Link::Tail(p)) == x;
         }
         if wide::LAST_LINK < y {
             return false;
@@ -44,7 +46,7 @@ fn level(tables: &[u32], scratch: &mut [u32], p: usize) -> bool
         }
         crate::met::meet(scratch, t);
         x = y;
-        y = words::next(tables, t);
+        y = words::wide_link(tables, Link::Next(t));
         left -= 1;
     }
     false

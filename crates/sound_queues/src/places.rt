@@ -8,6 +8,8 @@ ghost use Rattle.layout.specs.Tests.{all};
 ghost use Rattle.soundness.specs.Checks.{placedTest, metBelow};
 ghost use Rattle.sound_queues.specs.Met.{metIn};
 use layout::Field;
+use layout::Link;
+use layout::Slot;
 use layout::wide;
 
 fn place(tables: &[u32], scratch: &[u32], t: usize) -> bool
@@ -17,10 +19,10 @@ fn place(tables: &[u32], scratch: &[u32], t: usize) -> bool
 {
     let met = crate::met::has_met(scratch, t);
     let place = words::thread(tables, Field::Place, t);
-    let running = words::running(tables);
+    let running = words::wide(tables, Slot::Running);
     let queued = ((place == wide::ABLE) & (running != t + wide::LINK))
         | ((wide::SENDING <= place) & (place < wide::WAITING));
-    let bare = (words::next(tables, t) == wide::NOBODY) & (words::prev(tables, t) == wide::NOBODY);
+    let bare = (words::wide_link(tables, Link::Next(t)) == wide::NOBODY) & (words::wide_link(tables, Link::Prev(t)) == wide::NOBODY);
     (met == queued) & (met | bare)
 }
 

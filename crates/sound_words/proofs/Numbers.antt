@@ -9,7 +9,8 @@ use lib.Dec.{eqb, leb, ltb}
 use borrow.Author.Tests.{lt-ltb, le-ltb, eq-eqb, ne-eqb, leb-true}
 use Rattle.layout.specs.declared.Field.{Field}
 use Rattle.layout.specs.declared.Part.{Part}
-use Rattle.layout.specs.Addresses.{ofLine, at, word}
+use Rattle.layout.specs.declared.Slot.{Slot}
+use Rattle.layout.specs.Addresses.{at, word}
 use Rattle.soundness.specs.Checks.{threadAt, endpointAt, numbersTest, storedTest, waitsTest, owesTest, absentTest}
 use Rattle.soundness.specs.Checks.{presentTest, blockTest}
 
@@ -18,7 +19,7 @@ module _ (m : List ℕ) (t : ℕ) {p : ℕ} (is : p ≡ threadAt m Field.Place t
   unfolding waitsTest
   waits-not h = rw (← is, lt-ltb p 130 h)
 
-  pub waits-line : {w : ℕ} → 130 ≤ p → w ≡ word m (at (ofLine (p - 130))) → eqb w (t + 2) ≡ waitsTest m t
+  pub waits-line : {w : ℕ} → 130 ≤ p → w ≡ word m (at (Slot.Line (p - 130))) → eqb w (t + 2) ≡ waitsTest m t
   unfolding waitsTest
   waits-line {w} h e = rw (← is, le-ltb p 130 h, ← e, add-two)
 

@@ -7,14 +7,16 @@ use native.Mathlib.Omega.{arith}
 use lib.Dec.{eqb, leb}
 use borrow.Author.Tests.{eq-eqb, ne-eqb, le-leb, lt-leb}
 use Rattle.layout.specs.declared.Field.{Field}
-use Rattle.layout.specs.Addresses.{ofLine, running, at, head, linkAt, word}
+use Rattle.layout.specs.declared.Slot.{Slot}
+use Rattle.layout.specs.declared.Link.{Link}
+use Rattle.layout.specs.Addresses.{at, linkAt, word}
 use Rattle.layout.specs.Tests.{all}
 use Rattle.soundness.specs.Checks.{threadAt, lineFrom, lineTest, occupiedAt, runningFrom, runningTest}
 use Rattle.soundness.proofs.Every.{one-fails}
 
 -- Lines
 
-module _ (m : List ℕ) (l : ℕ) {w : ℕ} (is : w ≡ word m (at (ofLine l))) where
+module _ (m : List ℕ) (l : ℕ) {w : ℕ} (is : w ≡ word m (at (Slot.Line l))) where
   free : (v : ℕ) → v < 2 → true ≡ lineFrom v m l
   unfolding lineFrom
   free zero h = refl
@@ -56,18 +58,18 @@ module _ (m : List ℕ) (p : ℕ) where
   pub lower-self : (i : ℕ) → i < p + 1 → lower m p i ≡ true
   lower-self i h = rw (le-leb i p (omega arith))
 
-  pub lower-empty : (i : ℕ) {h : ℕ} → h ≡ word m (linkAt (head i)) → h ≡ 0 → lower m p i ≡ true
-  lower-empty i e z = rw (eq-eqb (word m (linkAt (head i))) 0 (sym e ∙ z)) (go (leb i p))
+  pub lower-empty : (i : ℕ) {h : ℕ} → h ≡ word m (linkAt (Link.Head i)) → h ≡ 0 → lower m p i ≡ true
+  lower-empty i e z = rw (eq-eqb (word m (linkAt (Link.Head i))) 0 (sym e ∙ z)) (go (leb i p))
     where
       go : (b : Bool) → (b || true) ≡ true
       go true = refl
       go false = refl
 
-  pub lower-not : (i : ℕ) {h : ℕ} → p < i → h ≡ word m (linkAt (head i)) → (h ≡ 0 → ⊥) → lower m p i ≡ false
-  lower-not i l e n = rw (lt-leb i p l, ne-eqb (word m (linkAt (head i))) 0 (λ z. n (e ∙ z)))
+  pub lower-not : (i : ℕ) {h : ℕ} → p < i → h ≡ word m (linkAt (Link.Head i)) → (h ≡ 0 → ⊥) → lower m p i ≡ false
+  lower-not i l e n = rw (lt-leb i p l, ne-eqb (word m (linkAt (Link.Head i))) 0 (λ z. n (e ∙ z)))
 
 -- No level is occupied: not the lowest, and none above it.
-idle : (m : List ℕ) {h : ℕ} → h ≡ word m (linkAt (head 0))
+idle : (m : List ℕ) {h : ℕ} → h ≡ word m (linkAt (Link.Head 0))
     → (eqb h 0 && all 256 (lower m 0)) ≡ all 256 (λ i. not (occupiedAt m i))
 idle m {h} e = go (eqb h 0) refl
   where
@@ -79,8 +81,8 @@ idle m {h} e = go (eqb h 0) refl
     go true t = ap (all 256) (fun-ext (same t))
     go false t = one-fails (λ i. not (occupiedAt m i)) 256 0 (omega arith) (rw (← e, t))
 
-module _ (m : List ℕ) {w : ℕ} (is : w ≡ word m (at running)) where
-  nobody : (v : ℕ) {h : ℕ} {a : Bool} → v ≡ 0 → h ≡ word m (linkAt (head 0)) → a ≡ all 256 (lower m 0)
+module _ (m : List ℕ) {w : ℕ} (is : w ≡ word m (at Slot.Running)) where
+  nobody : (v : ℕ) {h : ℕ} {a : Bool} → v ≡ 0 → h ≡ word m (linkAt (Link.Head 0)) → a ≡ all 256 (lower m 0)
       → (eqb h 0 && a) ≡ runningFrom v m
   unfolding runningFrom
   nobody zero z e f = rw f (idle m e)
@@ -100,7 +102,7 @@ module _ (m : List ℕ) {w : ℕ} (is : w ≡ word m (at running)) where
       let i : suc t - 1 ≡ t = omega arith in rw (g, e, f, i, le-leb t 255 (omega arith))
 
   pub running-nobody :
-      {h : ℕ} {a : Bool} → w ≡ 0 → h ≡ word m (linkAt (head 0)) → a ≡ all 256 (lower m 0)
+      {h : ℕ} {a : Bool} → w ≡ 0 → h ≡ word m (linkAt (Link.Head 0)) → a ≡ all 256 (lower m 0)
       → (eqb h 0 && a) ≡ runningTest m
   unfolding runningTest
   running-nobody z e f = rw (← is) (nobody w z e f)

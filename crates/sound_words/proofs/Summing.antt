@@ -11,7 +11,8 @@ use lib.Pow.{pow-mono}
 use borrow.Author.Tests.{eq-eqb, ne-eqb}
 use Rattle.machine.specs.Lists.{pick}
 use Rattle.summary.specs.Levels.{bits, wordOf, topOf}
-use Rattle.layout.specs.Addresses.{at, summary, top, word}
+use Rattle.layout.specs.declared.Slot.{Slot}
+use Rattle.layout.specs.Addresses.{at, word}
 use Rattle.soundness.specs.Checks.{occupiedAt, summaryTest}
 use Rattle.soundness.proofs.Every.{all-hold, one-fails}
 
@@ -85,24 +86,24 @@ word-is m w k l g h = summed-all (levels-of m w) k 32 l g h
 
 -- Word w stands in the summary as the queues have it.
 abbrev pub agrees : List ℕ → ℕ → Bool
-agrees m w = eqb (word m (at (summary w))) (wordOf (occupiedAt m) w)
+agrees m w = eqb (word m (at (Slot.Summary w))) (wordOf (occupiedAt m) w)
 
 module _ (m : List ℕ) where
   pub agree :
-      (w : ℕ) {v s : ℕ} → v ≡ wordOf (occupiedAt m) w → s ≡ word m (at (summary w)) → s ≡ v → agrees m w ≡ true
-  agree w e f h = eq-eqb (word m (at (summary w))) (wordOf (occupiedAt m) w) (sym f ∙ h ∙ e)
+      (w : ℕ) {v s : ℕ} → v ≡ wordOf (occupiedAt m) w → s ≡ word m (at (Slot.Summary w)) → s ≡ v → agrees m w ≡ true
+  agree w e f h = eq-eqb (word m (at (Slot.Summary w))) (wordOf (occupiedAt m) w) (sym f ∙ h ∙ e)
 
   pub summary-bad :
-      (w : ℕ) {v s : ℕ} → w < 8 → v ≡ wordOf (occupiedAt m) w → s ≡ word m (at (summary w)) → (s ≡ v → ⊥)
+      (w : ℕ) {v s : ℕ} → w < 8 → v ≡ wordOf (occupiedAt m) w → s ≡ word m (at (Slot.Summary w)) → (s ≡ v → ⊥)
       → false ≡ summaryTest m
   unfolding summaryTest
   summary-bad w l e f n =
       rw (← one-fails (agrees m) 8 w l
-      (ne-eqb (word m (at (summary w))) (wordOf (occupiedAt m) w) (λ q. n (f ∙ q ∙ sym e))))
+      (ne-eqb (word m (at (Slot.Summary w))) (wordOf (occupiedAt m) w) (λ q. n (f ∙ q ∙ sym e))))
 
   pub summary-is :
       (w : ℕ) {sum bit t : ℕ} → w ≤ 8 → 8 ≤ w → Summed (words-of m) w sum bit
-      → ((k : ℕ) → k < w → agrees m k ≡ true) → t ≡ word m (at top) → eqb t sum ≡ summaryTest m
+      → ((k : ℕ) → k < w → agrees m k ≡ true) → t ≡ word m (at Slot.Top) → eqb t sum ≡ summaryTest m
   unfolding summaryTest topOf
   summary-is w l g h a e =
       rw (← all-hold (agrees m) 8 (λ k i. a k (omega arith)), ← e, ← summed-all (words-of m) w 8 l g h)

@@ -11,6 +11,8 @@ ghost use Rattle.layout.specs.Addresses.{tableWords};
 ghost use Rattle.layout.specs.Tests.{all};
 ghost use Rattle.soundness.specs.Checks.{occupiedAt, summaryTest, runningTest};
 use layout::Field;
+use layout::Link;
+use layout::Slot;
 use layout::wide;
 
 // What a bit adds: nothing where the word it stands for is 0.
@@ -32,7 +34,8 @@ fn word(tables: &[u32], w: usize) -> usize
     let mut bit: usize = 1;
     let mut sum: usize = 0;
     while k < 32 {
-        sum += share(words::head(tables, 32 * w + k), bit);
+        let p = 32 * w + k;
+        sum += share(words::wide_link(tables, Link::Head(p)), bit);
         bit += bit;
         k += 1;
     }
@@ -48,14 +51,14 @@ pub fn summary(tables: &[u32]) -> bool
     let mut sum: usize = 0;
     while w < 8 {
         let word = word(tables, w);
-        if words::summary(tables, w) != word {
+        if words::wide(tables, Slot::Summary(w)) != word {
             return false;
         }
         sum += share(word, bit);
         bit += bit;
         w += 1;
     }
-    words::top(tables) == sum
+    words::wide(tables, Slot::Top) == sum
 }
 
 // No level above p is occupied.
@@ -66,7 +69,7 @@ fn above(tables: &[u32], p: usize) -> bool
     let mut i = p;
     while i < 255 {
         i += 1;
-        if words::head(tables, i) != wide::NOBODY {
+        if words::wide_link(tables, Link::Head(i)) != wide::NOBODY {
             return false;
         }
     }
@@ -77,14 +80,14 @@ pub fn running(tables: &[u32]) -> bool
     requires { ⌜ length (now tables) ≡ tableWords ⌝ }
     ensures { λ r. ⌜ r ≡ runningTest (now (tables .entry)) ⌝ }
 {
-    let running = words::running(tables);
+    let running = words::wide(tables, Slot::Running);
     if running == wide::NOBODY {
-        return (words::head(tables, 0) == wide::NOBODY) & above(tables, 0);
+        return (words::wide_link(tables, Link::Head(0)) == wide::NOBODY) & above(tables, 0);
     }
     if wide::LAST_LINK < running {
         return false;
     }
-    let t = running - 1;
+    let t = running - wide::LINK;
     (words::thread(tables, Field::Place, t) == wide::ABLE)
         & above(tables, words::thread(tables, Field::Priority, t))
 }

@@ -6,6 +6,7 @@ ghost use Rattle.layout.specs.Addresses.{tableWords};
 ghost use Rattle.layout.specs.Tests.{all};
 ghost use Rattle.soundness.specs.Checks.{lineTest, unusedTest};
 use layout::Field;
+use layout::Slot;
 use layout::wide;
 
 // A line's waiter waits on it.
@@ -13,7 +14,7 @@ fn line(tables: &[u32], l: usize) -> bool
     requires { ⌜ (length (now tables) ≡ tableWords) × (l ≤ 31) ⌝ }
     ensures { λ r. ⌜ r ≡ lineTest (now (tables .entry)) l ⌝ }
 {
-    let line = words::line(tables, l);
+    let line = words::wide(tables, Slot::Line(l));
     if line < wide::AWAITED {
         return true;
     }
@@ -44,7 +45,7 @@ pub fn unused(tables: &[u32]) -> bool
 {
     let mut i = 0;
     while i < 470 {
-        if words::unused(tables, i) != 0 {
+        if words::wide(tables, Slot::Unused(i)) != 0 {
             return false;
         }
         i += 1;

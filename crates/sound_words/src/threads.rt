@@ -10,6 +10,7 @@ ghost use Rattle.soundness.specs.Checks.{threadAt, absentTest, numbersTest, sto
 ghost use Rattle.soundness.specs.Checks.{presentTest, blockTest};
 use layout::Field;
 use layout::Part;
+use layout::Slot;
 use layout::wide;
 
 // An absent thread's words are 0.
@@ -64,7 +65,8 @@ fn waits(tables: &[u32], t: usize) -> bool
     if place < wide::WAITING {
         return true;
     }
-    words::line(tables, place - wide::WAITING) == t + wide::AWAITED
+    let line = place - wide::WAITING;
+    words::wide(tables, Slot::Line(line)) == t + wide::AWAITED
 }
 
 // What a thread owes: nothing, an abort that names it as owner, or a note.

@@ -14,7 +14,8 @@ use Rattle.machine.specs.Sound.{Stores}
 use Rattle.machine.proofs.Lists.{Same, same, other, same?}
 use Rattle.layout.specs.declared.Field.{Field}
 use Rattle.layout.specs.declared.Part.{Part}
-use Rattle.layout.specs.Addresses.{ofThread, ofEndpoint, ofLine, at, word}
+use Rattle.layout.specs.declared.Slot.{Slot}
+use Rattle.layout.specs.Addresses.{at, word}
 use Rattle.layout.specs.Words.{linkOf, placeCode, debtCode, noteCode, lineCode, threadWord}
 use Rattle.layout.specs.Decode.{placeOf, threadFrom}
 use Rattle.layout.proofs.Addresses.{below?}
@@ -47,7 +48,7 @@ Kept w =
     ⊎ ((w Field.Badge ≡ 0) × (w Field.Message ≡ 0)))
 
 abbrev OnLine : List ℕ → ℕ → ℕ → Type 0
-OnLine m t w = (w < 130) ⊎ (word m (at (ofLine (w - 130))) ≡ suc (suc t))
+OnLine m t w = (w < 130) ⊎ (word m (at (Slot.Line (w - 130))) ≡ suc (suc t))
 
 abbrev Owing : List ℕ → ℕ → ℕ → ℕ → Type 0
 Owing m t n zero = n ≡ 0
@@ -267,7 +268,7 @@ module _ (m : List ℕ) (s : State) (R : Reads m s) (t : ℕ) (h : t ≤ 255) wh
   X = R .neat .threads t
 
   here : (f : Field) → threadAt m f t ≡ threadWord (s .threads t) f
-  here f = R .slots (ofThread f t) h
+  here f = R .slots (Slot.Thread f t) h
 
   is-absent : threadAt m Field.Place t ≡ 0 → s .threads t .place ≡ absent
   is-absent e = same-place (s .threads t .place) absent (X .place-small) tt (sym (here Field.Place) ∙ e)
@@ -322,7 +323,7 @@ module _ (m : List ℕ) (s : State) (R : Reads m s) (t : ℕ) (h : t ≤ 255) wh
       ⊎-elim (λ z. absurd (omega arith))
       (λ k. tells-awaited (s .lines l) t .holds
       (tells-eqb (lineCode (s .lines l)) (suc (suc t)) .back
-      (sym (R .slots (ofLine l) (seat-small s (R .neat) t e)) ∙ rw back at k)))
+      (sym (R .slots (Slot.Line l) (seat-small s (R .neat) t e)) ∙ rw back at k)))
       o
 
   on-line : NamesWaiter s t → (p : Place) → s .threads t .place ≡ p → PlaceSmall p → OnLine m t (placeCode p)
@@ -332,7 +333,7 @@ module _ (m : List ℕ) (s : State) (R : Reads m s) (t : ℕ) (h : t ≤ 255) wh
   on-line W (receiving n) e g = inl (omega arith)
   on-line W (waiting l) e g =
       let back : 130 + l - 130 ≡ l = omega arith in
-      inr (rw back (R .slots (ofLine l) g ∙ ap lineCode (W l e)))
+      inr (rw back (R .slots (Slot.Line l) g ∙ ap lineCode (W l e)))
 
   -- The abort that it owns.
 
@@ -344,14 +345,14 @@ module _ (m : List ℕ) (s : State) (R : Reads m s) (t : ℕ) (h : t ≤ 255) wh
       let k = subst (Owing m t (threadAt m Field.Note t)) code o .0 (omega arith) .1 in
       tells-some (ownerOf (s .endpoints e .abort)) t .holds
       (tells-eqb (linkOf (ownerOf (s .endpoints e .abort))) (suc t) .back
-      (sym (R .slots (ofEndpoint Part.Owner e) small) ∙ k))
+      (sym (R .slots (Slot.Endpoint Part.Owner e) small) ∙ k))
 
   owing : NamesOwner s t → (d : Debt) → s .threads t .debt ≡ d → DebtSmall d → Owing m t (noteCode d) (debtCode d)
   owing O nothing i g = refl
   owing O (owns e) i g =
       let z : 1 + e ≡ suc e = omega arith in
       subst (Owing m t 0) (sym z)
-      (λ _. (refl, R .slots (ofEndpoint Part.Owner e) g ∙ ap linkOf (O e i)), λ n. absurd (n (omega arith)))
+      (λ _. (refl, R .slots (Slot.Endpoint Part.Owner e) g ∙ ap linkOf (O e i)), λ n. absurd (n (omega arith)))
   owing O (noted e b) i g =
       let z : 65 + e ≡ suc (64 + e) = omega arith in
       subst (Owing m t b) (sym z) (λ k. absurd (omega arith), λ _. (omega arith, g .1))

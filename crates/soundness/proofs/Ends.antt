@@ -12,7 +12,9 @@ use Rattle.machine.specs.State.{State, owns, Abort, Status, missing, live, clos
 use Rattle.machine.specs.Endpoints.{ownerOf, pendingOf}
 use Rattle.layout.specs.declared.Field.{Field}
 use Rattle.layout.specs.declared.Part.{Part}
-use Rattle.layout.specs.Addresses.{ofThread, ofEndpoint, head, linkAt, word}
+use Rattle.layout.specs.declared.Slot.{Slot}
+use Rattle.layout.specs.declared.Link.{Link}
+use Rattle.layout.specs.Addresses.{linkAt, word}
 use Rattle.layout.specs.Words.{linkOf, firstOf, lastOf, debtCode, statusCode, abortCode, badgeCode, endpointWord}
 use Rattle.layout.specs.Shows.{Chain}
 use Rattle.layout.specs.Decode.{linked, between, abortBy, endpointBy, endpointFrom}
@@ -43,7 +45,7 @@ Aborting m e (suc zero) =
 Aborting m e (suc (suc n)) = ⊥
 
 abbrev Standing : List ℕ → ℕ → ℕ → Type 0
-Standing m e zero = (word m (linkAt (head (256 + e))) ≡ 0) × (endpointAt m Part.Aborting e ≡ 0)
+Standing m e zero = (word m (linkAt (Link.Head (256 + e))) ≡ 0) × (endpointAt m Part.Aborting e ≡ 0)
 Standing m e (suc zero) = Unit {0}
 Standing m e (suc (suc zero)) = endpointAt m Part.Aborting e ≡ 0
 Standing m e (suc (suc (suc n))) = ⊥
@@ -190,7 +192,7 @@ module _ (m : List ℕ) (s : State) (R : Reads m s) (e : ℕ) (h : e ≤ 63) whe
   X = R .neat .endpoints e
 
   here : (p : Part) → endpointAt m p e ≡ endpointWord (s .endpoints e) p
-  here p = R .slots (ofEndpoint p e) h
+  here p = R .slots (Slot.Endpoint p e) h
 
   has-status : Standing m e (endpointAt m Part.Status e)
   has-status = rw (here Part.Status) (go (s .endpoints e .status) refl)
@@ -210,13 +212,13 @@ module _ (m : List ℕ) (s : State) (R : Reads m s) (e : ℕ) (h : e ≤ 63) whe
   owns-there t o =
       tells-owns (s .threads t .debt) e h .holds
       (tells-eqb (debtCode (s .threads t .debt)) (debtCode (owns e)) .back
-      (sym (R .slots (ofThread Field.Owes t) (o .0)) ∙ o .1))
+      (sym (R .slots (Slot.Thread Field.Owes t) (o .0)) ∙ o .1))
 
   owned-there : Paired s e → (o : Option ℕ) → ownerOf (s .endpoints e .abort) ≡ o → Owned m e (linkOf o)
   owned-there P none i = tt
   owned-there P (some t) i =
       let small = X .neat .owner t i in
-      (small, R .slots (ofThread Field.Owes t) small ∙ ap debtCode (P t i))
+      (small, R .slots (Slot.Thread Field.Owes t) small ∙ ap debtCode (P t i))
 
   from-aborting : (o : Option Abort) → s .endpoints e .abort ≡ o → Aborting m e (abortCode o) → Paired s e
   from-aborting none i a t k = none-some (ap ownerOf (sym i) ∙ k)

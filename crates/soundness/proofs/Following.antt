@@ -10,7 +10,8 @@ use lib.Dec.{eqb, leb}
 use lib.ListN.{length}
 use Rattle.machine.specs.Lists.{Mem, Distinct}
 use Rattle.layout.specs.declared.Field.{Field}
-use Rattle.layout.specs.Addresses.{next, prev, linkAt, word, afterAt, beforeAt}
+use Rattle.layout.specs.declared.Link.{Link}
+use Rattle.layout.specs.Addresses.{linkAt, word, afterAt, beforeAt}
 use Rattle.layout.specs.Shows.{Joined, Chain}
 use Rattle.layout.specs.Decode.{queueFrom}
 use Rattle.layout.proofs.Tests.{Decides, tells-false, tells-map, tells-and, tells-eqb, tells-leb}
@@ -63,7 +64,7 @@ level-split m p zero y x = refl
 level-split m p (suc n) zero x = and-true (eqb (word m (beforeAt p 0)) x)
 level-split m p (suc n) (suc t) x =
     ap (λ (b : Bool). (leb t 255 && eqb (word m (beforeAt p (suc t))) x && readyTest m p t) && b)
-    (level-split m p n (word m (linkAt (next t))) (suc t))
+    (level-split m p n (word m (linkAt (Link.Next t))) (suc t))
     ∙ and-sort (leb t 255 && eqb (word m (beforeAt p (suc t))) x) (readyTest m p t) _ _
 
 pub waiters-split :
@@ -79,7 +80,7 @@ waiters-split m q k c d b (suc n) (suc t) f x =
     ap (λ (z : Bool).
     (leb t 255 && eqb (word m (beforeAt q (suc t))) x && eqb (threadAt m Field.Place t) k
     && allowed (phaseAt f c (suc t)) b (threadAt m Field.Badge t)) && z)
-    (waiters-split m q k c d b n (word m (linkAt (next t))) (phaseBehind (phaseAt f c (suc t)) d (suc t)) (suc t))
+    (waiters-split m q k c d b n (word m (linkAt (Link.Next t))) (phaseBehind (phaseAt f c (suc t)) d (suc t)) (suc t))
     ∙ and-sort-three (leb t 255 && eqb (word m (beforeAt q (suc t))) x) (eqb (threadAt m Field.Place t) k)
     (allowed (phaseAt f c (suc t)) b (threadAt m Field.Badge t)) _ _ _
 
@@ -111,7 +112,7 @@ module _ (m : List ℕ) (q : ℕ) where
         record { chain = c .chain .1; fits = omega (arith, c .fits); small = λ u k. c .small u (inr k) },
       ))
       (tells-and (tells-and (tells-leb t 255) (tells-eqb (word m (beforeAt q (suc t))) x))
-      (tells-chain n (word m (linkAt (next t))) (suc t) refl))
+      (tells-chain n (word m (linkAt (Link.Next t))) (suc t) refl))
 
   -- The threads met along a chain are those of its list.
   met-chain : (n x : ℕ) (l : List ℕ) → Chain m q x l 0 → length l ≤ n → metFrom n (word m (afterAt q x)) m ≡ l
@@ -129,7 +130,7 @@ module _ (m : List ℕ) (q : ℕ) where
   Depth zero zero = Unit {0}
   Depth zero (suc t) = ⊥
   Depth (suc n) zero = ⊥
-  Depth (suc n) (suc t) = Depth n (word m (linkAt (prev t)))
+  Depth (suc n) (suc t) = Depth n (word m (linkAt (Link.Prev t)))
 
   one-depth : (n k x : ℕ) → Depth n x → Depth k x → n ≡ k
   one-depth zero zero x a b = refl
@@ -138,7 +139,7 @@ module _ (m : List ℕ) (q : ℕ) where
   one-depth (suc n) zero zero a b = absurd a
   one-depth (suc n) zero (suc t) a b = absurd b
   one-depth (suc n) (suc k) zero a b = absurd a
-  one-depth (suc n) (suc k) (suc t) a b = ap suc (one-depth n k (word m (linkAt (prev t))) a b)
+  one-depth (suc n) (suc k) (suc t) a b = ap suc (one-depth n k (word m (linkAt (Link.Prev t))) a b)
 
   next-depth : (n x t : ℕ) → Joined m q x (suc t) → Depth n x → Depth (suc n) (suc t)
   next-depth n x t j d = rw (j .before) d

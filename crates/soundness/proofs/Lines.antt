@@ -13,7 +13,8 @@ use Rattle.machine.specs.State.{State, able, waiting, Line, quiet, pending, awa
 use Rattle.machine.specs.Scheduling.{occupied}
 use Rattle.summary.specs.Levels.{wordOf, topOf}
 use Rattle.layout.specs.declared.Field.{Field}
-use Rattle.layout.specs.Addresses.{ofThread, ofLine, summary, top, running, unused, at, word}
+use Rattle.layout.specs.declared.Slot.{Slot}
+use Rattle.layout.specs.Addresses.{at, word}
 use Rattle.layout.specs.Words.{linkOf, firstOf, lineCode}
 use Rattle.layout.specs.Decode.{lineBy}
 use Rattle.layout.proofs.RoundTrip.{line-small}
@@ -47,9 +48,9 @@ line-again m l (suc (suc t)) h = rw (le-leb t 255 (h .0))
 -- Where the test passes, the word is that of the line read off it.
 pub line-word :
     (m : List ℕ) (l : ℕ) → lineTest m l ≡ true
-    → lineCode (lineBy (word m (at (ofLine l)))) ≡ word m (at (ofLine l))
+    → lineCode (lineBy (word m (at (Slot.Line l)))) ≡ word m (at (Slot.Line l))
 unfolding lineTest
-line-word m l h = line-again m l (word m (at (ofLine l))) (tells-from m l (word m (at (ofLine l))) .holds h)
+line-word m l h = line-again m l (word m (at (Slot.Line l))) (tells-from m l (word m (at (Slot.Line l))) .holds h)
 
 -- A line's waiter waits on it.
 abbrev pub Fires : State → ℕ → Type 0
@@ -57,7 +58,7 @@ Fires s l = (t : ℕ) → s .lines l ≡ awaited t → s .threads t .place ≡ w
 
 pub tells-line : (m : List ℕ) (s : State) (R : Reads m s) (l : ℕ) → l ≤ 31 → Decides (lineTest m l) (Fires s l)
 unfolding lineTest
-tells-line m s R l h = rw (R .slots (ofLine l) h) (go (s .lines l) refl)
+tells-line m s R l h = rw (R .slots (Slot.Line l) h) (go (s .lines l) refl)
   where
     none-there : {x : Line} → s .lines l ≡ x → lineCode x ≤ 1 → Fires s l
     none-there {x} i k t e = absurd (omega (arith, ap lineCode (sym i ∙ e)))
@@ -80,19 +81,19 @@ tells-line m s R l h = rw (R .slots (ofLine l) h) (go (s .lines l) refl)
 pub tells-summary :
     (m : List ℕ)
     → Decides (summaryTest m)
-    (((w : ℕ) → w < 8 → word m (at (summary w)) ≡ wordOf (occupiedAt m) w) × (word m (at top) ≡ topOf (occupiedAt m)))
+    (((w : ℕ) → w < 8 → word m (at (Slot.Summary w)) ≡ wordOf (occupiedAt m) w) × (word m (at Slot.Top) ≡ topOf (occupiedAt m)))
 unfolding summaryTest
 tells-summary m = tells-and (tells-below 8 _ _ (λ w h. tells-eqb _ _)) (tells-eqb _ _)
 
-pub tells-unused : (m : List ℕ) (i : ℕ) → Decides (unusedTest m i) (word m (at (unused i)) ≡ 0)
+pub tells-unused : (m : List ℕ) (i : ℕ) → Decides (unusedTest m i) (word m (at (Slot.Unused i)) ≡ 0)
 unfolding unusedTest
 tells-unused m i = tells-eqb _ 0
 
 -- The running thread
 
-pub runs-in-range : (m : List ℕ) → runningTest m ≡ true → word m (at running) ≤ 256
+pub runs-in-range : (m : List ℕ) → runningTest m ≡ true → word m (at Slot.Running) ≤ 256
 unfolding runningTest runningFrom
-runs-in-range m h = go (word m (at running)) h
+runs-in-range m h = go (word m (at Slot.Running)) h
   where
     go : (w : ℕ) → runningFrom w m ≡ true → w ≤ 256
     go zero i = omega arith
@@ -117,14 +118,14 @@ module _ (m : List ℕ) (s : State) (R : Reads m s) where
 
   pub tells-running : Decides (runningTest m) (NoneAbove s (s .runs))
   unfolding runningTest runningFrom
-  tells-running = rw (R .slots running tt) (go (s .runs) refl)
+  tells-running = rw (R .slots Slot.Running tt) (go (s .runs) refl)
     where
       go : (o : Option ℕ) → s .runs ≡ o → Decides (runningFrom (linkOf o) m) (NoneAbove s o)
       go none i = tells-below 256 _ _ tells-empty
       go (some t) i =
           let small = R .neat .runs-small t i in
           let low : (p : ℕ) → Decides (leb p (threadAt m Field.Priority t)) (p ≤ s .threads t .priority)
-          = λ p. rw (R .slots (ofThread Field.Priority t) small) (tells-leb p (s .threads t .priority)) in
+          = λ p. rw (R .slots (Slot.Thread Field.Priority t) small) (tells-leb p (s .threads t .priority)) in
           tells-map (λ r. (r .0 .1, r .1)) (λ r. ((small, r .0), r .1))
           (tells-and (tells-and (tells-leb t 255) (tells-seat m s R t able small tt))
           (tells-below 256 _ _ (λ p k. tells-or (low p) (tells-empty p k))))
@@ -134,9 +135,9 @@ module _ (m : List ℕ) (s : State) (R : Reads m s) where
   pub summary-passes : summaryTest m ≡ true
   summary-passes =
       tells-summary m .back (
-        λ w h. R .slots (summary w) (omega arith) ∙ sym (same-word m s (level-joined m s R) w (omega arith)),
-        R .slots top tt ∙ sym (same-top m s (level-joined m s R)),
+        λ w h. R .slots (Slot.Summary w) (omega arith) ∙ sym (same-word m s (level-joined m s R) w (omega arith)),
+        R .slots Slot.Top tt ∙ sym (same-top m s (level-joined m s R)),
       )
 
   pub unused-passes : (i : ℕ) → i < 470 → unusedTest m i ≡ true
-  unused-passes i h = tells-unused m i .back (R .slots (unused i) (omega arith))
+  unused-passes i h = tells-unused m i .back (R .slots (Slot.Unused i) (omega arith))

@@ -9,7 +9,9 @@ use Rattle.machine.specs.State.{State, Place, absent, able, sending, receiving,
 use Rattle.machine.specs.Sound.{Ready, Queued}
 use Rattle.machine.proofs.Lists.{Same, same, other, same?}
 use Rattle.layout.specs.declared.Field.{Field}
-use Rattle.layout.specs.Addresses.{ofThread, next, prev, linkAt, word}
+use Rattle.layout.specs.declared.Slot.{Slot}
+use Rattle.layout.specs.declared.Link.{Link}
+use Rattle.layout.specs.Addresses.{linkAt, word}
 use Rattle.layout.specs.Words.{placeCode, queuesOf}
 use Rattle.layout.specs.Tests.{member}
 use Rattle.layout.proofs.RoundTrip.{PlaceSmall}
@@ -68,7 +70,7 @@ module _ (m : List ℕ) (s : State) (R : Reads m s) (t : ℕ) (h : t ≤ 255) wh
   tells-belongs =
       tells-map (⊎-elim inl (λ r. inr (from r))) (⊎-elim inl (λ r. inr (to r)))
       (tells-or (tells-and (tells-seat m s R t able h tt) (tells-not (tells-runs m s R t)))
-      (rw (R .slots (ofThread Field.Place t) h)
+      (rw (R .slots (Slot.Thread Field.Place t) h)
       (tells-and (tells-leb 2 (placeCode (s .threads t .place))) (tells-ltb (placeCode (s .threads t .place)) 130))))
     where
       from : (2 ≤ placeCode (s .threads t .place)) × (placeCode (s .threads t .place) < 130) → (e : ℕ) × Queued s t e
@@ -83,7 +85,7 @@ module _ (m : List ℕ) (s : State) (R : Reads m s) (t : ℕ) (h : t ≤ 255) wh
   pub tells-placed :
       Decides (placedTest m t)
       ((InQueue s t ↔ Belongs s t)
-      × (InQueue s t ⊎ ((word m (linkAt (next t)) ≡ 0) × (word m (linkAt (prev t)) ≡ 0))))
+      × (InQueue s t ⊎ ((word m (linkAt (Link.Next t)) ≡ 0) × (word m (linkAt (Link.Prev t)) ≡ 0))))
   unfolding placedTest
   tells-placed =
       tells-and (tells-agree (tells-below 320 (omega arith)) tells-belongs)

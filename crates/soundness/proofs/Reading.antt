@@ -13,7 +13,9 @@ use Rattle.machine.specs.Scheduling.{occupied}
 use Rattle.summary.specs.Levels.{wordOf, topOf}
 use Rattle.summary.proofs.Masks.{bits-agree}
 use Rattle.layout.specs.declared.Field.{Field}
-use Rattle.layout.specs.Addresses.{Slot, ValidSlot, ofThread, running, head, at, linkAt, word}
+use Rattle.layout.specs.declared.Slot.{Slot}
+use Rattle.layout.specs.declared.Link.{Link}
+use Rattle.layout.specs.Addresses.{ValidSlot, at, linkAt, word}
 use Rattle.layout.specs.Words.{placeCode, firstOf, occupiedIn, content, queuesOf}
 use Rattle.layout.specs.Shows.{Chain}
 use Rattle.layout.proofs.Chains.{chain-first}
@@ -66,10 +68,10 @@ module _ (m : List ℕ) (s : State) (R : Reads m s) where
       (t : ℕ) (q : Place) → t ≤ 255 → PlaceSmall q
       → Decides (eqb (threadAt m Field.Place t) (placeCode q)) (s .threads t .place ≡ q)
   tells-seat t q h g =
-      rw (R .slots (ofThread Field.Place t) h) (tells-place (s .threads t .place) q (R .neat .threads t .place-small) g)
+      rw (R .slots (Slot.Thread Field.Place t) h) (tells-place (s .threads t .place) q (R .neat .threads t .place-small) g)
 
-  pub tells-runs : (t : ℕ) → Decides (eqb (word m (at running)) (suc t)) (s .runs ≡ some t)
-  tells-runs t = rw (R .slots running tt) (tells-some (s .runs) t)
+  pub tells-runs : (t : ℕ) → Decides (eqb (word m (at Slot.Running)) (suc t)) (s .runs ≡ some t)
+  tells-runs t = rw (R .slots Slot.Running tt) (tells-some (s .runs) t)
 
   pub tells-ready :
       (p t : ℕ) → t ≤ 255
@@ -79,7 +81,7 @@ module _ (m : List ℕ) (s : State) (R : Reads m s) where
   tells-ready p t h =
       tells-and
       (tells-and (tells-seat t able h tt)
-      (rw (R .slots (ofThread Field.Priority t) h) (tells-eqb (s .threads t .priority) p)))
+      (rw (R .slots (Slot.Thread Field.Priority t) h) (tells-eqb (s .threads t .priority) p)))
       (tells-not (tells-runs t))
 
   pub tells-level :
@@ -90,7 +92,7 @@ module _ (m : List ℕ) (s : State) (R : Reads m s) where
   unfolding levelTest
   tells-level p h =
       rw (
-        level-split m p 257 (word m (linkAt (head p))) 0,
+        level-split m p 257 (word m (linkAt (Link.Head p))) 0,
         walk-along m p (s .levels p) (level-joined p h) (R .neat .ready-small p) (every (readyTest m p)),
       )
       (tells-every (readyTest m p) _ (s .levels p) (λ t k. tells-ready p t (R .neat .ready-small p t k)))

@@ -7,8 +7,8 @@ use mathlib.Core.List.{List}
 use native.Mathlib.Omega.{arith}
 use borrow.Author.Tests.{le-leb}
 use Rattle.machine.specs.State.{Thread}
-use Rattle.layout.specs.Addresses.{Slot, ofThread, ofEndpoint, ofLine, summary, top, running, unused, ValidSlot, at}
-use Rattle.layout.specs.Addresses.{word, afterAt}
+use Rattle.layout.specs.declared.Slot.{Slot}
+use Rattle.layout.specs.Addresses.{ValidSlot, at, word, afterAt}
 use Rattle.layout.specs.Words.{threadWord, lineCode, content, queuesOf}
 use Rattle.layout.specs.Shows.{Chain}
 use Rattle.layout.specs.Decode.{threadFrom, endpointFrom, lineBy, queueFrom, decode}
@@ -40,7 +40,7 @@ module _ (m : List ℕ) where
   unfolding decode
   end-at e h = rw (le-leb e 63 h)
 
-  line-at : (l : ℕ) → l ≤ 31 → decode m .lines l ≡ lineBy (word m (at (ofLine l)))
+  line-at : (l : ℕ) → l ≤ 31 → decode m .lines l ≡ lineBy (word m (at (Slot.Line l)))
   unfolding decode
   line-at l h = rw (le-leb l 31 h)
 
@@ -71,15 +71,15 @@ module _ (m : List ℕ) (T : Tried m) where
       go (endpoint e k i) = rw (i, queues-endpoint (decode m) e) (end-joined e k)
 
   slots : (a : Slot) → ValidSlot a → word m (at a) ≡ content (decode m) a
-  slots (ofThread f t) h =
+  slots (Slot.Thread f t) h =
       sym (ap (λ (x : Thread). threadWord x f) (thread-at m t h) ∙ block-words m t h (T .blocks t (omega arith)) f)
-  slots (ofEndpoint p e) h = sym (end-same e h .words p)
-  slots (ofLine l) h = sym (ap lineCode (line-at m l h) ∙ line-word m l (T .lines l (omega arith)))
-  slots (summary w) h =
+  slots (Slot.Endpoint p e) h = sym (end-same e h .words p)
+  slots (Slot.Line l) h = sym (ap lineCode (line-at m l h) ∙ line-word m l (T .lines l (omega arith)))
+  slots (Slot.Summary w) h =
       tells-summary m .holds (T .summary) .0 w (omega arith) ∙ same-word m (decode m) level-joined w h
-  slots top h = tells-summary m .holds (T .summary) .1 ∙ same-top m (decode m) level-joined
-  slots running h = unfold decode in sym (linked-again (word m (at running)) (runs-in-range m (T .running)))
-  slots (unused i) h = tells-unused m i .holds (T .unused i (omega arith))
+  slots Slot.Top h = tells-summary m .holds (T .summary) .1 ∙ same-top m (decode m) level-joined
+  slots Slot.Running h = unfold decode in sym (linked-again (word m (at Slot.Running)) (runs-in-range m (T .running)))
+  slots (Slot.Unused i) h = tells-unused m i .holds (T .unused i (omega arith))
 
   pub tried-reads : Reads m (decode m)
   tried-reads = record { neat = decode-neat m; slots = slots; chains = chains }

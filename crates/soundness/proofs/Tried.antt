@@ -9,7 +9,8 @@ use native.Mathlib.Omega.{arith}
 use Rattle.machine.specs.Lists.{Mem}
 use Rattle.machine.specs.State.{State, able}
 use Rattle.layout.specs.declared.Part.{Part}
-use Rattle.layout.specs.Addresses.{next, prev, linkAt, word}
+use Rattle.layout.specs.declared.Link.{Link}
+use Rattle.layout.specs.Addresses.{linkAt, word}
 use Rattle.layout.proofs.Tests.{Decides, tells-map, tells-and, tells-below}
 use Rattle.soundness.specs.Checks.{endpointAt, blockTest, levelTest, statusTest, abortTest, waitersTest}
 use Rattle.soundness.specs.Checks.{endpointTest, lineTest, summaryTest, runningTest, unusedTest, placedTest}
@@ -72,7 +73,7 @@ pub record Untried (m : List ℕ) (s : State) : Type 0 where
   pub placed :
       (t : ℕ) → t < 256
       → (InQueue s t ↔ Belongs s t)
-      × (InQueue s t ⊎ ((word m (linkAt (next t)) ≡ 0) × (word m (linkAt (prev t)) ≡ 0)))
+      × (InQueue s t ⊎ ((word m (linkAt (Link.Next t)) ≡ 0) × (word m (linkAt (Link.Prev t)) ≡ 0)))
 
 module _ (m : List ℕ) (s : State) (R : Reads m s) where
   pub left-of : Tried m → Untried m s

@@ -14,7 +14,9 @@ use Rattle.machine.specs.State.{State, Place, absent, sending, receiving, Abort
 use Rattle.machine.specs.Endpoints.{pendingOf}
 use Rattle.layout.specs.declared.Field.{Field}
 use Rattle.layout.specs.declared.Part.{Part}
-use Rattle.layout.specs.Addresses.{ofThread, ofEndpoint, head, linkAt, word, afterAt}
+use Rattle.layout.specs.declared.Slot.{Slot}
+use Rattle.layout.specs.declared.Link.{Link}
+use Rattle.layout.specs.Addresses.{linkAt, word, afterAt}
 use Rattle.layout.specs.Words.{firstOf, lastOf, placeCode, abortCode, badgeCode}
 use Rattle.layout.specs.Shows.{Chain}
 use Rattle.layout.specs.Decode.{between, queueFrom}
@@ -31,7 +33,7 @@ use Rattle.soundness.proofs.Reading.{Reads, end-joined, tells-seat}
 -- The place that all in the queue must have, and the badge that may not stand outside the marks.
 
 abbrev kindIn : List ℕ → ℕ → ℕ
-kindIn m e = kindOf (word m (linkAt (head (256 + e)))) m e
+kindIn m e = kindOf (word m (linkAt (Link.Head (256 + e)))) m e
 
 abbrev bannedIn : List ℕ → ℕ → ℕ
 bannedIn m e = bannedOf m e (kindIn m e)
@@ -145,7 +147,7 @@ module _ (m : List ℕ) (s : State) (R : Reads m s) (e : ℕ) (h : e ≤ 63) whe
 
   pending-there : between (endpointAt m Part.Cursor e) (endpointAt m Part.End e) l ≡ pend
   pending-there =
-      rw (R .slots (ofEndpoint Part.Cursor e) h, R .slots (ofEndpoint Part.End e) h)
+      rw (R .slots (Slot.Endpoint Part.Cursor e) h, R .slots (Slot.Endpoint Part.End e) h)
       (between-back l pend (R .neat .endpoints e .neat .part) apart)
 
   tells-walk : Decides (waitersTest m e) (Kind m e × (AllOf m e l × Marks-in m e l))
@@ -163,7 +165,7 @@ module _ (m : List ℕ) (s : State) (R : Reads m s) (e : ℕ) (h : e ≤ 63) whe
           ∙ walk-along m (256 + e) l (end-joined m s R e h) small (threadsTest m e)
 
   at-place : (t : ℕ) (q : Place) → t ≤ 255 → s .threads t .place ≡ q → threadAt m Field.Place t ≡ placeCode q
-  at-place t q k i = R .slots (ofThread Field.Place t) k ∙ ap placeCode i
+  at-place t q k i = R .slots (Slot.Thread Field.Place t) k ∙ ap placeCode i
 
   sends : AllOf m e l → kindIn m e ≡ 2 + e → (t : ℕ) → Mem t l → s .threads t .place ≡ sending e
   sends A k t i =
@@ -179,16 +181,16 @@ module _ (m : List ℕ) (s : State) (R : Reads m s) (e : ℕ) (h : e ≤ 63) whe
 
   alike : Kind m e → AllOf m e l → AllAlike s e
   alike (inl k) A = inl (sends A k)
-  alike (inr k) A = inr (receives A (k .0), first-zero pend (sym (R .slots (ofEndpoint Part.Cursor e) h) ∙ k .1))
+  alike (inr k) A = inr (receives A (k .0), first-zero pend (sym (R .slots (Slot.Endpoint Part.Cursor e) h) ∙ k .1))
 
   none-outside : Kind m e → AllOf m e l → Marks-in m e l → NoneOutside s e
   none-outside (inr k) A M a t i p u b =
       absurd (omega (arith, sym (ap placeCode p) ∙ ap placeCode (receives A (k .0) t u)))
   none-outside (inl k) A M a t i p u b =
       let banned : bannedIn m e ≡ a .badge
-      = banned-hit m e (R .slots (ofEndpoint Part.Aborting e) h ∙ ap abortCode i) k
-      ∙ R .slots (ofEndpoint Part.Aborted e) h ∙ ap badgeCode i in
-      subst (Mem t) pending-there (M .outside t u (R .slots (ofThread Field.Badge t) (small t u) ∙ b ∙ sym banned))
+      = banned-hit m e (R .slots (Slot.Endpoint Part.Aborting e) h ∙ ap abortCode i) k
+      ∙ R .slots (Slot.Endpoint Part.Aborted e) h ∙ ap badgeCode i in
+      subst (Mem t) pending-there (M .outside t u (R .slots (Slot.Thread Field.Badge t) (small t u) ∙ b ∙ sym banned))
 
   -- To the test
 
@@ -215,20 +217,20 @@ module _ (m : List ℕ) (s : State) (R : Reads m s) (e : ℕ) (h : e ≤ 63) whe
       )
       go (inr n) =
           let k = kind-of (66 + e) there (λ z. absurd (n z)) in
-          (inr (k, R .slots (ofEndpoint Part.Cursor e) h ∙ ap firstOf (f .1)), λ t i. there t i ∙ sym k)
+          (inr (k, R .slots (Slot.Endpoint Part.Cursor e) h ∙ ap firstOf (f .1)), λ t i. there t i ∙ sym k)
 
   badge-small : Kind m e → AllOf m e l → (t : ℕ) → Mem t l → threadAt m Field.Badge t < 2 ^ 28
   badge-small K A t i =
       let n : s .threads t .place ≡ absent → ⊥
       = λ z. ⊎-elim (λ k. omega (arith, at-place t absent (small t i) z, A t i))
       (λ k. omega (arith, at-place t absent (small t i) z, A t i, k .0)) K in
-      omega (arith, R .slots (ofThread Field.Badge t) (small t i), R .neat .threads t .numbers n .badge)
+      omega (arith, R .slots (Slot.Thread Field.Badge t) (small t i), R .neat .threads t .numbers n .badge)
 
   to-marks : Kind m e → AllOf m e l → NoneOutside s e → Marks-in m e l
   to-marks K A O =
       record {
-        first = ap firstOf pending-there ∙ sym (R .slots (ofEndpoint Part.Cursor e) h);
-        last = λ _. ap (lastOf 0) pending-there ∙ sym (R .slots (ofEndpoint Part.End e) h);
+        first = ap firstOf pending-there ∙ sym (R .slots (Slot.Endpoint Part.Cursor e) h);
+        last = λ _. ap (lastOf 0) pending-there ∙ sym (R .slots (Slot.Endpoint Part.End e) h);
         outside = λ t i b.
             subst (Mem t) (sym pending-there)
             (⊎-elim (λ r. under t i b r (s .endpoints e .abort) refl)
@@ -240,11 +242,11 @@ module _ (m : List ℕ) (s : State) (R : Reads m s) (e : ℕ) (h : e ≤ 63) whe
           → (endpointAt m Part.Aborting e ≡ 1) × (kindIn m e ≡ 2 + e) → (o : Option Abort) → s .endpoints e .abort ≡ o
           → Mem t pend
       under t i b r none z =
-          absurd (omega (arith, sym (r .0) ∙ R .slots (ofEndpoint Part.Aborting e) h ∙ ap abortCode z))
+          absurd (omega (arith, sym (r .0) ∙ R .slots (Slot.Endpoint Part.Aborting e) h ∙ ap abortCode z))
       under t i b r (some a) z =
           O a t z (sends A (r .1) t i) i
-          (sym (R .slots (ofThread Field.Badge t) (small t i)) ∙ b ∙ banned-hit m e (r .0) (r .1)
-          ∙ R .slots (ofEndpoint Part.Aborted e) h ∙ ap badgeCode z)
+          (sym (R .slots (Slot.Thread Field.Badge t) (small t i)) ∙ b ∙ banned-hit m e (r .0) (r .1)
+          ∙ R .slots (Slot.Endpoint Part.Aborted e) h ∙ ap badgeCode z)
 
   pub tells-waiters : Decides (waitersTest m e) (AllAlike s e × NoneOutside s e)
   tells-waiters =

@@ -10,18 +10,19 @@ use Rattle.machine.specs.State.{messageReceived}
 use Rattle.summary.specs.Levels.{wordOf, topOf}
 use Rattle.layout.specs.declared.Field.{Field}
 use Rattle.layout.specs.declared.Part.{Part}
-use Rattle.layout.specs.Addresses.{ofThread, ofEndpoint, ofLine, summary, top, running, unused, next, prev, head, at}
-use Rattle.layout.specs.Addresses.{linkAt, word, afterAt, beforeAt, endpointQueue}
+use Rattle.layout.specs.declared.Slot.{Slot}
+use Rattle.layout.specs.declared.Link.{Link}
+use Rattle.layout.specs.Addresses.{at, linkAt, word, afterAt, beforeAt, endpointQueue}
 use Rattle.layout.specs.Words.{placeCode, debtCode, lineCode}
 use Rattle.layout.specs.Tests.{all, member, same}
 use Rattle.soundness.specs.declared.Phase.{Phase}
 
 -- The words by name.
 abbrev pub threadAt : List ℕ → Field → ℕ → ℕ
-threadAt m f t = word m (at (ofThread f t))
+threadAt m f t = word m (at (Slot.Thread f t))
 
 abbrev pub endpointAt : List ℕ → Part → ℕ → ℕ
-endpointAt m p e = word m (at (ofEndpoint p e))
+endpointAt m p e = word m (at (Slot.Endpoint p e))
 
 -- Blocks
 
@@ -53,7 +54,7 @@ storedTest m t =
 unfoldable pub waitsTest : List ℕ → ℕ → Bool
 waitsTest m t =
     ltb (threadAt m Field.Place t) (placeCode (waiting 0))
-    || eqb (word m (at (ofLine (threadAt m Field.Place t - placeCode (waiting 0))))) (lineCode (awaited t))
+    || eqb (word m (at (Slot.Line (threadAt m Field.Place t - placeCode (waiting 0))))) (lineCode (awaited t))
 
 -- What a thread owes: nothing, an abort that names it as owner, or a note of a badge in range.
 unfoldable pub owesTest : ℕ → List ℕ → ℕ → Bool
@@ -75,7 +76,7 @@ blockTest m t = pick (eqb (threadAt m Field.Place t) (placeCode absent)) (absent
 unfoldable pub readyTest : List ℕ → ℕ → ℕ → Bool
 readyTest m p t =
     eqb (threadAt m Field.Place t) (placeCode able) && eqb (threadAt m Field.Priority t) p
-    && not (eqb (word m (at running)) (suc t))
+    && not (eqb (word m (at Slot.Running)) (suc t))
 
 -- The queue of level p from link x on, n - 1 threads at most: each is linked back to the one before it and ready at p.
 unfoldable pub levelFrom : ℕ → ℕ → List ℕ → ℕ → ℕ → Bool
@@ -133,7 +134,7 @@ bannedOf m e k =
     pick (eqb (endpointAt m Part.Aborting e) 1 && eqb k (placeCode (sending e))) (endpointAt m Part.Aborted e) (2 ^ 28)
 
 abbrev pub kindIn : List ℕ → ℕ → ℕ
-kindIn m e = kindOf (word m (linkAt (head (endpointQueue e)))) m e
+kindIn m e = kindOf (word m (linkAt (Link.Head (endpointQueue e)))) m e
 
 unfoldable pub waitersTest : List ℕ → ℕ → Bool
 waitersTest m e =
@@ -159,7 +160,7 @@ abortTest (suc (suc n)) m e = false
 
 -- An absent endpoint is empty; an absent or closing one has no abort.
 unfoldable pub statusTest : ℕ → List ℕ → ℕ → Bool
-statusTest zero m e = eqb (word m (linkAt (head (endpointQueue e)))) 0 && eqb (endpointAt m Part.Aborting e) 0
+statusTest zero m e = eqb (word m (linkAt (Link.Head (endpointQueue e)))) 0 && eqb (endpointAt m Part.Aborting e) 0
 statusTest (suc zero) m e = true
 statusTest (suc (suc zero)) m e = eqb (endpointAt m Part.Aborting e) 0
 statusTest (suc (suc (suc n))) m e = false
@@ -177,15 +178,15 @@ lineFrom (suc zero) m l = true
 lineFrom (suc (suc t)) m l = leb t 255 && eqb (threadAt m Field.Place t) (placeCode (waiting l))
 
 unfoldable pub lineTest : List ℕ → ℕ → Bool
-lineTest m l = lineFrom (word m (at (ofLine l))) m l
+lineTest m l = lineFrom (word m (at (Slot.Line l))) m l
 
 -- Level p is occupied: its queue has a first.
 abbrev pub occupiedAt : List ℕ → ℕ → Bool
-occupiedAt m p = not (eqb (word m (linkAt (head p))) 0)
+occupiedAt m p = not (eqb (word m (linkAt (Link.Head p))) 0)
 
 unfoldable pub summaryTest : List ℕ → Bool
 summaryTest m =
-    all 8 (λ w. eqb (word m (at (summary w))) (wordOf (occupiedAt m) w)) && eqb (word m (at top)) (topOf (occupiedAt m))
+    all 8 (λ w. eqb (word m (at (Slot.Summary w))) (wordOf (occupiedAt m) w)) && eqb (word m (at Slot.Top)) (topOf (occupiedAt m))
 
 -- Nobody ready is above the running thread; none is ready if none runs.
 unfoldable pub runningFrom : ℕ → List ℕ → Bool
@@ -195,10 +196,10 @@ runningFrom (suc t) m =
     && all 256 (λ p. leb p (threadAt m Field.Priority t) || not (occupiedAt m p))
 
 unfoldable pub runningTest : List ℕ → Bool
-runningTest m = runningFrom (word m (at running)) m
+runningTest m = runningFrom (word m (at Slot.Running)) m
 
 unfoldable pub unusedTest : List ℕ → ℕ → Bool
-unusedTest m i = eqb (word m (at (unused i))) 0
+unusedTest m i = eqb (word m (at (Slot.Unused i))) 0
 
 -- Each thread stands where its place says
 
@@ -206,10 +207,10 @@ unusedTest m i = eqb (word m (at (unused i))) 0
 unfoldable pub metFrom : ℕ → ℕ → List ℕ → List ℕ
 metFrom zero y m = []
 metFrom (suc n) zero m = []
-metFrom (suc n) (suc t) m = t ∷ metFrom n (word m (linkAt (next t))) m
+metFrom (suc n) (suc t) m = t ∷ metFrom n (word m (linkAt (Link.Next t))) m
 
 unfoldable pub met : List ℕ → ℕ → List ℕ
-met m q = metFrom 256 (word m (linkAt (head q))) m
+met m q = metFrom 256 (word m (linkAt (Link.Head q))) m
 
 -- Met in one of the first n queues.
 unfoldable pub metBelow : ℕ → List ℕ → ℕ → Bool
@@ -219,7 +220,7 @@ metBelow (suc q) m t = member t (met m q) || metBelow q m t
 -- A thread that is ready, sends or receives is in a queue.
 unfoldable pub queuedTest : List ℕ → ℕ → Bool
 queuedTest m t =
-    (eqb (threadAt m Field.Place t) (placeCode able) && not (eqb (word m (at running)) (suc t)))
+    (eqb (threadAt m Field.Place t) (placeCode able) && not (eqb (word m (at Slot.Running)) (suc t)))
     || (leb (placeCode (sending 0)) (threadAt m Field.Place t)
     && ltb (threadAt m Field.Place t) (placeCode (waiting 0)))
 
@@ -227,7 +228,7 @@ queuedTest m t =
 unfoldable pub placedTest : List ℕ → ℕ → Bool
 placedTest m t =
     same (metBelow 320 m t) (queuedTest m t)
-    && (metBelow 320 m t || (eqb (word m (linkAt (next t))) 0 && eqb (word m (linkAt (prev t))) 0))
+    && (metBelow 320 m t || (eqb (word m (linkAt (Link.Next t))) 0 && eqb (word m (linkAt (Link.Prev t))) 0))
 
 -- All tests.
 unfoldable pub goodTest : List ℕ → Bool

@@ -7,8 +7,8 @@ use Rattle.machine.specs.Lists.{put}
 use Rattle.machine.specs.State.{State, Thread, setThread, withPlace, withPriority, withTicks, withDebt}
 use Rattle.machine.proofs.Lists.{Same, same, other, same?, put-same, put-other}
 use Rattle.layout.specs.declared.Field.{Field}
-use Rattle.layout.specs.Addresses.{Slot, ofThread}
-use Rattle.layout.specs.Addresses.{ofEndpoint, ofLine, summary, top, running, unused, ValidSlot, column, at, word}
+use Rattle.layout.specs.declared.Slot.{Slot}
+use Rattle.layout.specs.Addresses.{ValidSlot, column, at, word}
 use Rattle.layout.specs.Words.{placeCode, debtCode, noteCode, threadWord, content, queuesOf}
 use Rattle.layout.specs.Shows.{Shows}
 use Rattle.layout.proofs.Addresses.{same-field}
@@ -19,16 +19,16 @@ use Rattle.store.proofs.Rows.{RowChanged, change, IsRow, row-store, row
 
 -- The slots that are not of thread t.
 abbrev OffBlock : ℕ → Slot → Type 0
-OffBlock t (ofThread f u) = u ≡ t → ⊥
-OffBlock t (ofEndpoint p e) = Unit {0}
-OffBlock t (ofLine l) = Unit {0}
-OffBlock t (summary w) = Unit {0}
-OffBlock t top = Unit {0}
-OffBlock t running = Unit {0}
-OffBlock t (unused i) = Unit {0}
+OffBlock t (Slot.Thread f u) = u ≡ t → ⊥
+OffBlock t (Slot.Endpoint p e) = Unit {0}
+OffBlock t (Slot.Line l) = Unit {0}
+OffBlock t (Slot.Summary w) = Unit {0}
+OffBlock t Slot.Top = Unit {0}
+OffBlock t Slot.Running = Unit {0}
+OffBlock t (Slot.Unused i) = Unit {0}
 
 abbrev blockRow : ℕ → Field → Slot
-blockRow t f = ofThread f t
+blockRow t f = Slot.Thread f t
 
 abbrev Block : ℕ → List ℕ → List ℕ → (Field → ℕ) → Type 0
 Block t m n w = RowChanged (blockRow t) (OffBlock t) m n w
@@ -67,22 +67,22 @@ module _ (t : ℕ) (small : t ≤ 255) where
   block-shows m n w s x M B e = row-shows (blockRow t) (OffBlock t) m n w s (setThread t x s) M B slots (λ q h. refl)
     where
       in-block : (f : Field) (u : ℕ) → u ≤ 255 → Same u t
-          → word n (at (ofThread f u)) ≡ threadWord (put (s .threads) t x u) f
+          → word n (at (Slot.Thread f u)) ≡ threadWord (put (s .threads) t x u) f
       in-block f u h (same k _) = rw (k, put-same (s .threads) t x) (B .here f ∙ e f)
       in-block f u h (other d _) =
-          rw (put-other (s .threads) t u x d) (B .slots (ofThread f u) h d ∙ M .slots (ofThread f u) h)
+          rw (put-other (s .threads) t u x d) (B .slots (Slot.Thread f u) h d ∙ M .slots (Slot.Thread f u) h)
 
       slots : (a : Slot) → ValidSlot a → word n (at a) ≡ content (setThread t x s) a
-      slots (ofThread f u) h = in-block f u h (same? u t)
-      slots (ofEndpoint p k) h = B .slots (ofEndpoint p k) h tt ∙ M .slots (ofEndpoint p k) h
-      slots (ofLine l) h = B .slots (ofLine l) h tt ∙ M .slots (ofLine l) h
-      slots (summary k) h = B .slots (summary k) h tt ∙ M .slots (summary k) h
-      slots top h = B .slots top h tt ∙ M .slots top h
-      slots running h = B .slots running h tt ∙ M .slots running h
-      slots (unused i) h = B .slots (unused i) h tt ∙ M .slots (unused i) h
+      slots (Slot.Thread f u) h = in-block f u h (same? u t)
+      slots (Slot.Endpoint p k) h = B .slots (Slot.Endpoint p k) h tt ∙ M .slots (Slot.Endpoint p k) h
+      slots (Slot.Line l) h = B .slots (Slot.Line l) h tt ∙ M .slots (Slot.Line l) h
+      slots (Slot.Summary k) h = B .slots (Slot.Summary k) h tt ∙ M .slots (Slot.Summary k) h
+      slots Slot.Top h = B .slots Slot.Top h tt ∙ M .slots Slot.Top h
+      slots Slot.Running h = B .slots Slot.Running h tt ∙ M .slots Slot.Running h
+      slots (Slot.Unused i) h = B .slots (Slot.Unused i) h tt ∙ M .slots (Slot.Unused i) h
 
   block-store :
-      (m n n′ : List ℕ) (w : Field → ℕ) (f : Field) (i v : ℕ) → Address i (at (ofThread f t)) → n′ ≡ set n i v
+      (m n n′ : List ℕ) (w : Field → ℕ) (f : Field) (i v : ℕ) → Address i (at (Slot.Thread f t)) → n′ ≡ set n i v
       → Block t m n w → Block t m n′ (change column f v w)
   block-store = row-store (blockRow t) (OffBlock t) column is-block
 
@@ -93,7 +93,7 @@ module _ (t : ℕ) (small : t ≤ 255) where
 
 module _ (t : ℕ) {m n₁ : List ℕ} {i₁ : ℕ} where
   pub priority-does :
-      (p : ℕ) → Address i₁ (at (ofThread Field.Priority t)) → n₁ ≡ set m i₁ p
+      (p : ℕ) → Address i₁ (at (Slot.Thread Field.Priority t)) → n₁ ≡ set m i₁ p
       → Does m n₁ (IsThread t) (prioritising t p)
   priority-does p a₁ e₁ =
       record {
@@ -104,7 +104,7 @@ module _ (t : ℕ) {m n₁ : List ℕ} {i₁ : ℕ} where
       }
 
   pub ticks-does :
-      (n : ℕ) → Address i₁ (at (ofThread Field.Ticks t)) → n₁ ≡ set m i₁ n → Does m n₁ (IsThread t) (ticking t n)
+      (n : ℕ) → Address i₁ (at (Slot.Thread Field.Ticks t)) → n₁ ≡ set m i₁ n → Does m n₁ (IsThread t) (ticking t n)
   ticks-does n a₁ e₁ =
       record {
         shows = λ s M h.
@@ -115,8 +115,8 @@ module _ (t : ℕ) {m n₁ : List ℕ} {i₁ : ℕ} where
 
   module _ {n₂ : List ℕ} {i₂ : ℕ} where
     pub owes-does :
-        (code b : ℕ) → Address i₁ (at (ofThread Field.Owes t)) → n₁ ≡ set m i₁ code
-        → Address i₂ (at (ofThread Field.Note t)) → n₂ ≡ set n₁ i₂ b → SetsDebt m t code b n₂
+        (code b : ℕ) → Address i₁ (at (Slot.Thread Field.Owes t)) → n₁ ≡ set m i₁ code
+        → Address i₂ (at (Slot.Thread Field.Note t)) → n₂ ≡ set n₁ i₂ b → SetsDebt m t code b n₂
     owes-does code b a₁ e₁ a₂ e₂ =
         record {
           does = λ d k j.
@@ -131,10 +131,10 @@ module _ (t : ℕ) {m n₁ : List ℕ} {i₁ : ℕ} where
 
     module _ {n₃ n₄ : List ℕ} {i₃ i₄ : ℕ} where
       pub place-does :
-          (code o b x : ℕ) → Address i₁ (at (ofThread Field.Place t)) → n₁ ≡ set m i₁ code
-          → Address i₂ (at (ofThread Field.Outcome t)) → n₂ ≡ set n₁ i₂ o
-          → Address i₃ (at (ofThread Field.Badge t)) → n₃ ≡ set n₂ i₃ b
-          → Address i₄ (at (ofThread Field.Message t)) → n₄ ≡ set n₃ i₄ x → SetsPlace m t code o b x n₄
+          (code o b x : ℕ) → Address i₁ (at (Slot.Thread Field.Place t)) → n₁ ≡ set m i₁ code
+          → Address i₂ (at (Slot.Thread Field.Outcome t)) → n₂ ≡ set n₁ i₂ o
+          → Address i₃ (at (Slot.Thread Field.Badge t)) → n₃ ≡ set n₂ i₃ b
+          → Address i₄ (at (Slot.Thread Field.Message t)) → n₄ ≡ set n₃ i₄ x → SetsPlace m t code o b x n₄
       place-does code o b x a₁ e₁ a₂ e₂ a₃ e₃ a₄ e₄ =
           record {
             does = λ p k.

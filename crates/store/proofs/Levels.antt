@@ -12,8 +12,8 @@ use Rattle.machine.proofs.Lists.{Same, same, other, same?, put-other}
 use Rattle.summary.specs.declared.Summary.{Summary}
 use Rattle.summary.specs.Levels.{wordOf, summaryOf, SetsBit}
 use Rattle.summary.proofs.Words.{words-at, words-are, summary-is, summary-words, summary-top, word-agree}
-use Rattle.layout.specs.Addresses.{summary, top, at}
-use Rattle.layout.specs.Addresses.{word}
+use Rattle.layout.specs.declared.Slot.{Slot}
+use Rattle.layout.specs.Addresses.{at, word}
 use Rattle.layout.specs.Words.{occupiedIn}
 use Rattle.layout.specs.Shows.{Shows}
 use Rattle.words.specs.Access.{Address}
@@ -22,29 +22,29 @@ use Rattle.store.proofs.Words.{Stored, stored}
 
 -- The summary's words of a memory that shows a state are those of its occupied levels.
 pub shown-words : (m : List ℕ) (s : State) → Shows m s → SummaryWords m (occupiedIn s)
-shown-words m s M = record { words = λ w h. M .slots (summary w) h; top = M .slots top tt }
+shown-words m s M = record { words = λ w h. M .slots (Slot.Summary w) h; top = M .slots Slot.Top tt }
 
 -- The first w words of the summary are read.
 pub record ReadTo (m row : List ℕ) (w : ℕ) : Type 0 where
   pub long : length row ≡ 8
   pub small : w ≤ 8
-  pub words : (k : ℕ) → k < w → getD row k 0 ≡ word m (at (summary k))
+  pub words : (k : ℕ) → k < w → getD row k 0 ≡ word m (at (Slot.Summary k))
 
 pub read-none : (m row : List ℕ) → length row ≡ 8 → ReadTo m row 0
 read-none m row l = record { long = l; small = omega arith; words = λ k h. absurd (omega arith) }
 
 pub read-more :
-    (m row : List ℕ) (w i v : ℕ) → ReadTo m row w → w < 8 → Address i (at (summary w)) → v ≡ word m i
+    (m row : List ℕ) (w i v : ℕ) → ReadTo m row w → w < 8 → Address i (at (Slot.Summary w)) → v ≡ word m i
     → ReadTo m (set row w v) (w + 1)
 read-more m row w i v R h a e =
     record { long = length-set row w v ∙ R .long; small = omega arith; words = λ k g. go k g (same? k w) }
   where
-    go : (k : ℕ) → k < w + 1 → Same k w → getD (set row w v) k 0 ≡ word m (at (summary k))
+    go : (k : ℕ) → k < w + 1 → Same k w → getD (set row w v) k 0 ≡ word m (at (Slot.Summary k))
     go k g (same j _) = rw j (getD-set-same row w v 0 (omega (arith, R .long)) ∙ e ∙ ap (word m) (a .is))
     go k g (other d _) = getD-set-other row w k v 0 d ∙ R .words k (omega arith)
 
 pub loads :
-    (m row : List ℕ) (w i v : ℕ) → ReadTo m row w → 8 ≤ w → Address i (at top) → v ≡ word m i
+    (m row : List ℕ) (w i v : ℕ) → ReadTo m row w → 8 ≤ w → Address i (at Slot.Top) → v ≡ word m i
     → LoadsSummary m (record { words = row; top = v })
 loads m row w i v R h a e = record { loaded = is; shown = λ s M. is (occupiedIn s) (shown-words m s M) }
   where
@@ -55,27 +55,27 @@ loads m row w i v R h a e = record { loaded = is; shown = λ s M. is (occupiedIn
         (e ∙ ap (word m) (a .is) ∙ S .top)
 
 -- The two stores of a mark.
-no-top : (w : ℕ) → summary w ≡ top → ⊥
+no-top : (w : ℕ) → Slot.Summary w ≡ Slot.Top → ⊥
 no-top w e = let z : _≡_ {A = ℕ} 0 1 = cc in omega arith
 
 pub writes :
     (m n₁ n₂ : List ℕ) (sm : Summary) (p i₁ i₂ : ℕ) → length m ≡ 4096 → p < 256
-    → Address i₁ (at (summary (p / 32))) → n₁ ≡ set m i₁ (getD (sm .words) (p / 32) 0)
-    → Address i₂ (at top) → n₂ ≡ set n₁ i₂ (sm .top) → WritesLevel m sm p n₂
+    → Address i₁ (at (Slot.Summary (p / 32))) → n₁ ≡ set m i₁ (getD (sm .words) (p / 32) 0)
+    → Address i₂ (at Slot.Top) → n₂ ≡ set n₁ i₂ (sm .top) → WritesLevel m sm p n₂
 writes m n₁ n₂ sm p i₁ i₂ size small a₁ e₁ a₂ e₂ =
-    let A : Stored m n₁ (summary (p / 32)) (getD (sm .words) (p / 32) 0) =
-    stored m n₁ (summary (p / 32)) i₁ (getD (sm .words) (p / 32) 0) size (omega arith) a₁ e₁ in
-    let B : Stored n₁ n₂ top (sm .top) = stored n₁ n₂ top i₂ (sm .top) (A .size ∙ size) tt a₂ e₂ in
+    let A : Stored m n₁ (Slot.Summary (p / 32)) (getD (sm .words) (p / 32) 0) =
+    stored m n₁ (Slot.Summary (p / 32)) i₁ (getD (sm .words) (p / 32) 0) size (omega arith) a₁ e₁ in
+    let B : Stored n₁ n₂ Slot.Top (sm .top) = stored n₁ n₂ Slot.Top i₂ (sm .top) (A .size ∙ size) tt a₂ e₂ in
     record {
       size = B .size ∙ A .size;
-      word-is = B .slots (summary (p / 32)) (omega arith) (no-top (p / 32)) ∙ A .here;
-      others = λ w h d. B .slots (summary w) h (no-top w) ∙ A .slots (summary w) h (λ e. d (same-word w e));
+      word-is = B .slots (Slot.Summary (p / 32)) (omega arith) (no-top (p / 32)) ∙ A .here;
+      others = λ w h d. B .slots (Slot.Summary w) h (no-top w) ∙ A .slots (Slot.Summary w) h (λ e. d (same-word w e));
       top = B .here;
       slots = λ b h o. B .slots b h (λ e. rw e at o) ∙ A .slots b h (λ e. rw e at o);
       links = λ k h. B .links k h ∙ A .links k h;
     }
   where
-    same-word : (w : ℕ) → summary w ≡ summary (p / 32) → w ≡ p / 32
+    same-word : (w : ℕ) → Slot.Summary w ≡ Slot.Summary (p / 32) → w ≡ p / 32
     same-word w e = cc
 
 -- A level is set, from the summary that was loaded and the two stores of the changed one.
@@ -88,7 +88,7 @@ module _ (m n : List ℕ) (sm r : Summary) (p : ℕ) (x : Bool) (small : p < 256
         top = W .top ∙ ap (λ (y : Summary). y .top) e ∙ summary-top (put f p x);
       }
     where
-      go : (w : ℕ) → w ≤ 7 → Same w (p / 32) → word n (at (summary w)) ≡ wordOf (put f p x) w
+      go : (w : ℕ) → w ≤ 7 → Same w (p / 32) → word n (at (Slot.Summary w)) ≡ wordOf (put f p x) w
       go w h (same k _) =
           rw k
           (W .word-is ∙ ap (λ (y : Summary). getD (y .words) (p / 32) 0) e

@@ -8,7 +8,9 @@ use lib.ListN.{length, set, length-set}
 use Rattle.machine.specs.Lists.{pick}
 use Rattle.machine.specs.State.{State}
 use Rattle.machine.proofs.Lists.{Same, same, other, same?}
-use Rattle.layout.specs.Addresses.{Slot, Link, ValidSlot, ValidLink, at, linkAt, word}
+use Rattle.layout.specs.declared.Slot.{Slot}
+use Rattle.layout.specs.declared.Link.{Link}
+use Rattle.layout.specs.Addresses.{ValidSlot, ValidLink, at, linkAt, word}
 use Rattle.layout.specs.Words.{content, queuesOf}
 use Rattle.layout.specs.Shows.{Shows}
 use Rattle.layout.proofs.Stores.{slot-same, slot-other, slot-link, linked-keep, linked-same}

@@ -11,8 +11,8 @@ use Rattle.machine.specs.State.{State, Endpoint, setEndpoint}
 use Rattle.machine.specs.Endpoints.{ownerOf, pendingOf}
 use Rattle.machine.proofs.Lists.{Same, same, other, same?, put-same, put-other}
 use Rattle.layout.specs.declared.Part.{Part}
-use Rattle.layout.specs.Addresses.{Slot, ofThread, ofEndpoint}
-use Rattle.layout.specs.Addresses.{ofLine, summary, top, running, unused, ValidSlot, offset, at, word}
+use Rattle.layout.specs.declared.Slot.{Slot}
+use Rattle.layout.specs.Addresses.{ValidSlot, offset, at, word}
 use Rattle.layout.specs.Words.{statusCode, abortCode, badgeCode, linkOf, firstOf, lastOf, endpointWord, content}
 use Rattle.layout.specs.Words.{queuesOf}
 use Rattle.layout.specs.Shows.{Shows}
@@ -23,16 +23,16 @@ use Rattle.store.proofs.Rows.{RowChanged, change, IsRow, row-store, row
 
 -- The slots that are not of endpoint e.
 abbrev OffSite : ℕ → Slot → Type 0
-OffSite e (ofThread f t) = Unit {0}
-OffSite e (ofEndpoint p k) = k ≡ e → ⊥
-OffSite e (ofLine l) = Unit {0}
-OffSite e (summary w) = Unit {0}
-OffSite e top = Unit {0}
-OffSite e running = Unit {0}
-OffSite e (unused i) = Unit {0}
+OffSite e (Slot.Thread f t) = Unit {0}
+OffSite e (Slot.Endpoint p k) = k ≡ e → ⊥
+OffSite e (Slot.Line l) = Unit {0}
+OffSite e (Slot.Summary w) = Unit {0}
+OffSite e Slot.Top = Unit {0}
+OffSite e Slot.Running = Unit {0}
+OffSite e (Slot.Unused i) = Unit {0}
 
 abbrev siteRow : ℕ → Part → Slot
-siteRow e p = ofEndpoint p e
+siteRow e p = Slot.Endpoint p e
 
 abbrev Site : ℕ → List ℕ → List ℕ → (Part → ℕ) → Type 0
 Site e m n w = RowChanged (siteRow e) (OffSite e) m n w
@@ -82,22 +82,22 @@ module _ (e : ℕ) (small : e ≤ 63) where
       row-shows (siteRow e) (OffSite e) m n w s (setEndpoint e x s) M B slots (λ q h. queues-keep s x l q)
     where
       in-site : (p : Part) (u : ℕ) → u ≤ 63 → Same u e
-          → word n (at (ofEndpoint p u)) ≡ endpointWord (put (s .endpoints) e x u) p
+          → word n (at (Slot.Endpoint p u)) ≡ endpointWord (put (s .endpoints) e x u) p
       in-site p u h (same j _) = rw (j, put-same (s .endpoints) e x) (B .here p ∙ k p)
       in-site p u h (other d _) =
-          rw (put-other (s .endpoints) e u x d) (B .slots (ofEndpoint p u) h d ∙ M .slots (ofEndpoint p u) h)
+          rw (put-other (s .endpoints) e u x d) (B .slots (Slot.Endpoint p u) h d ∙ M .slots (Slot.Endpoint p u) h)
 
       slots : (a : Slot) → ValidSlot a → word n (at a) ≡ content (setEndpoint e x s) a
-      slots (ofThread f t) h = B .slots (ofThread f t) h tt ∙ M .slots (ofThread f t) h
-      slots (ofEndpoint p u) h = in-site p u h (same? u e)
-      slots (ofLine j) h = B .slots (ofLine j) h tt ∙ M .slots (ofLine j) h
-      slots (summary j) h = B .slots (summary j) h tt ∙ M .slots (summary j) h
-      slots top h = B .slots top h tt ∙ M .slots top h
-      slots running h = B .slots running h tt ∙ M .slots running h
-      slots (unused i) h = B .slots (unused i) h tt ∙ M .slots (unused i) h
+      slots (Slot.Thread f t) h = B .slots (Slot.Thread f t) h tt ∙ M .slots (Slot.Thread f t) h
+      slots (Slot.Endpoint p u) h = in-site p u h (same? u e)
+      slots (Slot.Line j) h = B .slots (Slot.Line j) h tt ∙ M .slots (Slot.Line j) h
+      slots (Slot.Summary j) h = B .slots (Slot.Summary j) h tt ∙ M .slots (Slot.Summary j) h
+      slots Slot.Top h = B .slots Slot.Top h tt ∙ M .slots Slot.Top h
+      slots Slot.Running h = B .slots Slot.Running h tt ∙ M .slots Slot.Running h
+      slots (Slot.Unused i) h = B .slots (Slot.Unused i) h tt ∙ M .slots (Slot.Unused i) h
 
   pub site-store :
-      (m n n′ : List ℕ) (w : Part → ℕ) (p : Part) (i v : ℕ) → Address i (at (ofEndpoint p e)) → n′ ≡ set n i v
+      (m n n′ : List ℕ) (w : Part → ℕ) (p : Part) (i v : ℕ) → Address i (at (Slot.Endpoint p e)) → n′ ≡ set n i v
       → Site e m n w → Site e m n′ (change offset p v w)
   site-store = row-store (siteRow e) (OffSite e) offset is-site
 
@@ -108,7 +108,7 @@ module _ (e : ℕ) (small : e ≤ 63) where
 
 module _ (e : ℕ) {m n₁ : List ℕ} {i₁ : ℕ} where
   pub status-does :
-      (code : ℕ) → Address i₁ (at (ofEndpoint Part.Status e)) → n₁ ≡ set m i₁ code → SetsStatus m e code n₁
+      (code : ℕ) → Address i₁ (at (Slot.Endpoint Part.Status e)) → n₁ ≡ set m i₁ code → SetsStatus m e code n₁
   status-does code a₁ e₁ =
       record {
         does = λ x k.
@@ -120,7 +120,7 @@ module _ (e : ℕ) {m n₁ : List ℕ} {i₁ : ℕ} where
             };
       }
 
-  pub owner-does : (code : ℕ) → Address i₁ (at (ofEndpoint Part.Owner e)) → n₁ ≡ set m i₁ code → SetsOwner m e code n₁
+  pub owner-does : (code : ℕ) → Address i₁ (at (Slot.Endpoint Part.Owner e)) → n₁ ≡ set m i₁ code → SetsOwner m e code n₁
   owner-does code a₁ e₁ =
       record {
         does = λ o k.
@@ -135,11 +135,11 @@ module _ (e : ℕ) {m n₁ : List ℕ} {i₁ : ℕ} where
 
   module _ {n₂ n₃ n₄ n₅ : List ℕ} {i₂ i₃ i₄ i₅ : ℕ} where
     pub abort-does :
-        (here badge own first last : ℕ) → Address i₁ (at (ofEndpoint Part.Aborting e)) → n₁ ≡ set m i₁ here
-        → Address i₂ (at (ofEndpoint Part.Aborted e)) → n₂ ≡ set n₁ i₂ badge
-        → Address i₃ (at (ofEndpoint Part.Owner e)) → n₃ ≡ set n₂ i₃ own
-        → Address i₄ (at (ofEndpoint Part.Cursor e)) → n₄ ≡ set n₃ i₄ first
-        → Address i₅ (at (ofEndpoint Part.End e)) → n₅ ≡ set n₄ i₅ last → SetsAbort m e here badge own first last n₅
+        (here badge own first last : ℕ) → Address i₁ (at (Slot.Endpoint Part.Aborting e)) → n₁ ≡ set m i₁ here
+        → Address i₂ (at (Slot.Endpoint Part.Aborted e)) → n₂ ≡ set n₁ i₂ badge
+        → Address i₃ (at (Slot.Endpoint Part.Owner e)) → n₃ ≡ set n₂ i₃ own
+        → Address i₄ (at (Slot.Endpoint Part.Cursor e)) → n₄ ≡ set n₃ i₄ first
+        → Address i₅ (at (Slot.Endpoint Part.End e)) → n₅ ≡ set n₄ i₅ last → SetsAbort m e here badge own first last n₅
     abort-does here badge own first last a₁ e₁ a₂ e₂ a₃ e₃ a₄ e₄ a₅ e₅ =
         record {
           none = λ h₁ h₂ h₃ h₄ h₅.
@@ -168,8 +168,8 @@ module _ (e : ℕ) {m n₁ : List ℕ} {i₁ : ℕ} where
 
 -- The two stores of the marks.
 pub looks :
-    (e : ℕ) {m n o : List ℕ} {i j : ℕ} (first last : ℕ) → Address i (at (ofEndpoint Part.Cursor e)) → n ≡ set m i first
-    → Address j (at (ofEndpoint Part.End e)) → o ≡ set n j last → SetsPending m e first last o
+    (e : ℕ) {m n o : List ℕ} {i j : ℕ} (first last : ℕ) → Address i (at (Slot.Endpoint Part.Cursor e)) → n ≡ set m i first
+    → Address j (at (Slot.Endpoint Part.End e)) → o ≡ set n j last → SetsPending m e first last o
 looks e {m} {n} {o} {i} {j} first last a b c d =
     record {
       does = λ l f g.

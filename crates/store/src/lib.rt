@@ -14,6 +14,7 @@ ghost use Rattle.store.specs.Readings.{threadIn, endpointIn, lineIn, run
 ghost use Rattle.store.specs.Levels.{LoadsSummary, SetsLevel, WritesLevel};
 use layout::Field;
 use layout::Part;
+use layout::Slot;
 use layout::codes;
 use summary::Summary;
 
@@ -22,7 +23,7 @@ pub fn thread(tables: &[u32], f: Field, t: usize) -> u32
     requires { ⌜ Shown (now tables) (IsThread t) ⌝ }
     ensures { λ r. ⌜ Tells (now (tables .entry)) (IsThread t) r (threadIn f t) ⌝ }
 {
-    words::get(tables, words::thread_at(f, t))
+    words::get(tables, Slot::Thread(f, t))
 }
 
 // A word of endpoint e.
@@ -30,7 +31,7 @@ pub fn endpoint(tables: &[u32], p: Part, e: usize) -> u32
     requires { ⌜ Shown (now tables) (IsEndpoint e) ⌝ }
     ensures { λ r. ⌜ Tells (now (tables .entry)) (IsEndpoint e) r (endpointIn p e) ⌝ }
 {
-    words::get(tables, words::endpoint_at(p, e))
+    words::get(tables, Slot::Endpoint(p, e))
 }
 
 // What line l holds, as a number.
@@ -38,7 +39,7 @@ pub fn line(tables: &[u32], l: usize) -> u32
     requires { ⌜ Shown (now tables) (IsLine l) ⌝ }
     ensures { λ r. ⌜ Tells (now (tables .entry)) (IsLine l) r (lineIn l) ⌝ }
 {
-    words::get(tables, words::line_at(l))
+    words::get(tables, Slot::Line(l))
 }
 
 // The link to the running thread.
@@ -46,7 +47,7 @@ pub fn running(tables: &[u32]) -> u32
     requires { ⌜ Shown (now tables) Any ⌝ }
     ensures { λ r. ⌜ Tells (now (tables .entry)) Any r runningIn ⌝ }
 {
-    words::get(tables, words::running_at())
+    words::get(tables, Slot::Running)
 }
 
 // Thread t is at a place, with the outcome, badge and message that it has there.
@@ -54,10 +55,10 @@ pub fn set_place(tables: &mut [u32], t: usize, place: u32, outcome: u32, badge: 
     requires { ⌜ Shown (now tables) (IsThread t) ⌝ }
     ensures { λ _. ⌜ SetsPlace (now (tables .entry)) t place outcome badge message (now (tables .exit)) ⌝ }
 {
-    words::put(tables, words::thread_at(Field::Place, t), place);
-    words::put(tables, words::thread_at(Field::Outcome, t), outcome);
-    words::put(tables, words::thread_at(Field::Badge, t), badge);
-    words::put(tables, words::thread_at(Field::Message, t), message);
+    words::put(tables, Slot::Thread(Field::Place, t), place);
+    words::put(tables, Slot::Thread(Field::Outcome, t), outcome);
+    words::put(tables, Slot::Thread(Field::Badge, t), badge);
+    words::put(tables, Slot::Thread(Field::Message, t), message);
 }
 
 // Thread t has priority p.
@@ -65,7 +66,7 @@ pub fn set_priority(tables: &mut [u32], t: usize, p: u32)
     requires { ⌜ Shown (now tables) (IsThread t) ⌝ }
     ensures { λ _. ⌜ Does (now (tables .entry)) (now (tables .exit)) (IsThread t) (prioritising t p) ⌝ }
 {
-    words::put(tables, words::thread_at(Field::Priority, t), p);
+    words::put(tables, Slot::Thread(Field::Priority, t), p);
 }
 
 // Thread t has n ticks left.
@@ -73,7 +74,7 @@ pub fn set_ticks(tables: &mut [u32], t: usize, n: u32)
     requires { ⌜ Shown (now tables) (IsThread t) ⌝ }
     ensures { λ _. ⌜ Does (now (tables .entry)) (now (tables .exit)) (IsThread t) (ticking t n) ⌝ }
 {
-    words::put(tables, words::thread_at(Field::Ticks, t), n);
+    words::put(tables, Slot::Thread(Field::Ticks, t), n);
 }
 
 // What thread t has to do with aborts, and the badge of its note.
@@ -81,8 +82,8 @@ pub fn set_owes(tables: &mut [u32], t: usize, code: u32, badge: u32)
     requires { ⌜ Shown (now tables) (IsThread t) ⌝ }
     ensures { λ _. ⌜ SetsDebt (now (tables .entry)) t code badge (now (tables .exit)) ⌝ }
 {
-    words::put(tables, words::thread_at(Field::Owes, t), code);
-    words::put(tables, words::thread_at(Field::Note, t), badge);
+    words::put(tables, Slot::Thread(Field::Owes, t), code);
+    words::put(tables, Slot::Thread(Field::Note, t), badge);
 }
 
 // Thread t is new: able, of priority p, with all its ticks.
@@ -112,7 +113,7 @@ pub fn set_running(tables: &mut [u32], link: u32)
     requires { ⌜ Shown (now tables) Any ⌝ }
     ensures { λ _. ⌜ SetsRunning (now (tables .entry)) link (now (tables .exit)) ⌝ }
 {
-    words::put(tables, words::running_at(), link);
+    words::put(tables, Slot::Running, link);
 }
 
 // Line l is quiet, pending or awaited.
@@ -120,7 +121,7 @@ pub fn set_line(tables: &mut [u32], l: usize, code: u32)
     requires { ⌜ Shown (now tables) (IsLine l) ⌝ }
     ensures { λ _. ⌜ SetsLine (now (tables .entry)) l code (now (tables .exit)) ⌝ }
 {
-    words::put(tables, words::line_at(l), code);
+    words::put(tables, Slot::Line(l), code);
 }
 
 // Endpoint e is missing, live or closing.
@@ -128,7 +129,7 @@ pub fn set_status(tables: &mut [u32], e: usize, code: u32)
     requires { ⌜ Shown (now tables) (IsEndpoint e) ⌝ }
     ensures { λ _. ⌜ SetsStatus (now (tables .entry)) e code (now (tables .exit)) ⌝ }
 {
-    words::put(tables, words::endpoint_at(Part::Status, e), code);
+    words::put(tables, Slot::Endpoint(Part::Status, e), code);
 }
 
 // The abort at endpoint e: whether one stands, its badge and owner, and the first and the last waiter to look at.
@@ -144,11 +145,11 @@ pub fn set_abort(
     requires { ⌜ Shown (now tables) (IsEndpoint e) ⌝ }
     ensures { λ _. ⌜ SetsAbort (now (tables .entry)) e here badge owner cursor end (now (tables .exit)) ⌝ }
 {
-    words::put(tables, words::endpoint_at(Part::Aborting, e), here);
-    words::put(tables, words::endpoint_at(Part::Aborted, e), badge);
-    words::put(tables, words::endpoint_at(Part::Owner, e), owner);
-    words::put(tables, words::endpoint_at(Part::Cursor, e), cursor);
-    words::put(tables, words::endpoint_at(Part::End, e), end);
+    words::put(tables, Slot::Endpoint(Part::Aborting, e), here);
+    words::put(tables, Slot::Endpoint(Part::Aborted, e), badge);
+    words::put(tables, Slot::Endpoint(Part::Owner, e), owner);
+    words::put(tables, Slot::Endpoint(Part::Cursor, e), cursor);
+    words::put(tables, Slot::Endpoint(Part::End, e), end);
 }
 
 // The owner of the abort that stands at endpoint e, none for link 0.
@@ -156,7 +157,7 @@ pub fn set_owner(tables: &mut [u32], e: usize, link: u32)
     requires { ⌜ Shown (now tables) (HasAbort e) ⌝ }
     ensures { λ _. ⌜ SetsOwner (now (tables .entry)) e link (now (tables .exit)) ⌝ }
 {
-    words::put(tables, words::endpoint_at(Part::Owner, e), link);
+    words::put(tables, Slot::Endpoint(Part::Owner, e), link);
 }
 
 // The abort at endpoint e looks at the waiters from a cursor to an end mark, both 0 for none.
@@ -164,8 +165,8 @@ pub fn set_marks(tables: &mut [u32], e: usize, cursor: u32, end: u32)
     requires { ⌜ Shown (now tables) (IsEndpoint e) ⌝ }
     ensures { λ _. ⌜ SetsPending (now (tables .entry)) e cursor end (now (tables .exit)) ⌝ }
 {
-    words::put(tables, words::endpoint_at(Part::Cursor, e), cursor);
-    words::put(tables, words::endpoint_at(Part::End, e), end);
+    words::put(tables, Slot::Endpoint(Part::Cursor, e), cursor);
+    words::put(tables, Slot::Endpoint(Part::End, e), end);
 }
 
 // The summary that stands in the tables.
@@ -176,10 +177,10 @@ pub fn load_summary(tables: &[u32]) -> Summary
     let mut row = [0u32; 8];
     let mut w = 0;
     while w < 8 {
-        row[w] = words::get(tables, words::summary_at(w));
+        row[w] = words::get(tables, Slot::Summary(w));
         w += 1;
     }
-    let top = words::get(tables, words::top_at());
+    let top = words::get(tables, Slot::Top);
     Summary {
         words: row,
         top: top,
@@ -193,8 +194,8 @@ fn store_level(tables: &mut [u32], sm: Summary, p: u32)
 {
     let w = (p / 32) as usize;
     let word = sm.words[w];
-    words::put(tables, words::summary_at(w), word);
-    words::put(tables, words::top_at(), sm.top);
+    words::put(tables, Slot::Summary(w), word);
+    words::put(tables, Slot::Top, sm.top);
 }
 
 // Level p is occupied in the summary.

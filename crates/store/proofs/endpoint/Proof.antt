@@ -1,6 +1,6 @@
 -- The word that is read is the one of this name.
 use borrow.Author.Needs.{needs}
-use Rattle.layout.specs.Addresses.{ofEndpoint}
+use Rattle.layout.specs.declared.Slot.{Slot}
 use Rattle.store.proofs.Words.{word-tells}
 use Rattle.store.proofs.endpoint.Statement.{statement}
 use Rattle.store.proofs.endpoint.Tie as tie
@@ -12,7 +12,7 @@ get-requires : tie.Need-get-requires
 get-requires c κs = search needs
 
 returns : tie.Need-returns
-returns c = word-tells (ofEndpoint _ _) (λ s h. h) _ _ _ (c .before .endpoint-at .ensures) (c .get .ensures)
+returns c = word-tells (Slot.Endpoint _ _) (λ s h. h) _ _ _ (c .before .endpoint-at .ensures) (c .get .ensures)
 
 pub endpoint-spec : {M : Type 1} → statement M
 endpoint-spec = tie.close (tie.spec endpoint-at-requires get-requires returns)

@@ -4,20 +4,20 @@ use Rattle.words.proofs.Around.{after-queue, after-thread}
 use Rattle.words.proofs.after_at.Statement.{statement}
 use Rattle.words.proofs.after_at.Tie as tie
 
-head-at-requires : tie.Need-head-at-requires
-head-at-requires c κs = search needs
+link-at-requires : tie.Need-link-at-requires
+link-at-requires c κs = search needs
 
 returns : tie.Need-returns
-returns c = after-queue _ _ (c .before .if1 .taken) (c .head-at .ensures)
+returns c = after-queue _ _ (c .before .if1 .taken) (c .link-at .ensures)
 
-sub-next-at : tie.Need-sub-next-at
-sub-next-at c = search needs
+sub-t : tie.Need-sub-t
+sub-t c = search needs
 
-next-at-requires : tie.Need-next-at-requires
-next-at-requires c κs = search needs
+link-at-requires-2 : tie.Need-link-at-requires-2
+link-at-requires-2 c κs = search needs
 
 returns-2 : tie.Need-returns-2
-returns-2 c = after-thread _ _ (c .before .if1 .left) (c .next-at .ensures)
+returns-2 c = after-thread _ _ (c .before .if1 .left) (c .link-at2 .ensures)
 
 pub after-at-spec : {M : Type 1} → statement M
-after-at-spec = tie.close (tie.spec head-at-requires returns sub-next-at next-at-requires returns-2)
+after-at-spec = tie.close (tie.spec link-at-requires returns sub-t link-at-requires-2 returns-2)
