@@ -12,7 +12,6 @@ use Rattle.layout.specs.Addresses.{ValidSlot, column, at, word}
 use Rattle.layout.specs.Words.{placeCode, debtCode, noteCode, threadWord, content, queuesOf}
 use Rattle.layout.specs.Shows.{Shows}
 use Rattle.layout.proofs.Addresses.{same-field}
-use Rattle.words.specs.Access.{Address}
 use Rattle.store.specs.Steps.{Does}
 use Rattle.store.specs.Store.{IsThread, prioritising, ticking, SetsPlace, SetsDebt}
 use Rattle.store.proofs.Rows.{RowChanged, change, IsRow, row-store, row-start, row-shows}
@@ -82,7 +81,7 @@ module _ (t : ℕ) (small : t ≤ 255) where
       slots (Slot.Unused i) h = B .slots (Slot.Unused i) h tt ∙ M .slots (Slot.Unused i) h
 
   block-store :
-      (m n n′ : List ℕ) (w : Field → ℕ) (f : Field) (i v : ℕ) → Address i (at (Slot.Thread f t)) → n′ ≡ set n i v
+      (m n n′ : List ℕ) (w : Field → ℕ) (f : Field) (v : ℕ) → n′ ≡ set n (at (Slot.Thread f t)) v
       → Block t m n w → Block t m n′ (change column f v w)
   block-store = row-store (blockRow t) (OffBlock t) column is-block
 
@@ -91,60 +90,60 @@ module _ (t : ℕ) (small : t ≤ 255) where
 
 -- The steps on a thread, from the stores that they are.
 
-module _ (t : ℕ) {m n₁ : List ℕ} {i₁ : ℕ} where
+module _ (t : ℕ) {m n₁ : List ℕ} where
   pub priority-does :
-      (p : ℕ) → Address i₁ (at (Slot.Thread Field.Priority t)) → n₁ ≡ set m i₁ p
+      (p : ℕ) → n₁ ≡ set m (at (Slot.Thread Field.Priority t)) p
       → Does m n₁ (IsThread t) (prioritising t p)
-  priority-does p a₁ e₁ =
+  priority-does p e₁ =
       record {
         shows = λ s M h.
             block-shows t h m n₁ _ s (withPriority p (s .threads t)) M
-            (block-store t h m m n₁ _ Field.Priority i₁ p a₁ e₁ (block-start t h m s M))
+            (block-store t h m m n₁ _ Field.Priority p e₁ (block-start t h m s M))
             (fields _ _ refl refl refl refl refl refl refl refl);
       }
 
   pub ticks-does :
-      (n : ℕ) → Address i₁ (at (Slot.Thread Field.Ticks t)) → n₁ ≡ set m i₁ n → Does m n₁ (IsThread t) (ticking t n)
-  ticks-does n a₁ e₁ =
+      (n : ℕ) → n₁ ≡ set m (at (Slot.Thread Field.Ticks t)) n → Does m n₁ (IsThread t) (ticking t n)
+  ticks-does n e₁ =
       record {
         shows = λ s M h.
             block-shows t h m n₁ _ s (withTicks n (s .threads t)) M
-            (block-store t h m m n₁ _ Field.Ticks i₁ n a₁ e₁ (block-start t h m s M))
+            (block-store t h m m n₁ _ Field.Ticks n e₁ (block-start t h m s M))
             (fields _ _ refl refl refl refl refl refl refl refl);
       }
 
-  module _ {n₂ : List ℕ} {i₂ : ℕ} where
+  module _ {n₂ : List ℕ} where
     pub owes-does :
-        (code b : ℕ) → Address i₁ (at (Slot.Thread Field.Owes t)) → n₁ ≡ set m i₁ code
-        → Address i₂ (at (Slot.Thread Field.Note t)) → n₂ ≡ set n₁ i₂ b → SetsDebt m t code b n₂
-    owes-does code b a₁ e₁ a₂ e₂ =
+        (code b : ℕ) → n₁ ≡ set m (at (Slot.Thread Field.Owes t)) code
+        → n₂ ≡ set n₁ (at (Slot.Thread Field.Note t)) b → SetsDebt m t code b n₂
+    owes-does code b e₁ e₂ =
         record {
           does = λ d k j.
               record {
                 shows = λ s M h.
                     block-shows t h m n₂ _ s (withDebt d (s .threads t)) M
-                    (block-store t h m n₁ n₂ _ Field.Note i₂ b a₂ e₂
-                    (block-store t h m m n₁ _ Field.Owes i₁ code a₁ e₁ (block-start t h m s M)))
+                    (block-store t h m n₁ n₂ _ Field.Note b e₂
+                    (block-store t h m m n₁ _ Field.Owes code e₁ (block-start t h m s M)))
                     (fields _ _ refl refl refl refl refl refl (sym k) (sym j));
               };
         }
 
-    module _ {n₃ n₄ : List ℕ} {i₃ i₄ : ℕ} where
+    module _ {n₃ n₄ : List ℕ} where
       pub place-does :
-          (code o b x : ℕ) → Address i₁ (at (Slot.Thread Field.Place t)) → n₁ ≡ set m i₁ code
-          → Address i₂ (at (Slot.Thread Field.Outcome t)) → n₂ ≡ set n₁ i₂ o
-          → Address i₃ (at (Slot.Thread Field.Badge t)) → n₃ ≡ set n₂ i₃ b
-          → Address i₄ (at (Slot.Thread Field.Message t)) → n₄ ≡ set n₃ i₄ x → SetsPlace m t code o b x n₄
-      place-does code o b x a₁ e₁ a₂ e₂ a₃ e₃ a₄ e₄ =
+          (code o b x : ℕ) → n₁ ≡ set m (at (Slot.Thread Field.Place t)) code
+          → n₂ ≡ set n₁ (at (Slot.Thread Field.Outcome t)) o
+          → n₃ ≡ set n₂ (at (Slot.Thread Field.Badge t)) b
+          → n₄ ≡ set n₃ (at (Slot.Thread Field.Message t)) x → SetsPlace m t code o b x n₄
+      place-does code o b x e₁ e₂ e₃ e₄ =
           record {
             does = λ p k.
                 record {
                   shows = λ s M h.
                       block-shows t h m n₄ _ s (withPlace p o b x (s .threads t)) M
-                      (block-store t h m n₃ n₄ _ Field.Message i₄ x a₄ e₄
-                      (block-store t h m n₂ n₃ _ Field.Badge i₃ b a₃ e₃
-                      (block-store t h m n₁ n₂ _ Field.Outcome i₂ o a₂ e₂
-                      (block-store t h m m n₁ _ Field.Place i₁ code a₁ e₁ (block-start t h m s M)))))
+                      (block-store t h m n₃ n₄ _ Field.Message x e₄
+                      (block-store t h m n₂ n₃ _ Field.Badge b e₃
+                      (block-store t h m n₁ n₂ _ Field.Outcome o e₂
+                      (block-store t h m m n₁ _ Field.Place code e₁ (block-start t h m s M)))))
                       (fields _ _ (sym k) refl refl refl refl refl refl refl);
                 };
           }

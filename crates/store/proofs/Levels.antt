@@ -16,7 +16,6 @@ use Rattle.layout.specs.declared.Slot.{Slot}
 use Rattle.layout.specs.Addresses.{at, word}
 use Rattle.layout.specs.Words.{occupiedIn}
 use Rattle.layout.specs.Shows.{Shows}
-use Rattle.words.specs.Access.{Address}
 use Rattle.store.specs.Levels.{SummaryWords, LoadsSummary, WritesLevel, SetsLevel}
 use Rattle.store.proofs.Words.{Stored, stored}
 
@@ -34,38 +33,38 @@ pub read-none : (m row : List ℕ) → length row ≡ 8 → ReadTo m row 0
 read-none m row l = record { long = l; small = omega arith; words = λ k h. absurd (omega arith) }
 
 pub read-more :
-    (m row : List ℕ) (w i v : ℕ) → ReadTo m row w → w < 8 → Address i (at (Slot.Summary w)) → v ≡ word m i
+    (m row : List ℕ) (w v : ℕ) → ReadTo m row w → w < 8 → v ≡ word m (at (Slot.Summary w))
     → ReadTo m (set row w v) (w + 1)
-read-more m row w i v R h a e =
+read-more m row w v R h e =
     record { long = length-set row w v ∙ R .long; small = omega arith; words = λ k g. go k g (same? k w) }
   where
     go : (k : ℕ) → k < w + 1 → Same k w → getD (set row w v) k 0 ≡ word m (at (Slot.Summary k))
-    go k g (same j _) = rw j (getD-set-same row w v 0 (omega (arith, R .long)) ∙ e ∙ ap (word m) (a .is))
+    go k g (same j _) = rw j (getD-set-same row w v 0 (omega (arith, R .long)) ∙ e)
     go k g (other d _) = getD-set-other row w k v 0 d ∙ R .words k (omega arith)
 
 pub loads :
-    (m row : List ℕ) (w i v : ℕ) → ReadTo m row w → 8 ≤ w → Address i (at Slot.Top) → v ≡ word m i
+    (m row : List ℕ) (w v : ℕ) → ReadTo m row w → 8 ≤ w → v ≡ word m (at Slot.Top)
     → LoadsSummary m (record { words = row; top = v })
-loads m row w i v R h a e = record { loaded = is; shown = λ s M. is (occupiedIn s) (shown-words m s M) }
+loads m row w v R h e = record { loaded = is; shown = λ s M. is (occupiedIn s) (shown-words m s M) }
   where
     is : (f : ℕ → Bool) → SummaryWords m f → _≡_ {A = Summary} (record { words = row; top = v }) (summaryOf f)
     is f S =
         summary-is (record { words = row; top = v }) f
         (words-are f row (R .long) (λ k g. R .words k (omega arith) ∙ S .words k (omega arith)))
-        (e ∙ ap (word m) (a .is) ∙ S .top)
+        (e ∙ S .top)
 
 -- The two stores of a mark.
 no-top : (w : ℕ) → Slot.Summary w ≡ Slot.Top → ⊥
 no-top w e = let z : _≡_ {A = ℕ} 0 1 = cc in omega arith
 
 pub writes :
-    (m n₁ n₂ : List ℕ) (sm : Summary) (p i₁ i₂ : ℕ) → length m ≡ 4096 → p < 256
-    → Address i₁ (at (Slot.Summary (p / 32))) → n₁ ≡ set m i₁ (getD (sm .words) (p / 32) 0)
-    → Address i₂ (at Slot.Top) → n₂ ≡ set n₁ i₂ (sm .top) → WritesLevel m sm p n₂
-writes m n₁ n₂ sm p i₁ i₂ size small a₁ e₁ a₂ e₂ =
+    (m n₁ n₂ : List ℕ) (sm : Summary) (p : ℕ) → length m ≡ 4096 → p < 256
+    → n₁ ≡ set m (at (Slot.Summary (p / 32))) (getD (sm .words) (p / 32) 0)
+    → n₂ ≡ set n₁ (at Slot.Top) (sm .top) → WritesLevel m sm p n₂
+writes m n₁ n₂ sm p size small e₁ e₂ =
     let A : Stored m n₁ (Slot.Summary (p / 32)) (getD (sm .words) (p / 32) 0) =
-    stored m n₁ (Slot.Summary (p / 32)) i₁ (getD (sm .words) (p / 32) 0) size (omega arith) a₁ e₁ in
-    let B : Stored n₁ n₂ Slot.Top (sm .top) = stored n₁ n₂ Slot.Top i₂ (sm .top) (A .size ∙ size) tt a₂ e₂ in
+    stored m n₁ (Slot.Summary (p / 32)) (getD (sm .words) (p / 32) 0) size (omega arith) e₁ in
+    let B : Stored n₁ n₂ Slot.Top (sm .top) = stored n₁ n₂ Slot.Top (sm .top) (A .size ∙ size) tt e₂ in
     record {
       size = B .size ∙ A .size;
       word-is = B .slots (Slot.Summary (p / 32)) (omega arith) (no-top (p / 32)) ∙ A .here;

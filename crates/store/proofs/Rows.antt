@@ -14,7 +14,6 @@ use Rattle.layout.specs.Addresses.{ValidSlot, ValidLink, at, linkAt, word}
 use Rattle.layout.specs.Words.{content, queuesOf}
 use Rattle.layout.specs.Shows.{Shows}
 use Rattle.layout.proofs.Stores.{slot-same, slot-other, slot-link, linked-keep, linked-same}
-use Rattle.words.specs.Access.{Address}
 
 -- n is m but for one row, whose words are w; the slots that are not of the row are Off it.
 pub record RowChanged {F : Type 0} (row : F → Slot) (Off : Slot → Type 0) (m n : List ℕ) (w : F → ℕ) : Type 0 where
@@ -51,11 +50,9 @@ module _ {F : Type 0} (row : F → Slot) (Off : Slot → Type 0) (key : F → �
           rw b (slot-other n (B .size) v (row f) (R .valid f) (row g) (R .valid g) (λ e. d (R .from g f e)) ∙ B .here g)
 
   pub row-store :
-      (m n n′ : List ℕ) (w : F → ℕ) (f : F) (i v : ℕ) → Address i (at (row f)) → n′ ≡ set n i v
+      (m n n′ : List ℕ) (w : F → ℕ) (f : F) (v : ℕ) → n′ ≡ set n (at (row f)) v
       → RowChanged row Off m n w → RowChanged row Off m n′ (change key f v w)
-  row-store m n n′ w f i v a e B =
-      let k : n′ ≡ set n (at (row f)) v = e ∙ ap (λ j. set n j v) (a .is) in
-      subst (λ l. RowChanged row Off m l (change key f v w)) (sym k) (row-set m n w f v B)
+  row-store m n n′ w f v e B = subst (λ l. RowChanged row Off m l (change key f v w)) (sym e) (row-set m n w f v B)
 
   pub row-start : (m : List ℕ) (s : State) → Shows m s → RowChanged row Off m m (λ f. content s (row f))
   row-start m s M =

@@ -10,19 +10,18 @@ use Rattle.machine.proofs.Lists.{Same, same, other, same?, put-same, put-other}
 use Rattle.layout.specs.declared.Slot.{Slot}
 use Rattle.layout.specs.Addresses.{at}
 use Rattle.layout.specs.Words.{lineCode, content, queuesOf}
-use Rattle.words.specs.Access.{Address}
 use Rattle.store.specs.Store.{SetsRunning, SetsLine}
 use Rattle.store.proofs.Words.{stored-shows}
 
 pub line-does :
-    (l : ℕ) {m n : List ℕ} {i : ℕ} (code : ℕ) → Address i (at (Slot.Line l)) → n ≡ set m i code → SetsLine m l code n
+    (l : ℕ) {m n : List ℕ} (code : ℕ) → n ≡ set m (at (Slot.Line l)) code → SetsLine m l code n
 unfolding queuesOf
-line-does l {m} {n} {i} code a e =
+line-does l {m} {n} code e =
     record {
       does = λ x k.
           record {
             shows = λ s M h.
-                stored-shows (Slot.Line l) m n i code s (setLine l x s) h M a e (rw (put-same (s .lines) l x) k)
+                stored-shows (Slot.Line l) m n code s (setLine l x s) h M e (rw (put-same (s .lines) l x) k)
                 (λ b g d. rest s x b d) (λ q g. refl);
           };
     }
@@ -42,14 +41,14 @@ line-does l {m} {n} {i} code a e =
     rest s x (Slot.Unused j) d = refl
 
 pub running-does :
-    {m n : List ℕ} {i : ℕ} (code : ℕ) → Address i (at Slot.Running) → n ≡ set m i code → SetsRunning m code n
+    {m n : List ℕ} (code : ℕ) → n ≡ set m (at Slot.Running) code → SetsRunning m code n
 unfolding queuesOf
-running-does {m} {n} {i} code a e =
+running-does {m} {n} code e =
     record {
       does = λ r k.
           record {
             shows = λ s M h.
-                stored-shows Slot.Running m n i code s (setRuns r s) tt M a e k (λ b g d. rest s r b d) (λ q g. refl);
+                stored-shows Slot.Running m n code s (setRuns r s) tt M e k (λ b g d. rest s r b d) (λ q g. refl);
           };
     }
   where

@@ -17,7 +17,6 @@ use Rattle.layout.specs.Words.{statusCode, abortCode, badgeCode, linkOf, firstO
 use Rattle.layout.specs.Words.{queuesOf}
 use Rattle.layout.specs.Shows.{Shows}
 use Rattle.layout.proofs.Addresses.{same-part}
-use Rattle.words.specs.Access.{Address}
 use Rattle.store.specs.Store.{SetsStatus, SetsAbort, SetsOwner, SetsPending}
 use Rattle.store.proofs.Rows.{RowChanged, change, IsRow, row-store, row-start, row-shows}
 
@@ -97,7 +96,7 @@ module _ (e : ℕ) (small : e ≤ 63) where
       slots (Slot.Unused i) h = B .slots (Slot.Unused i) h tt ∙ M .slots (Slot.Unused i) h
 
   pub site-store :
-      (m n n′ : List ℕ) (w : Part → ℕ) (p : Part) (i v : ℕ) → Address i (at (Slot.Endpoint p e)) → n′ ≡ set n i v
+      (m n n′ : List ℕ) (w : Part → ℕ) (p : Part) (v : ℕ) → n′ ≡ set n (at (Slot.Endpoint p e)) v
       → Site e m n w → Site e m n′ (change offset p v w)
   site-store = row-store (siteRow e) (OffSite e) offset is-site
 
@@ -106,41 +105,41 @@ module _ (e : ℕ) (small : e ≤ 63) where
 
 -- The steps on an endpoint, from the stores that they are.
 
-module _ (e : ℕ) {m n₁ : List ℕ} {i₁ : ℕ} where
+module _ (e : ℕ) {m n₁ : List ℕ} where
   pub status-does :
-      (code : ℕ) → Address i₁ (at (Slot.Endpoint Part.Status e)) → n₁ ≡ set m i₁ code → SetsStatus m e code n₁
-  status-does code a₁ e₁ =
+      (code : ℕ) → n₁ ≡ set m (at (Slot.Endpoint Part.Status e)) code → SetsStatus m e code n₁
+  status-does code e₁ =
       record {
         does = λ x k.
             record {
               shows = λ s M h.
                   site-shows e h m n₁ _ s _ M
-                  (site-store e h m m n₁ _ Part.Status i₁ code a₁ e₁ (site-start e h m s M)) refl
+                  (site-store e h m m n₁ _ Part.Status code e₁ (site-start e h m s M)) refl
                   (parts _ _ (sym k) refl refl refl refl refl);
             };
       }
 
-  pub owner-does : (code : ℕ) → Address i₁ (at (Slot.Endpoint Part.Owner e)) → n₁ ≡ set m i₁ code → SetsOwner m e code n₁
-  owner-does code a₁ e₁ =
+  pub owner-does : (code : ℕ) → n₁ ≡ set m (at (Slot.Endpoint Part.Owner e)) code → SetsOwner m e code n₁
+  owner-does code e₁ =
       record {
         does = λ o k.
             record {
               shows = λ s M h.
                   let z : s .endpoints e .abort ≡ some (h .1 .0) = h .1 .1 in
                   site-shows e (h .0) m n₁ _ s _ M
-                  (site-store e (h .0) m m n₁ _ Part.Owner i₁ code a₁ e₁ (site-start e (h .0) m s M)) refl
+                  (site-store e (h .0) m m n₁ _ Part.Owner code e₁ (site-start e (h .0) m s M)) refl
                   (parts _ _ refl (rw z) (rw z) (rw z (sym k)) (rw z) (rw z));
             };
       }
 
-  module _ {n₂ n₃ n₄ n₅ : List ℕ} {i₂ i₃ i₄ i₅ : ℕ} where
+  module _ {n₂ n₃ n₄ n₅ : List ℕ} where
     pub abort-does :
-        (here badge own first last : ℕ) → Address i₁ (at (Slot.Endpoint Part.Aborting e)) → n₁ ≡ set m i₁ here
-        → Address i₂ (at (Slot.Endpoint Part.Aborted e)) → n₂ ≡ set n₁ i₂ badge
-        → Address i₃ (at (Slot.Endpoint Part.Owner e)) → n₃ ≡ set n₂ i₃ own
-        → Address i₄ (at (Slot.Endpoint Part.Cursor e)) → n₄ ≡ set n₃ i₄ first
-        → Address i₅ (at (Slot.Endpoint Part.End e)) → n₅ ≡ set n₄ i₅ last → SetsAbort m e here badge own first last n₅
-    abort-does here badge own first last a₁ e₁ a₂ e₂ a₃ e₃ a₄ e₄ a₅ e₅ =
+        (here badge own first last : ℕ) → n₁ ≡ set m (at (Slot.Endpoint Part.Aborting e)) here
+        → n₂ ≡ set n₁ (at (Slot.Endpoint Part.Aborted e)) badge
+        → n₃ ≡ set n₂ (at (Slot.Endpoint Part.Owner e)) own
+        → n₄ ≡ set n₃ (at (Slot.Endpoint Part.Cursor e)) first
+        → n₅ ≡ set n₄ (at (Slot.Endpoint Part.End e)) last → SetsAbort m e here badge own first last n₅
+    abort-does here badge own first last e₁ e₂ e₃ e₄ e₅ =
         record {
           none = λ h₁ h₂ h₃ h₄ h₅.
               record {
@@ -160,25 +159,25 @@ module _ (e : ℕ) {m n₁ : List ℕ} {i₁ : ℕ} where
             (change offset Part.Owner own
             (change offset Part.Aborted badge (change offset Part.Aborting here (endpointWord (s .endpoints e)))))))
         stores s M h =
-            site-store e h m n₄ n₅ _ Part.End i₅ last a₅ e₅
-            (site-store e h m n₃ n₄ _ Part.Cursor i₄ first a₄ e₄
-            (site-store e h m n₂ n₃ _ Part.Owner i₃ own a₃ e₃
-            (site-store e h m n₁ n₂ _ Part.Aborted i₂ badge a₂ e₂
-            (site-store e h m m n₁ _ Part.Aborting i₁ here a₁ e₁ (site-start e h m s M)))))
+            site-store e h m n₄ n₅ _ Part.End last e₅
+            (site-store e h m n₃ n₄ _ Part.Cursor first e₄
+            (site-store e h m n₂ n₃ _ Part.Owner own e₃
+            (site-store e h m n₁ n₂ _ Part.Aborted badge e₂
+            (site-store e h m m n₁ _ Part.Aborting here e₁ (site-start e h m s M)))))
 
 -- The two stores of the marks.
 pub looks :
-    (e : ℕ) {m n o : List ℕ} {i j : ℕ} (first last : ℕ) → Address i (at (Slot.Endpoint Part.Cursor e)) → n ≡ set m i first
-    → Address j (at (Slot.Endpoint Part.End e)) → o ≡ set n j last → SetsPending m e first last o
-looks e {m} {n} {o} {i} {j} first last a b c d =
+    (e : ℕ) {m n o : List ℕ} (first last : ℕ) → n ≡ set m (at (Slot.Endpoint Part.Cursor e)) first
+    → o ≡ set n (at (Slot.Endpoint Part.End e)) last → SetsPending m e first last o
+looks e {m} {n} {o} first last a b =
     record {
       does = λ l f g.
           record {
             shows = λ s M h.
                 let z : s .endpoints e .abort ≡ some (h .1 .0) = h .1 .1 in
                 site-shows e (h .0) m o _ s _ M
-                (site-store e (h .0) m n o _ Part.End j last c d
-                (site-store e (h .0) m m n _ Part.Cursor i first a b (site-start e (h .0) m s M))) refl
+                (site-store e (h .0) m n o _ Part.End last b
+                (site-store e (h .0) m m n _ Part.Cursor first a (site-start e (h .0) m s M))) refl
                 (parts _ _ refl (rw z) (rw z) (rw z) (rw z (sym f)) (rw z (sym g)));
           };
     }

@@ -10,21 +10,20 @@ use Rattle.layout.specs.Addresses.{ValidSlot, ValidLink, at, linkAt, word}
 use Rattle.layout.specs.Words.{content, queuesOf}
 use Rattle.layout.specs.Shows.{Shows}
 use Rattle.layout.proofs.Stores.{store-shows, slot-same, slot-other, slot-link}
-use Rattle.words.specs.Access.{Address}
 use Rattle.store.specs.Steps.{Tells}
+use Rattle.store.specs.Store.{Named}
+use Rattle.store.specs.Readings.{holding}
 
-module _ (a : Slot) {P : State → Type 0} (valid : (s : State) → P s → ValidSlot a) (m : List ℕ) (i : ℕ) where
-  pub word-tells : (r : ℕ) → Address i (at a) → r ≡ word m i → Tells m P r (λ s. content s a)
-  word-tells r h e = record { tells = λ s M p. e ∙ ap (word m) (h .is) ∙ M .slots a (valid s p) }
+pub word-tells : (a : Slot) (m : List ℕ) (r : ℕ) → r ≡ word m (at a) → Tells m (Named a) r (holding a)
+word-tells a m r e = record { tells = λ s M valid. e ∙ M .slots a valid }
 
 -- A memory in which one slot has a new word shows the state that differs there alone.
 pub stored-shows :
-    (a : Slot) (m n : List ℕ) (i v : ℕ) (s z : State) → ValidSlot a → Shows m s → Address i (at a) → n ≡ set m i v
-    → content z a ≡ v
+    (a : Slot) (m n : List ℕ) (v : ℕ) (s z : State) → ValidSlot a → Shows m s → n ≡ set m (at a) v → content z a ≡ v
     → ((b : Slot) → ValidSlot b → (b ≡ a → ⊥) → content z b ≡ content s b)
     → ((q : ℕ) → q ≤ 319 → queuesOf z q ≡ queuesOf s q) → Shows n z
-stored-shows a m n i v s z h M A e c same-content same-queues =
-    let k : n ≡ set m (at a) (content z a) = e ∙ ap (λ j. set m j v) (A .is) ∙ ap (set m (at a)) (sym c) in
+stored-shows a m n v s z h M e c same-content same-queues =
+    let k : n ≡ set m (at a) (content z a) = e ∙ ap (set m (at a)) (sym c) in
     subst (λ l. Shows l z) (sym k) (store-shows m s z a h M same-content same-queues)
 
 -- The words after one store to a slot.
@@ -35,11 +34,9 @@ pub record Stored (m n : List ℕ) (a : Slot) (v : ℕ) : Type 0 where
   pub links : (k : Link) → ValidLink k → word n (linkAt k) ≡ word m (linkAt k)
 
 pub stored :
-    (m n : List ℕ) (a : Slot) (i v : ℕ) → length m ≡ 4096 → ValidSlot a → Address i (at a) → n ≡ set m i v
-    → Stored m n a v
-stored m n a i v size h A e =
-    let k : n ≡ set m (at a) v = e ∙ ap (λ j. set m j v) (A .is) in
-    subst (λ l. Stored m l a v) (sym k)
+    (m n : List ℕ) (a : Slot) (v : ℕ) → length m ≡ 4096 → ValidSlot a → n ≡ set m (at a) v → Stored m n a v
+stored m n a v size h e =
+    subst (λ l. Stored m l a v) (sym e)
     (record {
       size = length-set m (at a) v;
       here = slot-same m size v a h;

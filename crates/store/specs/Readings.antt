@@ -3,7 +3,12 @@ use Prim.Native.Nat.{ℕ}
 use Rattle.machine.specs.State.{State}
 use Rattle.layout.specs.declared.Field.{Field}
 use Rattle.layout.specs.declared.Part.{Part}
-use Rattle.layout.specs.Words.{threadWord, endpointWord, lineCode, linkOf}
+use Rattle.layout.specs.declared.Slot.{Slot}
+use Rattle.layout.specs.Words.{content, threadWord, endpointWord, lineCode, linkOf}
+
+-- Of a word that is no link.
+abbrev pub holding : Slot → State → ℕ
+holding a s = content s a
 
 -- Of thread t.
 abbrev pub threadIn : Field → ℕ → State → ℕ

@@ -6,10 +6,15 @@ use mathlib.Core.List.{List}
 use Rattle.machine.specs.State.{State, Thread, Place, able, Debt, nothing, Abort, Status, Line, absentThread, setThread}
 use Rattle.machine.specs.State.{setRuns, setEndpoint, setLine, withPriority, withTicks, withDebt, withPlace}
 use Rattle.machine.specs.Endpoints.{setAbort, withOwner}
+use Rattle.layout.specs.declared.Slot.{Slot}
+use Rattle.layout.specs.Addresses.{ValidSlot}
 use Rattle.layout.specs.Words.{placeCode, debtCode, noteCode, statusCode, lineCode, linkOf, firstOf, lastOf}
 use Rattle.store.specs.Steps.{Does}
 
--- The thread, endpoint or line is in range.
+-- The word's thread, endpoint or line is in range.
+abbrev pub Named : Slot → State → Type 0
+Named a s = ValidSlot a
+
 abbrev pub IsThread : ℕ → State → Type 0
 IsThread t s = t ≤ 255
 
@@ -35,13 +40,13 @@ ticking t n s = setThread t (withTicks n (s .threads t)) s
 abbrev pub owing : ℕ → Debt → State → State
 owing t d s = setThread t (withDebt d (s .threads t)) s
 
--- A thread just created, and a thread that goes.
-abbrev pub newThread : ℕ → Thread
-newThread p =
-    record { place = able; priority = p; ticks = 5; outcome = 0; badge = 0; message = 0; debt = nothing }
+-- A thread with a place, a priority and ticks, and nothing else; one just created; one that goes.
+abbrev pub plainThread : Place → ℕ → ℕ → Thread
+plainThread x p n =
+    record { place = x; priority = p; ticks = n; outcome = 0; badge = 0; message = 0; debt = nothing }
 
 abbrev pub creating : ℕ → ℕ → State → State
-creating t p s = setThread t (newThread p) s
+creating t p s = setThread t (plainThread able p 5) s
 
 abbrev pub clearing : ℕ → State → State
 clearing t s = setThread t absentThread s
@@ -57,6 +62,9 @@ standing e x s =
 -- A place, debt, status, line or thread enters the code as its number; the step is done for whatever has that number.
 pub record SetsPlace (m : List ℕ) (t code o b x : ℕ) (m′ : List ℕ) : Type 0 where
   pub does : (p : Place) → placeCode p ≡ code → Does m m′ (IsThread t) (placing t p o b x)
+
+pub record Remakes (m : List ℕ) (t code p n : ℕ) (m′ : List ℕ) : Type 0 where
+  pub does : (x : Place) → placeCode x ≡ code → Does m m′ (IsThread t) (λ s. setThread t (plainThread x p n) s)
 
 pub record SetsDebt (m : List ℕ) (t code badge : ℕ) (m′ : List ℕ) : Type 0 where
   pub does : (d : Debt) → debtCode d ≡ code → noteCode d ≡ badge → Does m m′ (IsThread t) (owing t d)

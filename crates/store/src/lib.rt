@@ -6,11 +6,11 @@ ghost use Prim.Native.Nat.{_≤_, _<_};
 ghost use lib.ListN.{length};
 ghost use Rattle.layout.specs.Addresses.{tableWords};
 ghost use Rattle.store.specs.Steps.{Shown, Does, Tells};
-ghost use Rattle.store.specs.Store.{IsThread, IsEndpoint, IsLine, Any, HasAbort};
+ghost use Rattle.store.specs.Store.{Named, IsThread, IsEndpoint, IsLine, Any, HasAbort};
 ghost use Rattle.store.specs.Store.{prioritising, ticking, creating, clearing};
 ghost use Rattle.store.specs.Store.{SetsPlace, SetsDebt, SetsRunning, SetsLine, SetsStatus, SetsAbort, SetsOwner};
-ghost use Rattle.store.specs.Store.{SetsPending};
-ghost use Rattle.store.specs.Readings.{threadIn, endpointIn, lineIn, runningIn};
+ghost use Rattle.store.specs.Store.{Remakes, SetsPending};
+ghost use Rattle.store.specs.Readings.{holding, threadIn, endpointIn, lineIn, runningIn};
 ghost use Rattle.store.specs.Levels.{LoadsSummary, SetsLevel, WritesLevel};
 use layout::Field;
 use layout::Part;
@@ -18,12 +18,20 @@ use layout::Slot;
 use layout::codes;
 use summary::Summary;
 
+// A word that is no link.
+fn slot(tables: &[u32], a: Slot) -> u32
+    requires { ⌜ Shown (now tables) (Named a) ⌝ }
+    ensures { λ r. ⌜ Tells (now (tables .entry)) (Named a) r (holding a) ⌝ }
+{
+    words::get(tables, a)
+}
+
 // A word of thread t.
 pub fn thread(tables: &[u32], f: Field, t: usize) -> u32
     requires { ⌜ Shown (now tables) (IsThread t) ⌝ }
     ensures { λ r. ⌜ Tells (now (tables .entry)) (IsThread t) r (threadIn f t) ⌝ }
 {
-    words::get(tables, Slot::Thread(f, t))
+    slot(tables, Slot::Thread(f, t))
 }
 
 // A word of endpoint e.
@@ -31,7 +39,7 @@ pub fn endpoint(tables: &[u32], p: Part, e: usize) -> u32
     requires { ⌜ Shown (now tables) (IsEndpoint e) ⌝ }
     ensures { λ r. ⌜ Tells (now (tables .entry)) (IsEndpoint e) r (endpointIn p e) ⌝ }
 {
-    words::get(tables, Slot::Endpoint(p, e))
+    slot(tables, Slot::Endpoint(p, e))
 }
 
 // What line l holds, as a number.
@@ -39,7 +47,7 @@ pub fn line(tables: &[u32], l: usize) -> u32
     requires { ⌜ Shown (now tables) (IsLine l) ⌝ }
     ensures { λ r. ⌜ Tells (now (tables .entry)) (IsLine l) r (lineIn l) ⌝ }
 {
-    words::get(tables, Slot::Line(l))
+    slot(tables, Slot::Line(l))
 }
 
 // The link to the running thread.
@@ -47,7 +55,7 @@ pub fn running(tables: &[u32]) -> u32
     requires { ⌜ Shown (now tables) Any ⌝ }
     ensures { λ r. ⌜ Tells (now (tables .entry)) Any r runningIn ⌝ }
 {
-    words::get(tables, Slot::Running)
+    slot(tables, Slot::Running)
 }
 
 // Thread t is at a place, with the outcome, badge and message that it has there.
@@ -86,15 +94,23 @@ pub fn set_owes(tables: &mut [u32], t: usize, code: u32, badge: u32)
     words::put(tables, Slot::Thread(Field::Note, t), badge);
 }
 
+// Thread t has this place, priority and ticks, and nothing else.
+fn remake(tables: &mut [u32], t: usize, place: u32, p: u32, ticks: u32)
+    requires { ⌜ Shown (now tables) (IsThread t) ⌝ }
+    ensures { λ _. ⌜ Remakes (now (tables .entry)) t place p ticks (now (tables .exit)) ⌝ }
+{
+    set_priority(tables, t, p);
+    set_ticks(tables, t, ticks);
+    set_owes(tables, t, codes::NOTHING, 0);
+    set_place(tables, t, place, machine::codes::NO_OUTCOME, 0, 0);
+}
+
 // Thread t is new: able, of priority p, with all its ticks.
 pub fn new_thread(tables: &mut [u32], t: usize, p: u32)
     requires { ⌜ Shown (now tables) (IsThread t) ⌝ }
     ensures { λ _. ⌜ Does (now (tables .entry)) (now (tables .exit)) (IsThread t) (creating t p) ⌝ }
 {
-    set_place(tables, t, codes::ABLE, machine::codes::NO_OUTCOME, 0, 0);
-    set_priority(tables, t, p);
-    set_ticks(tables, t, machine::codes::TICKS);
-    set_owes(tables, t, codes::NOTHING, 0);
+    remake(tables, t, codes::ABLE, p, machine::codes::TICKS);
 }
 
 // Thread t is absent.
@@ -102,10 +118,7 @@ pub fn clear_thread(tables: &mut [u32], t: usize)
     requires { ⌜ Shown (now tables) (IsThread t) ⌝ }
     ensures { λ _. ⌜ Does (now (tables .entry)) (now (tables .exit)) (IsThread t) (clearing t) ⌝ }
 {
-    set_place(tables, t, codes::ABSENT, machine::codes::NO_OUTCOME, 0, 0);
-    set_priority(tables, t, 0);
-    set_ticks(tables, t, 0);
-    set_owes(tables, t, codes::NOTHING, 0);
+    remake(tables, t, codes::ABSENT, 0, 0);
 }
 
 // The thread of a link runs, none for 0.

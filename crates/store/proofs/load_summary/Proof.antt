@@ -16,11 +16,8 @@ abbrev μ-loop : tie.MeasureT-loop
 loop-holds : tie.Need-loop-holds Inv-loop μ-loop
 loop-holds c = read-none _ _ refl
 
-summary-at-requires : tie.Need-summary-at-requires Inv-loop μ-loop
-summary-at-requires c κs = omega arith
-
 get-requires : tie.Need-get-requires Inv-loop μ-loop
-get-requires c κs = omega arith
+get-requires c κs = search needs
 
 mul-row : tie.Need-mul-row Inv-loop μ-loop
 mul-row c = omega arith
@@ -36,21 +33,14 @@ loop-less c = omega arith
 
 loop-again : tie.Need-loop-again Inv-loop μ-loop
 loop-again c =
-    let at-loop = c .before .before .before in
-    read-more _ _ _ _ _ (at-loop .loop .inv) (c .before .before .loop-test .taken)
-    (c .before .summary-at .ensures) (c .get .ensures)
-
-top-at-requires : tie.Need-top-at-requires Inv-loop μ-loop
-top-at-requires c κs = search needs
+    read-more _ _ _ _ (c .before .before .loop .inv) (c .before .loop-test .taken) (c .get .ensures)
 
 get-requires-2 : tie.Need-get-requires-2 Inv-loop μ-loop
-get-requires-2 c κs = omega arith
+get-requires-2 c κs = search needs
 
 returns : tie.Need-returns Inv-loop μ-loop
 returns c =
-    let at-loop = c .before .before .before in
-    loads _ _ _ _ _ (at-loop .loop .inv) (c .before .before .loop-test .left)
-    (c .before .top-at .ensures) (c .get2 .ensures)
+    loads _ _ _ _ (c .before .before .loop .inv) (c .before .loop-test .left) (c .get2 .ensures)
 
 pub load-summary-spec : {M : Type 1} → statement M
 load-summary-spec =
@@ -59,13 +49,11 @@ load-summary-spec =
     Inv-loop
     μ-loop
     loop-holds
-    summary-at-requires
     get-requires
     mul-row
     array-write-row
     add-w
     loop-less
     loop-again
-    top-at-requires
     get-requires-2
     returns)

@@ -4,9 +4,6 @@ use Rattle.store.proofs.Sites.{owner-does}
 use Rattle.store.proofs.set_owner.Statement.{statement}
 use Rattle.store.proofs.set_owner.Tie as tie
 
-endpoint-at-requires : tie.Need-endpoint-at-requires
-endpoint-at-requires c κs = search needs
-
 put-requires : tie.Need-put-requires
 put-requires c κs = search needs
 
@@ -14,9 +11,7 @@ same-length : tie.Need-same-length
 same-length c = search needs
 
 returns : tie.Need-returns
-returns c =
-    let at-endpoint-at = c .before .before .before in
-    owner-does _ _ (at-endpoint-at .endpoint-at .ensures) (c .before .before .put .ensures)
+returns c = owner-does _ _ (c .before .before .put .ensures)
 
 pub set-owner-spec : {M : Type 1} → statement M
-set-owner-spec = tie.close (tie.spec endpoint-at-requires put-requires same-length returns)
+set-owner-spec = tie.close (tie.spec put-requires same-length returns)

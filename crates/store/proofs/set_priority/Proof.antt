@@ -4,9 +4,6 @@ use Rattle.store.proofs.Blocks.{priority-does}
 use Rattle.store.proofs.set_priority.Statement.{statement}
 use Rattle.store.proofs.set_priority.Tie as tie
 
-thread-at-requires : tie.Need-thread-at-requires
-thread-at-requires c κs = search needs
-
 put-requires : tie.Need-put-requires
 put-requires c κs = search needs
 
@@ -14,9 +11,7 @@ same-length : tie.Need-same-length
 same-length c = search needs
 
 returns : tie.Need-returns
-returns c =
-    let at-thread-at = c .before .before .before in
-    priority-does _ _ (at-thread-at .thread-at .ensures) (c .before .before .put .ensures)
+returns c = priority-does _ _ (c .before .before .put .ensures)
 
 pub set-priority-spec : {M : Type 1} → statement M
-set-priority-spec = tie.close (tie.spec thread-at-requires put-requires same-length returns)
+set-priority-spec = tie.close (tie.spec put-requires same-length returns)

@@ -4,9 +4,6 @@ use Rattle.store.proofs.Singles.{running-does}
 use Rattle.store.proofs.set_running.Statement.{statement}
 use Rattle.store.proofs.set_running.Tie as tie
 
-running-at-requires : tie.Need-running-at-requires
-running-at-requires c κs = search needs
-
 put-requires : tie.Need-put-requires
 put-requires c κs = search needs
 
@@ -14,9 +11,7 @@ same-length : tie.Need-same-length
 same-length c = search needs
 
 returns : tie.Need-returns
-returns c =
-    let at-running-at = c .before .before .before in
-    running-does _ (at-running-at .running-at .ensures) (c .before .before .put .ensures)
+returns c = running-does _ (c .before .before .put .ensures)
 
 pub set-running-spec : {M : Type 1} → statement M
-set-running-spec = tie.close (tie.spec running-at-requires put-requires same-length returns)
+set-running-spec = tie.close (tie.spec put-requires same-length returns)

@@ -4,9 +4,6 @@ use Rattle.store.proofs.Sites.{status-does}
 use Rattle.store.proofs.set_status.Statement.{statement}
 use Rattle.store.proofs.set_status.Tie as tie
 
-endpoint-at-requires : tie.Need-endpoint-at-requires
-endpoint-at-requires c κs = search needs
-
 put-requires : tie.Need-put-requires
 put-requires c κs = search needs
 
@@ -14,9 +11,7 @@ same-length : tie.Need-same-length
 same-length c = search needs
 
 returns : tie.Need-returns
-returns c =
-    let at-endpoint-at = c .before .before .before in
-    status-does _ _ (at-endpoint-at .endpoint-at .ensures) (c .before .before .put .ensures)
+returns c = status-does _ _ (c .before .before .put .ensures)
 
 pub set-status-spec : {M : Type 1} → statement M
-set-status-spec = tie.close (tie.spec endpoint-at-requires put-requires same-length returns)
+set-status-spec = tie.close (tie.spec put-requires same-length returns)

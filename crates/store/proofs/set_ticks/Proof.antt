@@ -4,9 +4,6 @@ use Rattle.store.proofs.Blocks.{ticks-does}
 use Rattle.store.proofs.set_ticks.Statement.{statement}
 use Rattle.store.proofs.set_ticks.Tie as tie
 
-thread-at-requires : tie.Need-thread-at-requires
-thread-at-requires c κs = search needs
-
 put-requires : tie.Need-put-requires
 put-requires c κs = search needs
 
@@ -14,9 +11,7 @@ same-length : tie.Need-same-length
 same-length c = search needs
 
 returns : tie.Need-returns
-returns c =
-    let at-thread-at = c .before .before .before in
-    ticks-does _ _ (at-thread-at .thread-at .ensures) (c .before .before .put .ensures)
+returns c = ticks-does _ _ (c .before .before .put .ensures)
 
 pub set-ticks-spec : {M : Type 1} → statement M
-set-ticks-spec = tie.close (tie.spec thread-at-requires put-requires same-length returns)
+set-ticks-spec = tie.close (tie.spec put-requires same-length returns)
