@@ -19,20 +19,16 @@ use Rattle.layout.specs.Words.{image, linkOf}
 use Rattle.layout.proofs.Ends.{none-some}
 use Rattle.layout.proofs.Image.{length-image, image-name}
 use Rattle.layout.proofs.Neat.{sound-neat}
-use Rattle.words.specs.Access.{Address}
 use Rattle.lent_tables.specs.Entries.{runnerOf, asLink, runnerIn}
 
 pub no-tables : (m : List ℕ) → (length m ≡ tableWords → ⊥) → Nobody ≡ runnerIn m
 unfolding runnerIn
 no-tables m h = rw (ne-eqb (length m) tableWords h)
 
-module _ (m : List ℕ) (i : ℕ) {r : ℕ} (h : length m ≡ tableWords) (A : Address i (at Slot.Running)) (e : r ≡ word m i) where
-  here : word m (at Slot.Running) ≡ r
-  here = sym (e ∙ ap (word m) (A .is))
-
+module _ (m : List ℕ) {r : ℕ} (h : length m ≡ tableWords) (e : r ≡ word m (at Slot.Running)) where
   linked : runnerOf (asLink r) ≡ runnerIn m
   unfolding runnerIn
-  linked = rw (eq-eqb (length m) tableWords h, here)
+  linked = rw (eq-eqb (length m) tableWords h, e)
 
   -- The word less 1, where 0 wraps.
   module _ {t : ℕ} (wraps : (t + 1) % 2 ^ 32 ≡ r) where

@@ -8,6 +8,7 @@ ghost use Rattle.endings.specs.Results.{Asked, Performs};
 ghost use Rattle.kernel.specs.Steps.{Ranged, Served, stepping};
 use layout::Slot;
 use layout::codes::LINK;
+use layout::codes::NOBODY;
 use machine::Answer;
 use machine::Call;
 use machine::Runner;
@@ -71,7 +72,7 @@ fn perform(tables: &mut [u32], c: Call) -> Answer
 {
     let link = store::running(tables);
     let number = machine::number(c);
-    if (link == 0) & (number >= 7) {
+    if (link == NOBODY) & (number >= 7) {
         return machine::plain(machine::codes::NOBODY_RUNS);
     }
     carry_out(tables, link, c)
@@ -111,7 +112,7 @@ pub fn running(tables: &[u32]) -> Runner
     }
     let link = words::get(tables, Slot::Running);
     // The link 0, to nobody, wraps: like every word that is no link it comes out above 255.
-    let thread = std::num::wrapping_sub_u32(link, 1);
+    let thread = std::num::wrapping_sub_u32(link, LINK);
     if thread > 255 {
         return Runner::Nobody;
     }

@@ -135,12 +135,13 @@ name-linkAt (Link.Tail q) h = queue-row q 1 h (omega arith) (2561 + 2 * q) (omeg
 -- The place in its row names a word of a thread, and of an endpoint.
 pub same-field : (f g : Field) (t : ℕ) → column f ≡ column g → Slot.Thread f t ≡ Slot.Thread g t
 same-field f g t e =
-    let k : slot (Slot.Thread f t) ≡ slot (Slot.Thread g t) = sym (field-name f t) ∙ ap (inThread t) e ∙ field-name g t in cc
+    let k : slot (Slot.Thread f t) ≡ slot (Slot.Thread g t) =
+    sym (field-name f t) ∙ ap (inThread t) e ∙ field-name g t in cc
 
 pub same-part : (p q : Part) (e : ℕ) → offset p ≡ offset q → Slot.Endpoint p e ≡ Slot.Endpoint q e
 same-part p q e k =
-    let j : slot (Slot.Endpoint p e) ≡ slot (Slot.Endpoint q e) = sym (part-name p e) ∙ ap (inEndpoint e) k ∙ part-name q e in
-    cc
+    let j : slot (Slot.Endpoint p e) ≡ slot (Slot.Endpoint q e) =
+    sym (part-name p e) ∙ ap (inEndpoint e) k ∙ part-name q e in cc
 
 -- Each valid name is the name of its address: two valid names have the same address only if they are the same.
 pub name-address : (a : Name) → Valid a → nameOf (address a) ≡ a
@@ -184,7 +185,8 @@ in-thread t zero i h g e = record { name = slot (Slot.Thread Field.Place t); val
 in-thread t (suc zero) i h g e = record { name = slot (Slot.Thread Field.Priority t); valid = h; here = e }
 in-thread t (suc (suc zero)) i h g e = record { name = slot (Slot.Thread Field.Ticks t); valid = h; here = e }
 in-thread t (suc (suc (suc zero))) i h g e = record { name = slot (Slot.Thread Field.Outcome t); valid = h; here = e }
-in-thread t (suc (suc (suc (suc zero)))) i h g e = record { name = slot (Slot.Thread Field.Badge t); valid = h; here = e }
+in-thread t (suc (suc (suc (suc zero)))) i h g e =
+    record { name = slot (Slot.Thread Field.Badge t); valid = h; here = e }
 in-thread t (suc (suc (suc (suc (suc zero))))) i h g e =
     record { name = slot (Slot.Thread Field.Message t); valid = h; here = e }
 in-thread t (suc (suc (suc (suc (suc (suc zero)))))) i h g e = record { name = link (Link.Next t); valid = h; here = e }

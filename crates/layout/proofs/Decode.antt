@@ -98,7 +98,9 @@ module _ (m : List ℕ) (s : State) (S : Sound s) (M : Shows m s) where
           → pick (leb t 255) (threadFrom (λ f. word m (at (Slot.Thread f t)))) absentThread ≡ s .threads t
       threads t =
           pick-is 255 (threadFrom (λ f. word m (at (Slot.Thread f t)))) absentThread t (s .threads t)
-          (λ h. ap threadFrom (fun-ext (λ f. M .slots (Slot.Thread f t) h)) ∙ thread-back t (s .threads t) (N .threads t))
+          (λ h.
+          ap threadFrom (fun-ext (λ f. M .slots (Slot.Thread f t) h))
+          ∙ thread-back t (s .threads t) (N .threads t))
           (λ h. sym (beyond-absent t (s .threads t) (N .threads t) h))
 
       runs : linked (word m (at Slot.Running)) ≡ s .runs
@@ -117,7 +119,8 @@ module _ (m : List ℕ) (s : State) (S : Sound s) (M : Shows m s) where
           ∙ endpoint-back (s .endpoints e) (N .endpoints e) (S .queues .queued-once e)
 
       endpoints : (e : ℕ)
-          → pick (leb e 63) (endpointFrom (λ p. word m (at (Slot.Endpoint p e))) (queueFrom m (256 + e))) missingEndpoint
+          → pick (leb e 63) (endpointFrom (λ p. word m (at (Slot.Endpoint p e))) (queueFrom m (256 + e)))
+          missingEndpoint
           ≡ s .endpoints e
       endpoints e =
           pick-is 63 (endpointFrom (λ p. word m (at (Slot.Endpoint p e))) (queueFrom m (256 + e))) missingEndpoint e

@@ -63,7 +63,8 @@ module _ (s : State) (R : Ranges s) (Q : Queues s) where
     -- The links of a thread in a memory that shows the state.
     link-words :
         (t : ℕ) → t ≤ 255
-        → (word m (linkAt (Link.Next t)) ≡ afterIn t (queueOf s t)) × (word m (linkAt (Link.Prev t)) ≡ beforeIn 0 t (queueOf s t))
+        → (word m (linkAt (Link.Next t)) ≡ afterIn t (queueOf s t))
+        × (word m (linkAt (Link.Prev t)) ≡ beforeIn 0 t (queueOf s t))
     link-words t h = go (mem? t (queueOf s t))
       where
         go : Mem t (queueOf s t) ⊎ (Mem t (queueOf s t) → ⊥)

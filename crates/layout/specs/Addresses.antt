@@ -89,7 +89,8 @@ inThread t k =
     getD
     (slot (Slot.Thread Field.Place t) ∷ slot (Slot.Thread Field.Priority t) ∷ slot (Slot.Thread Field.Ticks t)
     ∷ slot (Slot.Thread Field.Outcome t) ∷ slot (Slot.Thread Field.Badge t) ∷ slot (Slot.Thread Field.Message t)
-    ∷ link (Link.Next t) ∷ link (Link.Prev t) ∷ slot (Slot.Thread Field.Owes t) ∷ slot (Slot.Thread Field.Note t) ∷ []) k (slot Slot.Top)
+    ∷ link (Link.Next t) ∷ link (Link.Prev t) ∷ slot (Slot.Thread Field.Owes t) ∷ slot (Slot.Thread Field.Note t) ∷ [])
+    k (slot Slot.Top)
 
 unfoldable pub inQueue : ℕ → ℕ → Name
 inQueue q k = getD (link (Link.Head q) ∷ link (Link.Tail q) ∷ []) k (slot Slot.Top)
@@ -98,7 +99,8 @@ unfoldable pub inEndpoint : ℕ → ℕ → Name
 inEndpoint e k =
     getD
     (slot (Slot.Endpoint Part.Status e) ∷ slot (Slot.Endpoint Part.Aborting e) ∷ slot (Slot.Endpoint Part.Aborted e)
-    ∷ slot (Slot.Endpoint Part.Owner e) ∷ slot (Slot.Endpoint Part.Cursor e) ∷ slot (Slot.Endpoint Part.End e) ∷ []) k (slot Slot.Top)
+    ∷ slot (Slot.Endpoint Part.Owner e) ∷ slot (Slot.Endpoint Part.Cursor e) ∷ slot (Slot.Endpoint Part.End e) ∷ [])
+    k (slot Slot.Top)
 
 unfoldable pub nameOf : ℕ → Name
 nameOf i =

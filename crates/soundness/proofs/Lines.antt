@@ -81,7 +81,8 @@ tells-line m s R l h = rw (R .slots (Slot.Line l) h) (go (s .lines l) refl)
 pub tells-summary :
     (m : List ℕ)
     → Decides (summaryTest m)
-    (((w : ℕ) → w < 8 → word m (at (Slot.Summary w)) ≡ wordOf (occupiedAt m) w) × (word m (at Slot.Top) ≡ topOf (occupiedAt m)))
+    (((w : ℕ) → w < 8 → word m (at (Slot.Summary w)) ≡ wordOf (occupiedAt m) w)
+    × (word m (at Slot.Top) ≡ topOf (occupiedAt m)))
 unfolding summaryTest
 tells-summary m = tells-and (tells-below 8 _ _ (λ w h. tells-eqb _ _)) (tells-eqb _ _)
 

@@ -68,7 +68,8 @@ module _ (m : List ℕ) (s : State) (R : Reads m s) where
       (t : ℕ) (q : Place) → t ≤ 255 → PlaceSmall q
       → Decides (eqb (threadAt m Field.Place t) (placeCode q)) (s .threads t .place ≡ q)
   tells-seat t q h g =
-      rw (R .slots (Slot.Thread Field.Place t) h) (tells-place (s .threads t .place) q (R .neat .threads t .place-small) g)
+      rw (R .slots (Slot.Thread Field.Place t) h)
+      (tells-place (s .threads t .place) q (R .neat .threads t .place-small) g)
 
   pub tells-runs : (t : ℕ) → Decides (eqb (word m (at Slot.Running)) (suc t)) (s .runs ≡ some t)
   tells-runs t = rw (R .slots Slot.Running tt) (tells-some (s .runs) t)

@@ -186,7 +186,8 @@ occupiedAt m p = not (eqb (word m (linkAt (Link.Head p))) 0)
 
 unfoldable pub summaryTest : List ℕ → Bool
 summaryTest m =
-    all 8 (λ w. eqb (word m (at (Slot.Summary w))) (wordOf (occupiedAt m) w)) && eqb (word m (at Slot.Top)) (topOf (occupiedAt m))
+    all 8 (λ w. eqb (word m (at (Slot.Summary w))) (wordOf (occupiedAt m) w))
+    && eqb (word m (at Slot.Top)) (topOf (occupiedAt m))
 
 -- Nobody ready is above the running thread; none is ready if none runs.
 unfoldable pub runningFrom : ℕ → List ℕ → Bool

@@ -11,10 +11,10 @@ use Rattle.layout.specs.Words.{content, queuesOf}
 use Rattle.layout.specs.Shows.{Shows}
 use Rattle.layout.proofs.Stores.{store-shows, slot-same, slot-other, slot-link}
 use Rattle.store.specs.Steps.{Tells}
-use Rattle.store.specs.Store.{Named}
-use Rattle.store.specs.Readings.{holding}
+use Rattle.store.specs.Store.{IsSlot}
+use Rattle.store.specs.Readings.{slotIn}
 
-pub word-tells : (a : Slot) (m : List ℕ) (r : ℕ) → r ≡ word m (at a) → Tells m (Named a) r (holding a)
+pub word-tells : (a : Slot) (m : List ℕ) (r : ℕ) → r ≡ word m (at a) → Tells m (IsSlot a) r (slotIn a)
 word-tells a m r e = record { tells = λ s M valid. e ∙ M .slots a valid }
 
 -- A memory in which one slot has a new word shows the state that differs there alone.

@@ -7,8 +7,8 @@ use Rattle.layout.specs.declared.Slot.{Slot}
 use Rattle.layout.specs.Words.{content, threadWord, endpointWord, lineCode, linkOf}
 
 -- Of a word that is no link.
-abbrev pub holding : Slot → State → ℕ
-holding a s = content s a
+abbrev pub slotIn : Slot → State → ℕ
+slotIn a s = content s a
 
 -- Of thread t.
 abbrev pub threadIn : Field → ℕ → State → ℕ

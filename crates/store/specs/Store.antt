@@ -12,8 +12,8 @@ use Rattle.layout.specs.Words.{placeCode, debtCode, noteCode, statusCode, lineC
 use Rattle.store.specs.Steps.{Does}
 
 -- The word's thread, endpoint or line is in range.
-abbrev pub Named : Slot → State → Type 0
-Named a s = ValidSlot a
+abbrev pub IsSlot : Slot → State → Type 0
+IsSlot a s = ValidSlot a
 
 abbrev pub IsThread : ℕ → State → Type 0
 IsThread t s = t ≤ 255

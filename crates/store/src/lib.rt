@@ -6,11 +6,11 @@ ghost use Prim.Native.Nat.{_≤_, _<_};
 ghost use lib.ListN.{length};
 ghost use Rattle.layout.specs.Addresses.{tableWords};
 ghost use Rattle.store.specs.Steps.{Shown, Does, Tells};
-ghost use Rattle.store.specs.Store.{Named, IsThread, IsEndpoint, IsLine, Any, HasAbort};
+ghost use Rattle.store.specs.Store.{IsSlot, IsThread, IsEndpoint, IsLine, Any, HasAbort};
 ghost use Rattle.store.specs.Store.{prioritising, ticking, creating, clearing};
 ghost use Rattle.store.specs.Store.{SetsPlace, SetsDebt, SetsRunning, SetsLine, SetsStatus, SetsAbort, SetsOwner};
 ghost use Rattle.store.specs.Store.{Remakes, SetsPending};
-ghost use Rattle.store.specs.Readings.{holding, threadIn, endpointIn, lineIn, runningIn};
+ghost use Rattle.store.specs.Readings.{slotIn, threadIn, endpointIn, lineIn, runningIn};
 ghost use Rattle.store.specs.Levels.{LoadsSummary, SetsLevel, WritesLevel};
 use layout::Field;
 use layout::Part;
@@ -20,8 +20,8 @@ use summary::Summary;
 
 // A word that is no link.
 fn slot(tables: &[u32], a: Slot) -> u32
-    requires { ⌜ Shown (now tables) (Named a) ⌝ }
-    ensures { λ r. ⌜ Tells (now (tables .entry)) (Named a) r (holding a) ⌝ }
+    requires { ⌜ Shown (now tables) (IsSlot a) ⌝ }
+    ensures { λ r. ⌜ Tells (now (tables .entry)) (IsSlot a) r (slotIn a) ⌝ }
 {
     words::get(tables, a)
 }

@@ -8,9 +8,6 @@ use Rattle.kernel.proofs.running.Tie as tie
 returns : tie.Need-returns
 returns c = no-tables _ (c .if1 .taken)
 
-running-at-requires : tie.Need-running-at-requires
-running-at-requires c κs = search needs
-
 get-requires : tie.Need-get-requires
 get-requires c κs = search needs
 
@@ -19,19 +16,19 @@ wrapping-sub-u32-requires c κs = search needs
 
 returns-2 : tie.Need-returns-2
 returns-2 c =
-    let less = c .before in
-    let read = less .before in
-    nobody-runs _ _ (read .before .before .if1 .left) (read .before .running-at .ensures) (read .get .ensures)
-    (less .wrapping-sub-u32 .ensures) (search needs) (c .if2 .taken)
+    let at-less = c .before in
+    let at-get = at-less .before in
+    nobody-runs _ (at-get .before .if1 .left) (at-get .get .ensures) (at-less .wrapping-sub-u32 .ensures) (search needs)
+    (c .if2 .taken)
 
 returns-3 : tie.Need-returns-3
 returns-3 c =
-    let less = c .before in
-    let read = less .before in
-    thread-runs _ _ (read .before .before .if1 .left) (read .before .running-at .ensures) (read .get .ensures)
-    (less .wrapping-sub-u32 .ensures) (omega (arith, c .if2 .left))
+    let at-less = c .before in
+    let at-get = at-less .before in
+    thread-runs _ (at-get .before .if1 .left) (at-get .get .ensures) (at-less .wrapping-sub-u32 .ensures)
+    (omega (arith, c .if2 .left))
 
 pub running-spec : {M : Type 1} → statement M
 running-spec =
     tie.close
-    (tie.spec returns running-at-requires get-requires wrapping-sub-u32-requires returns-2 returns-3)
+    (tie.spec returns get-requires wrapping-sub-u32-requires returns-2 returns-3)

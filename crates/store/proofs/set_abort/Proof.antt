@@ -29,7 +29,10 @@ returns c =
     let at-put3 = at-put4 .before .before .before .before in
     let at-put2 = at-put3 .before .before .before .before in
     let at-put = at-put2 .before .before .before .before in
-    abort-does _ _ _ _ _ _ (at-put .put .ensures) (at-put2 .put2 .ensures) (at-put3 .put3 .ensures) (at-put4 .put4 .ensures) (at-put5 .put5 .ensures)
+    abort-does _ _ _ _ _ _ (at-put .put .ensures) (at-put2 .put2 .ensures) (at-put3 .put3 .ensures)
+    (at-put4 .put4 .ensures) (at-put5 .put5 .ensures)
 
 pub set-abort-spec : {M : Type 1} → statement M
-set-abort-spec = tie.close (tie.spec put-requires put-requires-2 put-requires-3 put-requires-4 put-requires-5 same-length returns)
+set-abort-spec =
+    tie.close
+    (tie.spec put-requires put-requires-2 put-requires-3 put-requires-4 put-requires-5 same-length returns)

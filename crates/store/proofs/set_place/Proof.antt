@@ -25,7 +25,8 @@ returns c =
     let at-put3 = at-put4 .before .before .before .before in
     let at-put2 = at-put3 .before .before .before .before in
     let at-put = at-put2 .before .before .before .before in
-    place-does _ _ _ _ _ (at-put .put .ensures) (at-put2 .put2 .ensures) (at-put3 .put3 .ensures) (at-put4 .put4 .ensures)
+    place-does _ _ _ _ _ (at-put .put .ensures) (at-put2 .put2 .ensures) (at-put3 .put3 .ensures)
+    (at-put4 .put4 .ensures)
 
 pub set-place-spec : {M : Type 1} → statement M
 set-place-spec = tie.close (tie.spec put-requires put-requires-2 put-requires-3 put-requires-4 same-length returns)
