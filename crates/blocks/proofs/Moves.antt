@@ -6,7 +6,7 @@ use Rattle.machine.specs.State.{State, Thread, setThread, withTicks}
 use Rattle.layout.specs.declared.Field.{Field}
 use Rattle.layout.specs.Shows.{Shows}
 use Rattle.store.specs.Steps.{Shown, Does, Tells}
-use Rattle.store.specs.Store.{IsThread, placing, prioritising, ticking, SetsPlace, SetsDebt}
+use Rattle.store.specs.Store.{IsThread, prioritising, ticking, owing, SetsPlace, SetsDebt}
 use Rattle.store.specs.Readings.{threadIn}
 use Rattle.store.proofs.Composed.{still, remade}
 use Rattle.blocks.specs.declared.Block.{Block}
@@ -37,33 +37,31 @@ loaded b P Q T O B X D N =
           };
     }
 
--- The place of a block is that of a thread, so the memory still shows a state.
-pub placed :
-    {t : ℕ} {m n : List ℕ} {b : Block} → IsBlock b → SetsPlace m t (b .place) (b .outcome) (b .badge) (b .message) n
-    → Shown m (IsThread t) → Shown n (IsThread t)
-placed {b = b} x P S =
-    still (placing _ (x .thread .place) (b .outcome) (b .badge) (b .message))
-    (P .does (x .thread .place) (ap (λ k. k .place) (x .is))) S
+-- What a block owes is what a thread owes, so the memory still shows a state.
+pub owed :
+    {t : ℕ} {m n : List ℕ} {b : Block} → IsBlock b → SetsDebt m t (b .owes) (b .note) n → Shown m (IsThread t)
+    → Shown n (IsThread t)
+owed x D S =
+    still (owing _ (x .thread .debt))
+    (D .does (x .thread .debt) (ap (λ k. k .owes) (x .is)) (ap (λ k. k .note) (x .is))) S
 
 -- The four steps with the numbers of a block.
 abbrev Steps : ℕ → List ℕ → List ℕ → List ℕ → List ℕ → List ℕ → Block → Type 0
 Steps t m n₁ n₂ n₃ n₄ b =
-    SetsPlace m t (b .place) (b .outcome) (b .badge) (b .message) n₁
-    × Does n₁ n₂ (IsThread t) (prioritising t (b .priority)) × Does n₂ n₃ (IsThread t) (ticking t (b .ticks))
-    × SetsDebt n₃ t (b .owes) (b .note) n₄
+    Does m n₁ (IsThread t) (prioritising t (b .priority)) × Does n₁ n₂ (IsThread t) (ticking t (b .ticks))
+    × SetsDebt n₂ t (b .owes) (b .note) n₃ × SetsPlace n₃ t (b .place) (b .outcome) (b .badge) (b .message) n₄
 
 pub stored :
-    {t : ℕ} {m n₁ n₂ n₃ n₄ : List ℕ} (b : Block)
-    → SetsPlace m t (b .place) (b .outcome) (b .badge) (b .message) n₁
-    → Does n₁ n₂ (IsThread t) (prioritising t (b .priority)) → Does n₂ n₃ (IsThread t) (ticking t (b .ticks))
-    → SetsDebt n₃ t (b .owes) (b .note) n₄ → SetsBlock m t b n₄
-stored {t} {m} {n₁} {n₂} {n₃} {n₄} b P Q T D =
-    record { does = λ x e. go x (subst (Steps t m n₁ n₂ n₃ n₄) (sym e) (P, Q, T, D)) }
+    {t : ℕ} {m n₁ n₂ n₃ n₄ : List ℕ} (b : Block) → Does m n₁ (IsThread t) (prioritising t (b .priority))
+    → Does n₁ n₂ (IsThread t) (ticking t (b .ticks)) → SetsDebt n₂ t (b .owes) (b .note) n₃
+    → SetsPlace n₃ t (b .place) (b .outcome) (b .badge) (b .message) n₄ → SetsBlock m t b n₄
+stored {t} {m} {n₁} {n₂} {n₃} {n₄} b Q T D P =
+    record { does = λ x e. go x (subst (Steps t m n₁ n₂ n₃ n₄) (sym e) (Q, T, D, P)) }
   where
     go : (x : Thread) → Steps t m n₁ n₂ n₃ n₄ (blockOf x) → Does m n₄ (IsThread t) (setThread t x)
     go x g =
-        remade t (x .place) (x .outcome) (x .badge) (x .message) (x .priority) (x .ticks) (x .debt)
-        (g .0 .does (x .place) refl) (g .1) (g .2) (g .3 .does (x .debt) refl refl)
+        remade t (x .priority) (x .ticks) (x .debt) (x .place) (x .outcome) (x .badge) (x .message)
+        (g .0) (g .1) (g .2 .does (x .debt) refl refl) (g .3 .does (x .place) refl)
 
 -- The block of a thread, after a tick, is that of the thread with the ticks that are left.
 module _ {t : ℕ} {m : List ℕ} {b : Block} (L : LoadsBlock m t b) where

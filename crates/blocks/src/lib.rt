@@ -81,8 +81,8 @@ pub fn store(tables: &mut [u32], t: usize, b: Block)
     requires { ⌜ Shown (now tables) (IsThread t) × IsBlock b ⌝ }
     ensures { λ _. ⌜ SetsBlock (now (tables .entry)) t b (now (tables .exit)) ⌝ }
 {
-    store::set_place(tables, t, b.place, b.outcome, b.badge, b.message);
     store::set_priority(tables, t, b.priority);
     store::set_ticks(tables, t, b.ticks);
     store::set_owes(tables, t, b.owes, b.note);
+    store::set_place(tables, t, b.place, b.outcome, b.badge, b.message);
 }

@@ -3,11 +3,11 @@ use Prim.Native.Nat.{ℕ}
 use mathlib.Core.Path.{_≡_, refl, _∙_, ap, subst}
 use mathlib.Core.List.{List}
 use Rattle.machine.specs.Lists.{put}
-use Rattle.machine.specs.State.{State, Thread, nothing, setThread, withPlace, withPriority, withTicks, withDebt}
+use Rattle.machine.specs.State.{State, Thread, Place, Debt, nothing, setThread, withPlace, withPriority, withTicks, withDebt}
 use Rattle.machine.proofs.Lists.{Same, same, other, same?, put-same, put-other}
 use Rattle.layout.specs.Shows.{Shows}
 use Rattle.store.specs.Steps.{Shown, Does}
-use Rattle.store.specs.Store.{IsThread, prioritising, ticking, SetsPlace, SetsDebt, Remakes}
+use Rattle.store.specs.Store.{IsThread, placing, prioritising, ticking, owing, SetsPlace, SetsDebt, Remakes}
 
 -- After a step the memory shows the state that the step makes.
 pub shown-after :
@@ -63,13 +63,20 @@ still op D S = shown-after S D (λ s h. h)
 
 -- The four steps that make a thread anew.
 pub remade :
-    (t : ℕ) {m n₁ n₂ n₃ n₄ : List ℕ} (p n code : ℕ)
+    (t : ℕ) {m n₁ n₂ n₃ n₄ : List ℕ} (p n : ℕ) (d : Debt) (place : Place) (o b x : ℕ)
     → Does m n₁ (IsThread t) (prioritising t p) → Does n₁ n₂ (IsThread t) (ticking t n)
-    → SetsDebt n₂ t 0 0 n₃ → SetsPlace n₃ t code 0 0 0 n₄ → Remakes m t code p n n₄
-remade t p n code A B C D =
-    record {
-      does = λ x e.
-          altered t (λ y. withDebt nothing (withTicks n (withPriority p y))) (withPlace x 0 0 0)
-          (altered t (λ y. withTicks n (withPriority p y)) (withDebt nothing)
-          (altered t (withPriority p) (withTicks n) A B) (C .does nothing refl refl)) (D .does x e);
-    }
+    → Does n₂ n₃ (IsThread t) (owing t d) → Does n₃ n₄ (IsThread t) (placing t place o b x)
+    → Does m n₄ (IsThread t)
+    (altering t (λ y. withPlace place o b x (withDebt d (withTicks n (withPriority p y)))))
+remade t p n d place o b x A B C D =
+    altered t (λ y. withDebt d (withTicks n (withPriority p y))) (withPlace place o b x)
+    (altered t (λ y. withTicks n (withPriority p y)) (withDebt d)
+    (altered t (withPriority p) (withTicks n) A B) C) D
+
+-- The last of them is for whatever place has the number.
+pub remade-plain :
+    (t : ℕ) {m n₁ n₂ n₃ n₄ : List ℕ} (p n code : ℕ) → Does m n₁ (IsThread t) (prioritising t p)
+    → Does n₁ n₂ (IsThread t) (ticking t n) → SetsDebt n₂ t 0 0 n₃ → SetsPlace n₃ t code 0 0 0 n₄
+    → Remakes m t code p n n₄
+remade-plain t p n code A B C D =
+    record { does = λ x e. remade t p n nothing x 0 0 0 A B (C .does nothing refl refl) (D .does x e) }

@@ -3,7 +3,7 @@ use mathlib.Core.Path.{refl}
 use borrow.Author.Needs.{needs}
 use Rattle.machine.specs.State.{nothing}
 use Rattle.store.specs.Store.{prioritising, ticking, owing}
-use Rattle.store.proofs.Composed.{still, remade}
+use Rattle.store.proofs.Composed.{still, remade-plain}
 use Rattle.store.proofs.remake.Statement.{statement}
 use Rattle.store.proofs.remake.Tie as tie
 
@@ -43,7 +43,7 @@ returns c =
     let at-set-owes = at-set-place .before .before .before .before in
     let at-set-ticks = at-set-owes .before .before .before .before in
     let at-set-priority = at-set-ticks .before .before .before .before in
-    remade _ _ _ _ (at-set-priority .set-priority .ensures) (at-set-ticks .set-ticks .ensures)
+    remade-plain _ _ _ _ (at-set-priority .set-priority .ensures) (at-set-ticks .set-ticks .ensures)
     (at-set-owes .set-owes .ensures) (at-set-place .set-place .ensures)
 
 pub remake-spec : {M : Type 1} → statement M
