@@ -11,7 +11,7 @@ use lib.Seq.{ext-getD}
 use borrow.Author.Tests.{eq-eqb, ne-eqb, eqb-true, eqb-false, not-true, not-false}
 use Rattle.summary.specs.declared.Summary.{Summary}
 use Rattle.summary.specs.Levels.{wordOf, topOf, levelWords, summaryOf}
-use Rattle.summary.proofs.Masks.{bits-lt, bits-agree, bits-same, bits-none, bits-zero}
+use Rattle.summary.proofs.Masks.{bits-lt, bits-agree, bits-none, bits-zero}
 
 -- Whether word w of the set is not 0.
 abbrev pub busy : (ℕ → Bool) → ℕ → Bool
@@ -89,37 +89,9 @@ pub summary-top : (f : ℕ → Bool) → summaryOf f .top ≡ topOf f
 unfolding summaryOf
 summary-top f = refl
 
--- Sets that agree below 256 have one summary, and sets of one summary agree there.
-
+-- Sets that agree at a word's levels have one word.
 pub word-agree :
     (f g : ℕ → Bool) (w : ℕ) → ((k : ℕ) → k < 32 → f (32 * w + k) ≡ g (32 * w + k)) → wordOf f w ≡ wordOf g w
 unfolding wordOf
 word-agree f g w h = bits-agree 32 (λ k. f (32 * w + k)) (λ k. g (32 * w + k)) h
 
-pub top-agree : (f g : ℕ → Bool) → ((w : ℕ) → w < 8 → wordOf f w ≡ wordOf g w) → topOf f ≡ topOf g
-unfolding topOf
-top-agree f g h = bits-agree 8 (busy f) (busy g) (λ w l. ap (λ (x : ℕ). not (eqb x 0)) (h w l))
-
-pub summary-agree : (f g : ℕ → Bool) → ((p : ℕ) → p < 256 → f p ≡ g p) → summaryOf f ≡ summaryOf g
-summary-agree f g h =
-    summary-is (summaryOf f) g
-    (summary-words f ∙ words-are g (levelWords f) (words-length f) (λ w l. words-at f w l ∙ words w l))
-    (summary-top f ∙ top-agree f g words)
-  where
-    words : (w : ℕ) → w < 8 → wordOf f w ≡ wordOf g w
-    words w l = word-agree f g w (λ k b. h (32 * w + k) (omega arith))
-
-pub word-same :
-    (f g : ℕ → Bool) (w : ℕ) → wordOf f w ≡ wordOf g w → (k : ℕ) → k < 32 → f (32 * w + k) ≡ g (32 * w + k)
-unfolding wordOf
-word-same f g w e = bits-same 32 (λ k. f (32 * w + k)) (λ k. g (32 * w + k)) e
-
-pub summary-word : (f g : ℕ → Bool) → summaryOf f ≡ summaryOf g → (w : ℕ) → w < 8 → wordOf f w ≡ wordOf g w
-summary-word f g e w h =
-    let l : levelWords f ≡ levelWords g = sym (summary-words f) ∙ ap (λ (s : Summary). s .words) e ∙ summary-words g in
-    sym (words-at f w h) ∙ ap (λ (x : List ℕ). getD x w 0) l ∙ words-at g w h
-
-pub summary-same : (f g : ℕ → Bool) → summaryOf f ≡ summaryOf g → (p : ℕ) → p < 256 → f p ≡ g p
-summary-same f g e p h =
-    let s : 32 * (p / 32) + p % 32 ≡ p = omega arith in
-    rw s at (word-same f g (p / 32) (summary-word f g e (p / 32) (omega arith)) (p % 32) (omega arith))
