@@ -6,7 +6,7 @@ use mathlib.Core.Option.{Option}
 use mathlib.Core.Logic.{_⊎_}
 use mathlib.Core.List.{List}
 use Rattle.machine.specs.Lists.{Mem}
-use Rattle.machine.specs.State.{State, Place, sending, receiving, owns, Abort, Status}
+use Rattle.machine.specs.State.{State, Place, sending, receiving, owns, Status}
 use Rattle.machine.specs.Endpoints.{senders, receivers, underAbort, ownerOf, note, endAbort}
 use Rattle.machine.specs.Aborts.{hasNote, ownsThis}
 use Rattle.layout.specs.Words.{placeCode, statusCode, firstOf, lastOf}

@@ -10,7 +10,7 @@ use Rattle.machine.specs.State.{Abort, Status, missing, live, closing, Endpoint
 use Rattle.machine.specs.Endpoints.{ownerOf, pendingOf}
 use Rattle.layout.specs.declared.Part.{Part}
 use Rattle.layout.specs.Words.{statusCode, abortCode, badgeCode, endpointWord}
-use Rattle.layout.specs.Decode.{orZero, abortBy, endpointBy, endpointFrom}
+use Rattle.layout.specs.Decode.{abortBy, endpointBy, endpointFrom}
 use Rattle.layout.proofs.RoundTrip.{within-small, within-same, linked-small, linked-back}
 use Rattle.layout.proofs.Following.{PartOf, between-within, between-back}
 

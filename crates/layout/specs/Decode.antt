@@ -1,6 +1,6 @@
 -- The state read off any memory. Where a word makes no sense, anything in range stands for it: the image of the state
 -- is then another memory. Nothing here has to be believed: stateOf, for which it is, has its own theorem.
-use Prim.Native.Nat.{ℕ, zero, suc, _+_, _-_, _^_}
+use Prim.Native.Nat.{ℕ, zero, suc, _-_, _^_}
 use mathlib.Core.Option.{Option, none, some}
 use mathlib.Core.List.{List, [], _∷_}
 use lib.Dec.{eqb, ltb, leb}

@@ -6,7 +6,7 @@ use mathlib.Core.List.{List, [], _∷_, _++_}
 use lib.Dec.{eqb}
 use Rattle.machine.specs.Lists.{without, only}
 use Rattle.machine.specs.State.{State, Thread, Place, absent, able, sending, receiving, waiting, Debt, nothing}
-use Rattle.machine.specs.State.{owns, noted, Abort, Status, Endpoint, setThread, setEndpoint, withDebt}
+use Rattle.machine.specs.State.{owns, noted, Abort, Status, setThread, setEndpoint, withDebt}
 use Rattle.machine.specs.Scheduling.{wake}
 
 abbrev pub isSending : Place → Bool

@@ -2,7 +2,7 @@
 use Prim.Native.Nat.{ℕ}
 use mathlib.Core.Path.{_≡_}
 use mathlib.Core.Bool.{true}
-use Rattle.machine.specs.State.{State, Debt, nothing, owns}
+use Rattle.machine.specs.State.{State, nothing, owns}
 use Rattle.machine.specs.Endpoints.{underAbort}
 use Rattle.machine.specs.Sound.{Ranges, Queues, Statuses, Marks, Owners, Outcomes}
 

@@ -2,7 +2,7 @@
 use Prim.Native.Nat.{ℕ}
 use mathlib.Core.Bool.{Bool, true, false, _&&_}
 use mathlib.Core.Option.{Option, none, some}
-use mathlib.Core.List.{[], _∷_, _++_, map}
+use mathlib.Core.List.{_∷_, _++_, map}
 use Rattle.machine.specs.Lists.{pick, put}
 use Rattle.machine.specs.Results.{Result}
 use Rattle.machine.specs.Sorts.{Sort, other, destroys, waits, receives, yields, removes, looks}

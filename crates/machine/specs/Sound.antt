@@ -3,11 +3,11 @@
 use Prim.Native.Nat.{ℕ, _≤_, _<_, _^_}
 use mathlib.Core.Path.{_≡_}
 use mathlib.Core.Logic.{_⊎_, _↔_}
-use mathlib.Core.Option.{Option, none, some}
-use mathlib.Core.List.{List, [], _∷_, _++_}
+use mathlib.Core.Option.{none, some}
+use mathlib.Core.List.{List, [], _++_}
 use Rattle.machine.specs.Lists.{Mem, Distinct}
 use Rattle.machine.specs.State.{State, Thread, Place, absent, able, sending, receiving, waiting, Debt, nothing}
-use Rattle.machine.specs.State.{owns, noted, Abort, Status, missing, live, closing, Line, quiet, awaited}
+use Rattle.machine.specs.State.{owns, noted, Abort, missing, live, quiet, awaited}
 use Rattle.machine.specs.State.{absentThread, missingEndpoint, noOutcome, messageReceived}
 use Rattle.machine.specs.Endpoints.{ownerOf}
 

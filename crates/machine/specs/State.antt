@@ -1,7 +1,7 @@
 -- The state of the queue machine: what a thread, an endpoint and a line are, who runs, who is ready.
 use Prim.Native.Nat.{ℕ}
-use mathlib.Core.Option.{Option, none, some}
-use mathlib.Core.List.{List, [], _∷_, _++_}
+use mathlib.Core.Option.{Option, none}
+use mathlib.Core.List.{List, []}
 use Rattle.machine.specs.Lists.{put}
 
 -- Where a thread is. An able thread runs or is ready; the others that are present are blocked.

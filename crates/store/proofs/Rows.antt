@@ -1,7 +1,7 @@
 -- The words after stores to one row of slots, as those of a thread or of an endpoint: the row has the new words, and
 -- every other slot and each link are as before.
 use Prim.Native.Nat.{ℕ, _≤_}
-use mathlib.Core.Path.{_≡_, refl, sym, _∙_, ap, subst}
+use mathlib.Core.Path.{_≡_, refl, sym, _∙_, subst}
 use mathlib.Core.List.{List}
 use lib.Dec.{eqb}
 use lib.ListN.{length, set, length-set}
