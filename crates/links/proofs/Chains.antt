@@ -10,7 +10,7 @@ use Rattle.layout.specs.Addresses.{ValidLink, linkAt, word, afterAt, beforeAt}
 use Rattle.layout.specs.Words.{firstOf, lastOf}
 use Rattle.layout.specs.Shows.{Joined, Chain}
 use Rattle.layout.proofs.Following.{last-in}
-use Rattle.links.proofs.Names.{afterLink, beforeLink, next-next, prev-prev, next-prev, prev-head, prev-tail}
+use Rattle.links.proofs.Names.{afterLink, beforeLink, next-prev, prev-head, prev-tail}
 use Rattle.links.proofs.Names.{next-head, next-tail, next-after, prev-after, head-after, tail-after, next-before}
 use Rattle.links.proofs.Names.{prev-before, head-before, tail-before}
 use Rattle.links.proofs.Splits.{Outside}
@@ -48,13 +48,13 @@ module _ {m n : List ℕ} {q p w t : ℕ} (A : Around m n q p w t) where
   pub nexts :
       (u : ℕ) → u ≤ 255 → (u ≡ t → ⊥) → (suc u ≡ p → ⊥) → word n (linkAt (Link.Next u)) ≡ word m (linkAt (Link.Next u))
   nexts u h a b =
-      A .others (Link.Next u) h (λ e. b (next-after u q p e)) (next-before u q w) (λ e. a (next-next u t e)) (next-prev u t)
+      A .others (Link.Next u) h (λ e. b (next-after u q p e)) (next-before u q w) (λ e. a (cc)) (next-prev u t)
 
   pub prevs :
       (u : ℕ) → u ≤ 255 → (u ≡ t → ⊥) → (suc u ≡ w → ⊥) → word n (linkAt (Link.Prev u)) ≡ word m (linkAt (Link.Prev u))
   prevs u h a b =
       A .others (Link.Prev u) h (prev-after u q p) (λ e. b (prev-before u q w e)) (λ e. next-prev t u (sym e))
-      (λ e. a (prev-prev u t e))
+      (λ e. a (cc))
 
   pub heads : (r : ℕ) → r ≤ 319 → (r ≡ q → p ≡ 0 → ⊥) → word n (linkAt (Link.Head r)) ≡ word m (linkAt (Link.Head r))
   heads r h a =

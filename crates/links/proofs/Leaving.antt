@@ -1,12 +1,11 @@
 -- The four stores of unlink: what they ask of the words and what the links are after them.
 use Prim.Native.Nat.{ℕ, suc, _≤_}
-use mathlib.Core.Path.{_≡_, refl, sym, _∙_, ap, subst}
+use mathlib.Core.Path.{_≡_, sym, _∙_, ap}
 use mathlib.Core.List.{List, _∷_, _++_}
 use lib.ListN.{set}
 use Rattle.machine.specs.Lists.{Distinct}
 use Rattle.layout.specs.declared.Link.{Link}
 use Rattle.layout.specs.Addresses.{linkAt, word, afterAt, beforeAt}
-use Rattle.words.specs.Access.{Address}
 use Rattle.links.specs.Links.{Leavable, LeavesQueue}
 use Rattle.links.proofs.Names.{afterLink, beforeLink, after-link, before-link, after-valid, before-valid}
 use Rattle.links.proofs.Names.{after-before, next-after, prev-before, next-prev}
@@ -29,9 +28,10 @@ pub record Neighbours (m : List ℕ) (t p w : ℕ) : Type 0 where
   pub before-other : suc t ≡ p → ⊥
   pub after-other : suc t ≡ w → ⊥
 
-neighbours-of :
-    {m : List ℕ} {q t : ℕ} → Leavable m q t → Neighbours m t (word m (linkAt (Link.Prev t))) (word m (linkAt (Link.Next t)))
-neighbours-of {m} {q} {t} G =
+pub neighbours :
+    {m : List ℕ} {q t p w : ℕ} → Leavable m q t → w ≡ word m (linkAt (Link.Next t))
+    → p ≡ word m (linkAt (Link.Prev t)) → Neighbours m t p w
+neighbours {m} {q} {t} {p} {w} G f g =
     let h = G .queue in
     let l = G .queues q in
     let s = split t l (G .stands) in
@@ -42,24 +42,17 @@ neighbours-of {m} {q} {t} G =
     let L = G .linked in
     record {
       thread = leaver-small G;
-      before = refl;
-      after = refl;
-      before-small = prev-small L q h t a b e;
-      after-small = next-small L q h t a b e;
-      before-other = λ y. not-before t a b d (of-mem a t y (prev-of L q h t a b e));
-      after-other = λ y. not-behind t a b d (of-mem b t y (next-of L q h t a b e));
+      before = sym g;
+      after = sym f;
+      before-small = rw g (prev-small L q h t a b e);
+      after-small = rw f (next-small L q h t a b e);
+      before-other = λ y. not-before t a b d (of-mem a t (y ∙ g) (prev-of L q h t a b e));
+      after-other = λ y. not-behind t a b d (of-mem b t (y ∙ f) (next-of L q h t a b e));
     }
 
-pub neighbours :
-    {m : List ℕ} {q t p w i j : ℕ} → Leavable m q t → i ≡ linkAt (Link.Next t) → w ≡ word m i → j ≡ linkAt (Link.Prev t)
-    → p ≡ word m j → Neighbours m t p w
-neighbours {m} {q} {t} {p} {w} G e f g k =
-    subst (λ (x : ℕ). Neighbours m t x w) (sym (k ∙ ap (word m) g))
-    (subst (λ (x : ℕ). Neighbours m t (word m (linkAt (Link.Prev t))) x) (sym (f ∙ ap (word m) e)) (neighbours-of G))
-
 module _ {m n₁ n₂ n₃ n : List ℕ} {q t p w : ℕ} (G : Leavable m q t) (B : Neighbours m t p w)
-    (W₁ : WroteLink m n₁ (afterLink q p) w) (W₂ : WroteLink n₁ n₂ (beforeLink q w) p) (W₃ : WroteLink n₂ n₃ (Link.Next t) 0)
-    (W₄ : WroteLink n₃ n (Link.Prev t) 0) where
+    (W₁ : WroteLink m n₁ (afterLink q p) w) (W₂ : WroteLink n₁ n₂ (beforeLink q w) p)
+    (W₃ : WroteLink n₂ n₃ (Link.Next t) 0) (W₄ : WroteLink n₃ n (Link.Prev t) 0) where
   around : Around m n q p w t
   around =
       record { others = λ k h a b c d. W₄ .others k h d ∙ W₃ .others k h c ∙ W₂ .others k h b ∙ W₁ .others k h a }
@@ -90,17 +83,16 @@ module _ {m n₁ n₂ n₃ n : List ℕ} {q t p w : ℕ} (G : Leavable m q t) (B
             linked-leave queues around L k (G .queue) (B .before) (B .after) after-p before-w bare;
       }
 
--- The stores as the code makes them, each at the address that an address function gave.
+-- The stores as the code makes them.
 pub unlinked :
-    {m n₁ n₂ n₃ n : List ℕ} {q t p w i₁ i₂ i₃ i₄ : ℕ} → Leavable m q t → Neighbours m t p w
-    → Address i₁ (afterAt q p) → n₁ ≡ set m i₁ w → Address i₂ (beforeAt q w) → n₂ ≡ set n₁ i₂ p
-    → Address i₃ (linkAt (Link.Next t)) → n₃ ≡ set n₂ i₃ 0 → Address i₄ (linkAt (Link.Prev t)) → n ≡ set n₃ i₄ 0
+    {m n₁ n₂ n₃ n : List ℕ} {q t p w : ℕ} → Leavable m q t → Neighbours m t p w → n₁ ≡ set m (afterAt q p) w
+    → n₂ ≡ set n₁ (beforeAt q w) p → n₃ ≡ set n₂ (linkAt (Link.Next t)) 0 → n ≡ set n₃ (linkAt (Link.Prev t)) 0
     → LeavesQueue m q t n
-unlinked {m} {n₁} {n₂} {n₃} {n} {q} {t} {p} {w} G B a₁ f₁ a₂ f₂ a₃ f₃ a₄ f₄ =
+unlinked {m} {n₁} {n₂} {n₃} {n} {q} {t} {p} {w} G B f₁ f₂ f₃ f₄ =
     let hp = after-valid q p (G .queue) (B .before-small) in
     let hw = before-valid q w (G .queue) (B .after-small) in
-    let W₁ = wrote (afterLink q p) (G .size) hp (a₁ .is ∙ after-link q p) f₁ in
-    let W₂ = wrote (beforeLink q w) (W₁ .size) hw (a₂ .is ∙ before-link q w) f₂ in
-    let W₃ = wrote (Link.Next t) (W₂ .size) (B .thread) (a₃ .is) f₃ in
-    let W₄ = wrote (Link.Prev t) (W₃ .size) (B .thread) (a₄ .is) f₄ in
+    let W₁ = wrote (afterLink q p) (G .size) hp (rw after-link at f₁) in
+    let W₂ = wrote (beforeLink q w) (W₁ .size) hw (rw before-link at f₂) in
+    let W₃ = wrote (Link.Next t) (W₂ .size) (B .thread) f₃ in
+    let W₄ = wrote (Link.Prev t) (W₃ .size) (B .thread) f₄ in
     left G B W₁ W₂ W₃ W₄

@@ -1,6 +1,6 @@
 -- What the links hold where they join a table of queues: the ends of a queue, and the neighbours of a thread in it.
 use Prim.Native.Nat.{ℕ, suc, _≤_}
-use mathlib.Core.Path.{_≡_, sym, _∙_, ap, subst}
+use mathlib.Core.Path.{_≡_, sym, _∙_, subst}
 use mathlib.Core.Logic.{inr}
 use mathlib.Core.List.{List, _∷_, _++_}
 use Rattle.machine.proofs.Lists.{mem-left, mem-right}
@@ -9,7 +9,6 @@ use Rattle.layout.specs.Addresses.{linkAt, word}
 use Rattle.layout.specs.Words.{firstOf, lastOf}
 use Rattle.layout.specs.Shows.{Chain, Linked}
 use Rattle.layout.proofs.Chains.{chain-first, chain-last}
-use Rattle.words.specs.Access.{Address}
 use Rattle.links.specs.Links.{First, Last, Next, Prev}
 use Rattle.links.proofs.Splits.{Of, of-small, first-of, last-of}
 use Rattle.links.proofs.Chains.{chain-joint, chain-behind}
@@ -49,23 +48,23 @@ module _ {m : List ℕ} {queues : ℕ → List ℕ} (L : Linked m queues) (q : �
 
     pub next-small : word m (linkAt (Link.Next t)) ≤ 256
     next-small =
-        of-small b (word m (linkAt (Link.Next t))) (λ u k. L .small q u h (rw e (mem-right u a (t ∷ b) (inr k)))) next-of
+        of-small b (word m (linkAt (Link.Next t)))
+        (λ u k. L .small q u h (rw e (mem-right u a (t ∷ b) (inr k)))) next-of
 
     pub prev-small : word m (linkAt (Link.Prev t)) ≤ 256
-    prev-small = of-small a (word m (linkAt (Link.Prev t))) (λ u k. L .small q u h (rw e (mem-left u a (t ∷ b) k))) prev-of
+    prev-small =
+        of-small a (word m (linkAt (Link.Prev t))) (λ u k. L .small q u h (rw e (mem-left u a (t ∷ b) k))) prev-of
 
--- The links as the functions read them, at the address that an address function gave.
+-- The links as the functions read them.
 
-pub reads-first : {m : List ℕ} {q r i : ℕ} → q ≤ 319 → Address i (linkAt (Link.Head q)) → r ≡ word m i → First m q r
-reads-first {m} {q} h a e = record { first = λ queues L. e ∙ ap (word m) (a .is) ∙ head-word L q h }
+pub reads-first : {m : List ℕ} {q r : ℕ} → q ≤ 319 → r ≡ word m (linkAt (Link.Head q)) → First m q r
+reads-first {m} {q} h e = record { first = λ queues L. e ∙ head-word L q h }
 
-pub reads-last : {m : List ℕ} {q r i : ℕ} → q ≤ 319 → Address i (linkAt (Link.Tail q)) → r ≡ word m i → Last m q r
-reads-last {m} {q} h a e = record { last = λ queues L. e ∙ ap (word m) (a .is) ∙ tail-word L q h }
+pub reads-last : {m : List ℕ} {q r : ℕ} → q ≤ 319 → r ≡ word m (linkAt (Link.Tail q)) → Last m q r
+reads-last {m} {q} h e = record { last = λ queues L. e ∙ tail-word L q h }
 
-pub reads-next : {m : List ℕ} {t r i : ℕ} → Address i (linkAt (Link.Next t)) → r ≡ word m i → Next m t r
-reads-next {m} {t} a e =
-    record { next = λ queues L q before behind g s. e ∙ ap (word m) (a .is) ∙ next-split L q g t before behind s }
+pub reads-next : {m : List ℕ} {t r : ℕ} → r ≡ word m (linkAt (Link.Next t)) → Next m t r
+reads-next {m} {t} e = record { next = λ queues L q before behind g s. e ∙ next-split L q g t before behind s }
 
-pub reads-prev : {m : List ℕ} {t r i : ℕ} → Address i (linkAt (Link.Prev t)) → r ≡ word m i → Prev m t r
-reads-prev {m} {t} a e =
-    record { prev = λ queues L q before behind g s. e ∙ ap (word m) (a .is) ∙ prev-split L q g t before behind s }
+pub reads-prev : {m : List ℕ} {t r : ℕ} → r ≡ word m (linkAt (Link.Prev t)) → Prev m t r
+reads-prev {m} {t} e = record { prev = λ queues L q before behind g s. e ∙ prev-split L q g t before behind s }

@@ -88,7 +88,8 @@ pub linked-leave :
     {m n : List ℕ} {q p w t : ℕ} (queues : ℕ → List ℕ) → Around m n q p w t → Linked m queues
     → Mem t (queues q) → q ≤ 319 → word m (linkAt (Link.Prev t)) ≡ p → word m (linkAt (Link.Next t)) ≡ w
     → word n (afterAt q p) ≡ w → word n (beforeAt q w) ≡ p
-    → (word n (linkAt (Link.Next t)) ≡ 0) × (word n (linkAt (Link.Prev t)) ≡ 0) → Linked n (put queues q (without t (queues q)))
+    → (word n (linkAt (Link.Next t)) ≡ 0) × (word n (linkAt (Link.Prev t)) ≡ 0)
+    → Linked n (put queues q (without t (queues q)))
 linked-leave {m} {n} {q} {p} {w} {t} queues A L k h ep ew fa fb bare-t = go (split t (queues q) k)
   where
     go : Split t (queues q) → Linked n (put queues q (without t (queues q)))

@@ -1,6 +1,6 @@
 -- A store to one link, by name: what it leaves and what it changes.
 use Prim.Native.Nat.{ℕ}
-use mathlib.Core.Path.{_≡_, sym, _∙_, ap, subst}
+use mathlib.Core.Path.{_≡_, sym, _∙_}
 use mathlib.Core.List.{List}
 use lib.ListN.{length, set, length-set}
 use Rattle.layout.specs.declared.Slot.{Slot}
@@ -17,10 +17,9 @@ pub record WroteLink (m n : List ℕ) (k : Link) (v : ℕ) : Type 0 where
   pub slots : (a : Slot) → ValidSlot a → word n (at a) ≡ word m (at a)
 
 pub wrote :
-    {m n : List ℕ} {i v : ℕ} (k : Link) → length m ≡ 4096 → ValidLink k → i ≡ linkAt k → n ≡ set m i v
-    → WroteLink m n k v
-wrote {m} {n} {i} {v} k size h e f =
-    subst (λ (r : List ℕ). WroteLink m r k v) (sym (f ∙ ap (λ (j : ℕ). set m j v) e))
+    {m n : List ℕ} {v : ℕ} (k : Link) → length m ≡ 4096 → ValidLink k → n ≡ set m (linkAt k) v → WroteLink m n k v
+wrote {m} {n} {v} k size h f =
+    rw f
     (record {
       size = length-set m (linkAt k) v ∙ size;
       here = link-same m size v k h;

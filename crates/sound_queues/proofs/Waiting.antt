@@ -103,7 +103,8 @@ module _ (m : List ℕ) (q k c d b : ℕ) where
 
   waiters-next :
       (left y : ℕ) (f : Phase) (x : ℕ) {h g : Phase} {r : Bool} {u : ℕ} → 0 < left → (y ≡ 0 → ⊥) → y ≤ 256
-      → h ≡ phaseAt f c y → WaiterStands h x y r → r ≡ true → g ≡ phaseBehind h d y → u ≡ word m (linkAt (Link.Next (y - 1)))
+      → h ≡ phaseAt f c y → WaiterStands h x y r → r ≡ true → g ≡ phaseBehind h d y
+      → u ≡ word m (linkAt (Link.Next (y - 1)))
       → waitersFrom left y f m q k c d b x ≡ waitersFrom (left - 1) u g m q k c d b y
   unfolding waitersFrom
   waiters-next zero y f x l n z i s v a w = absurd (omega arith)

@@ -4,16 +4,13 @@ use Rattle.links.proofs.Readings.{reads-first}
 use Rattle.links.proofs.first.Statement.{statement}
 use Rattle.links.proofs.first.Tie as tie
 
-head-at-requires : tie.Need-head-at-requires
-head-at-requires c κs = search needs
-
-get-requires : tie.Need-get-requires
-get-requires c κs = search needs
+get-link-requires : tie.Need-get-link-requires
+get-link-requires c κs = search needs
 
 returns : tie.Need-returns
 returns c =
-    let at-start = c .before .before .before in
-    reads-first (at-start .pre .1) (c .before .head-at .ensures) (c .get .ensures)
+    let at-start = c .before .before in
+    reads-first (at-start .pre .1) (c .get-link .ensures)
 
 pub first-spec : {M : Type 1} → statement M
-first-spec = tie.close (tie.spec head-at-requires get-requires returns)
+first-spec = tie.close (tie.spec get-link-requires returns)

@@ -4,16 +4,13 @@ use Rattle.links.proofs.Readings.{reads-last}
 use Rattle.links.proofs.last.Statement.{statement}
 use Rattle.links.proofs.last.Tie as tie
 
-tail-at-requires : tie.Need-tail-at-requires
-tail-at-requires c κs = search needs
-
-get-requires : tie.Need-get-requires
-get-requires c κs = search needs
+get-link-requires : tie.Need-get-link-requires
+get-link-requires c κs = search needs
 
 returns : tie.Need-returns
 returns c =
-    let at-start = c .before .before .before in
-    reads-last (at-start .pre .1) (c .before .tail-at .ensures) (c .get .ensures)
+    let at-start = c .before .before in
+    reads-last (at-start .pre .1) (c .get-link .ensures)
 
 pub last-spec : {M : Type 1} → statement M
-last-spec = tie.close (tie.spec tail-at-requires get-requires returns)
+last-spec = tie.close (tie.spec get-link-requires returns)

@@ -4,15 +4,11 @@ use Rattle.links.proofs.Readings.{reads-prev}
 use Rattle.links.proofs.prev.Statement.{statement}
 use Rattle.links.proofs.prev.Tie as tie
 
-prev-at-requires : tie.Need-prev-at-requires
-prev-at-requires c κs = search needs
-
-get-requires : tie.Need-get-requires
-get-requires c κs = search needs
+get-link-requires : tie.Need-get-link-requires
+get-link-requires c κs = search needs
 
 returns : tie.Need-returns
-returns c =
-    reads-prev (c .before .prev-at .ensures) (c .get .ensures)
+returns c = reads-prev (c .get-link .ensures)
 
 pub prev-spec : {M : Type 1} → statement M
-prev-spec = tie.close (tie.spec prev-at-requires get-requires returns)
+prev-spec = tie.close (tie.spec get-link-requires returns)

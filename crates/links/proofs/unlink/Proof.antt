@@ -7,115 +7,87 @@ use Rattle.links.proofs.unlink.Tie as tie
 
 -- What is known when both links of t are read: the contract's premise, and the neighbours.
 
-abbrev start : tie.After-get2 → tie.Start
+abbrev start : tie.After-get-link2 → tie.Start
 start c =
-    let at-start = c .before .before .before .before .before .before .before in
+    let at-start = c .before .before .before .before .before in
     at-start
 
-pre : (c : tie.After-get2) → Leavable (start c .args .tables .now) (start c .args .q) (start c .args .t)
+pre : (c : tie.After-get-link2) → Leavable (start c .args .tables .now) (start c .args .q) (start c .args .t)
 pre c = start c .pre
 
 around :
-    (c : tie.After-get2)
-    → Neighbours (start c .args .tables .now) (start c .args .t) (c .get2 .result)
-    (c .before .before .before .get .result)
+    (c : tie.After-get-link2)
+    → Neighbours (start c .args .tables .now) (start c .args .t) (c .get-link2 .result)
+    (c .before .before .get-link .result)
 around c =
-    let a = c .before .before .before in
-    neighbours (pre c) (a .before .next-at .ensures .is) (a .get .ensures) (c .before .prev-at .ensures .is)
-    (c .get2 .ensures)
+    let at-next = c .before .before in
+    neighbours (pre c) (at-next .get-link .ensures) (c .get-link2 .ensures)
 
--- The place of the two reads, from each place after it at which a link of t is asked for again.
+get-link-requires : tie.Need-get-link-requires
+get-link-requires c κs =
+    let at-start = c .before .before in
+    (at-start .pre .size, leaver-small (at-start .pre))
 
-abbrev second : tie.After-put-arg2 → tie.After-get2
-second c =
-    let at-start = c .before .before .before .before .before .before in
-    at-start
+get-link-requires-2 : tie.Need-get-link-requires-2
+get-link-requires-2 c κs =
+    let at-start = c .before .before .before .before in
+    (at-start .pre .size, leaver-small (at-start .pre))
 
-abbrev third : tie.After-put-arg3 → tie.After-get2
-third c =
-    let at-start = c .before .before .before .before .before in
-    second (at-start)
+cast-put-after : tie.Need-cast-put-after
+cast-put-after c = search needs
 
-abbrev fourth : tie.After-put-arg4 → tie.After-get2
-fourth c =
-    let at-start = c .before .before .before .before .before in
-    third (at-start)
+put-after-requires : tie.Need-put-after-requires
+put-after-requires c κs =
+    let at-prev = c .before in
+    (pre at-prev .size, pre at-prev .queue, around at-prev .before-small)
 
-next-at-requires : tie.Need-next-at-requires
-next-at-requires c κs = leaver-small (c .before .before .pre)
+cast-put-before : tie.Need-cast-put-before
+cast-put-before c = search needs
 
-get-requires : tie.Need-get-requires
-get-requires c κs = search needs
+put-before-requires : tie.Need-put-before-requires
+put-before-requires c κs =
+    let at-prev = c .before .before .before .before .before in
+    (search needs, pre at-prev .queue, around at-prev .after-small)
 
-prev-at-requires : tie.Need-prev-at-requires
-prev-at-requires c κs =
-    let at-start = c .before .before .before .before .before in
-    leaver-small (at-start .pre)
+put-link-requires : tie.Need-put-link-requires
+put-link-requires c κs =
+    let at-put-before = c .before .before .before in
+    let at-put-after = at-put-before .before .before .before .before in
+    let at-prev = at-put-after .before .before in
+    (search needs, leaver-small (pre at-prev))
 
-get-requires-2 : tie.Need-get-requires-2
-get-requires-2 c κs = search needs
-
-cast-after-at : tie.Need-cast-after-at
-cast-after-at c = search needs
-
-after-at-requires : tie.Need-after-at-requires
-after-at-requires c κs = (pre (c .before) .queue, around (c .before) .before-small)
-
-put-requires : tie.Need-put-requires
-put-requires c κs = search needs
-
-cast-before-at : tie.Need-cast-before-at
-cast-before-at c = search needs
-
-before-at-requires : tie.Need-before-at-requires
-before-at-requires c κs = (pre (second c) .queue, around (second c) .after-small)
-
-put-requires-2 : tie.Need-put-requires-2
-put-requires-2 c κs = search needs
-
-next-at-requires-2 : tie.Need-next-at-requires-2
-next-at-requires-2 c κs = leaver-small (pre (third c))
-
-put-requires-3 : tie.Need-put-requires-3
-put-requires-3 c κs = search needs
-
-prev-at-requires-2 : tie.Need-prev-at-requires-2
-prev-at-requires-2 c κs = leaver-small (pre (fourth c))
-
-put-requires-4 : tie.Need-put-requires-4
-put-requires-4 c κs = search needs
+put-link-requires-2 : tie.Need-put-link-requires-2
+put-link-requires-2 c κs =
+    let at-put-link = c .before .before .before in
+    let at-put-before = at-put-link .before .before .before .before in
+    let at-put-after = at-put-before .before .before .before .before in
+    let at-prev = at-put-after .before .before in
+    (search needs, leaver-small (pre at-prev))
 
 same-length : tie.Need-same-length
 same-length c = search needs
 
 returns : tie.Need-returns
 returns c =
-    let c₄ = c .before .before in
-    let c₃ = c₄ .before .before .before .before .before in
-    let c₂ = c₃ .before .before .before .before .before in
-    let c₁ = c₂ .before .before .before .before .before in
-    let g = c₁ .before .before .before in
-    unlinked (pre g) (around g) (c₁ .before .after-at .ensures) (c₁ .put .ensures) (c₂ .before .before-at .ensures)
-    (c₂ .put2 .ensures) (c₃ .before .next-at2 .ensures) (c₃ .put3 .ensures) (c₄ .before .prev-at2 .ensures)
-    (c₄ .put4 .ensures)
+    let at-put-link2 = c .before .before in
+    let at-put-link = at-put-link2 .before .before .before .before in
+    let at-put-before = at-put-link .before .before .before .before in
+    let at-put-after = at-put-before .before .before .before .before in
+    let at-prev = at-put-after .before .before in
+    unlinked (pre at-prev) (around at-prev) (at-put-after .put-after .ensures) (at-put-before .put-before .ensures)
+    (at-put-link .put-link .ensures) (at-put-link2 .put-link2 .ensures)
 
 pub unlink-spec : {M : Type 1} → statement M
 unlink-spec =
     tie.close
     (tie.spec
-    next-at-requires
-    get-requires
-    prev-at-requires
-    get-requires-2
-    cast-after-at
-    after-at-requires
-    put-requires
-    cast-before-at
-    before-at-requires
-    put-requires-2
-    next-at-requires-2
-    put-requires-3
-    prev-at-requires-2
-    put-requires-4
+    get-link-requires
+    get-link-requires-2
+    cast-put-after
+    put-after-requires
+    cast-put-before
+    put-before-requires
+    put-link-requires
+    put-link-requires-2
     same-length
     returns)

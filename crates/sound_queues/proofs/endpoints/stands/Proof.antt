@@ -3,8 +3,8 @@ use borrow.Author.Needs.{needs}
 use Rattle.sound_queues.proofs.endpoints.stands.Statement.{statement}
 use Rattle.sound_queues.proofs.endpoints.stands.Tie as tie
 
-prev-requires : tie.Need-prev-requires
-prev-requires c κs = search needs
+wide-link-requires : tie.Need-wide-link-requires
+wide-link-requires c κs = search needs
 
 thread-requires : tie.Need-thread-requires
 thread-requires c κs = search needs
@@ -20,4 +20,4 @@ returns c = cc
 
 pub stands-spec : {M : Type 1} → statement M
 stands-spec =
-    tie.close (tie.spec prev-requires thread-requires thread-requires-2 allowed-requires returns)
+    tie.close (tie.spec wide-link-requires thread-requires thread-requires-2 allowed-requires returns)

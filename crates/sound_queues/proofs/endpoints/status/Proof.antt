@@ -10,17 +10,17 @@ endpoint-requires c κs = search needs
 endpoint-requires-2 : tie.Need-endpoint-requires-2
 endpoint-requires-2 c κs = search needs
 
-add-head : tie.Need-add-head
-add-head c = search needs
+add-q : tie.Need-add-q
+add-q c = search needs
 
-head-requires : tie.Need-head-requires
-head-requires c κs = search needs
+wide-link-requires : tie.Need-wide-link-requires
+wide-link-requires c κs = search needs
 
 returns : tie.Need-returns
 returns c =
     let at-endpoint = c .before .before .before in
     rw (← at-endpoint .endpoint .ensures)
-    (status-absent _ _ _ (c .before .before .endpoint2 .ensures) (c .before .if1 .taken) (c .head .ensures))
+    (status-absent _ _ _ (c .before .before .endpoint2 .ensures) (c .before .if1 .taken) (c .wide-link .ensures))
 
 returns-2 : tie.Need-returns-2
 returns-2 c =
@@ -37,4 +37,4 @@ returns-3 c =
 pub status-spec : {M : Type 1} → statement M
 status-spec =
     tie.close
-    (tie.spec endpoint-requires endpoint-requires-2 add-head head-requires returns returns-2 returns-3)
+    (tie.spec endpoint-requires endpoint-requires-2 add-q wide-link-requires returns returns-2 returns-3)

@@ -8,11 +8,14 @@ use Rattle.sound_queues.proofs.endpoints.waiters.Statement.{statement}
 use Rattle.sound_queues.proofs.endpoints.waiters.Tie as tie
 
 abbrev Inv-loop : tie.InvT-loop
-Inv-loop tables scratch₀ e k cursor end banned f₀ x₀ y₀ left₀ scratch f x y left =
+Inv-loop tables scratch₀ e k q cursor end banned f₀ x₀ y₀ left₀ scratch f x y left =
     WaitersAt tables e k cursor end banned scratch₀ scratch f x y left
 
 abbrev μ-loop : tie.MeasureT-loop
-μ-loop tables scratch₀ e k cursor end banned f₀ x₀ y₀ left₀ scratch f x y left = left
+μ-loop tables scratch₀ e k q cursor end banned f₀ x₀ y₀ left₀ scratch f x y left = left
+
+add-q : tie.Need-add-q Inv-loop μ-loop
+add-q c = search needs
 
 endpoint-requires : tie.Need-endpoint-requires Inv-loop μ-loop
 endpoint-requires c κs = search needs
@@ -23,11 +26,8 @@ endpoint-requires-2 c κs = search needs
 banned-requires : tie.Need-banned-requires Inv-loop μ-loop
 banned-requires c κs = search needs
 
-add-head : tie.Need-add-head Inv-loop μ-loop
-add-head c = search needs
-
-head-requires : tie.Need-head-requires Inv-loop μ-loop
-head-requires c κs = search needs
+wide-link-requires : tie.Need-wide-link-requires Inv-loop μ-loop
+wide-link-requires c κs = search needs
 
 loop-holds : tie.Need-loop-holds Inv-loop μ-loop
 loop-holds c =
@@ -35,13 +35,10 @@ loop-holds c =
     let at-end = at-banned .before in
     let at-cursor = at-end .before in
     waiters-holds _ _ _ _ (search needs) (at-cursor .endpoint .ensures) (at-end .endpoint2 .ensures)
-    (at-banned .banned .ensures) (c .head .ensures)
+    (at-banned .banned .ensures) (c .wide-link .ensures)
 
-add-tail : tie.Need-add-tail Inv-loop μ-loop
-add-tail c = search needs
-
-tail-requires : tie.Need-tail-requires Inv-loop μ-loop
-tail-requires c κs = search needs
+wide-link-requires-2 : tie.Need-wide-link-requires-2 Inv-loop μ-loop
+wide-link-requires-2 c κs = search needs
 
 complete-requires : tie.Need-complete-requires Inv-loop μ-loop
 complete-requires c κs = search needs
@@ -56,7 +53,7 @@ returns c =
     let at-loop-test = at-if1 .before in
     let at-loop = at-loop-test .before in
     waiters-walked _ _ _ (at-loop .loop .inv) (at-loop-test .loop-test .taken) (at-if1 .if1 .taken)
-    (at-tail .tail .ensures) (c .complete .ensures)
+    (at-tail .wide-link2 .ensures) (c .complete .ensures)
 
 same-length-2 : tie.Need-same-length-2 Inv-loop μ-loop
 same-length-2 c = search needs
@@ -96,8 +93,8 @@ meet-requires c κs = search needs
 leave-requires : tie.Need-leave-requires Inv-loop μ-loop
 leave-requires c κs = search needs
 
-next-requires : tie.Need-next-requires Inv-loop μ-loop
-next-requires c κs = search needs
+wide-link-requires-3 : tie.Need-wide-link-requires-3 Inv-loop μ-loop
+wide-link-requires-3 c κs = search needs
 
 sub-left : tie.Need-sub-left Inv-loop μ-loop
 sub-left c = search needs
@@ -118,7 +115,7 @@ loop-again c =
     let at-loop = at-loop-test .before in
     waiters-again _ _ _ (at-loop .loop .inv) (at-loop-test .loop-test .taken) (at-if1 .if1 .left) (at-if2 .if2 .left)
     (at-enter .enter .ensures) (at-stands .stands .ensures) (not-false _ (at-if3 .if3 .left))
-    (at-leave .leave .ensures) (at-meet .meet .ensures) (at-meet .meet .kept .0) (c .next .ensures)
+    (at-leave .leave .ensures) (at-meet .meet .ensures) (at-meet .meet .kept .0) (c .wide-link3 .ensures)
 
 same-length-4 : tie.Need-same-length-4 Inv-loop μ-loop
 same-length-4 c = search needs
@@ -132,14 +129,13 @@ waiters-spec =
     (tie.spec
     Inv-loop
     μ-loop
+    add-q
     endpoint-requires
     endpoint-requires-2
     banned-requires
-    add-head
-    head-requires
+    wide-link-requires
     loop-holds
-    add-tail
-    tail-requires
+    wide-link-requires-2
     complete-requires
     same-length
     returns
@@ -152,7 +148,7 @@ waiters-spec =
     returns-3
     meet-requires
     leave-requires
-    next-requires
+    wide-link-requires-3
     sub-left
     loop-less
     loop-again

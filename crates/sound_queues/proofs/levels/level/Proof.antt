@@ -13,14 +13,14 @@ Inv-loop tables scratch₀ p x₀ y₀ left₀ scratch x y left = LevelAt tables
 abbrev μ-loop : tie.MeasureT-loop
 μ-loop tables scratch₀ p x₀ y₀ left₀ scratch x y left = left
 
-head-requires : tie.Need-head-requires Inv-loop μ-loop
-head-requires c κs = search needs
+wide-link-requires : tie.Need-wide-link-requires Inv-loop μ-loop
+wide-link-requires c κs = search needs
 
 loop-holds : tie.Need-loop-holds Inv-loop μ-loop
-loop-holds c = level-holds _ _ _ (search needs) (c .head .ensures)
+loop-holds c = level-holds _ _ _ (search needs) (c .wide-link .ensures)
 
-tail-requires : tie.Need-tail-requires Inv-loop μ-loop
-tail-requires c κs = search needs
+wide-link-requires-2 : tie.Need-wide-link-requires-2 Inv-loop μ-loop
+wide-link-requires-2 c κs = search needs
 
 same-length : tie.Need-same-length Inv-loop μ-loop
 same-length c = search needs
@@ -30,7 +30,7 @@ returns c =
     let at-if1 = c .before in
     let at-loop-test = at-if1 .before in
     let at-loop = at-loop-test .before in
-    level-walked _ _ (at-loop .loop .inv) (at-loop-test .loop-test .taken) (at-if1 .if1 .taken) (c .tail .ensures)
+    level-walked _ _ (at-loop .loop .inv) (at-loop-test .loop-test .taken) (at-if1 .if1 .taken) (c .wide-link2 .ensures)
 
 same-length-2 : tie.Need-same-length-2 Inv-loop μ-loop
 same-length-2 c = search needs
@@ -63,8 +63,8 @@ returns-3 c =
 meet-requires : tie.Need-meet-requires Inv-loop μ-loop
 meet-requires c κs = search needs
 
-next-requires : tie.Need-next-requires Inv-loop μ-loop
-next-requires c κs = search needs
+wide-link-requires-3 : tie.Need-wide-link-requires-3 Inv-loop μ-loop
+wide-link-requires-3 c κs = search needs
 
 sub-left : tie.Need-sub-left Inv-loop μ-loop
 sub-left c = search needs
@@ -83,7 +83,7 @@ loop-again c =
     let at-loop = at-loop-test .before in
     level-again _ _ (at-loop .loop .inv) (at-loop-test .loop-test .taken) (at-if1 .if1 .left) (at-if2 .if2 .left)
     (at-ready .ready .ensures) (not-false _ (at-if3 .if3 .left)) (at-meet .meet .ensures) (at-meet .meet .kept .0)
-    (c .next .ensures)
+    (c .wide-link3 .ensures)
 
 same-length-4 : tie.Need-same-length-4 Inv-loop μ-loop
 same-length-4 c = search needs
@@ -97,9 +97,9 @@ level-spec =
     (tie.spec
     Inv-loop
     μ-loop
-    head-requires
+    wide-link-requires
     loop-holds
-    tail-requires
+    wide-link-requires-2
     same-length
     returns
     same-length-2
@@ -109,7 +109,7 @@ level-spec =
     same-length-3
     returns-3
     meet-requires
-    next-requires
+    wide-link-requires-3
     sub-left
     loop-less
     loop-again

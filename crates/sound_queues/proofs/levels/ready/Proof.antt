@@ -4,17 +4,17 @@ use Rattle.sound_queues.proofs.Placing.{ready-is}
 use Rattle.sound_queues.proofs.levels.ready.Statement.{statement}
 use Rattle.sound_queues.proofs.levels.ready.Tie as tie
 
+wide-link-requires : tie.Need-wide-link-requires
+wide-link-requires c κs = search needs
+
 thread-requires : tie.Need-thread-requires
 thread-requires c κs = search needs
 
 thread-requires-2 : tie.Need-thread-requires-2
 thread-requires-2 c κs = search needs
 
-running-requires : tie.Need-running-requires
-running-requires c κs = search needs
-
-prev-requires : tie.Need-prev-requires
-prev-requires c κs = search needs
+wide-requires : tie.Need-wide-requires
+wide-requires c κs = search needs
 
 add-result : tie.Need-add-result
 add-result c = search needs
@@ -24,10 +24,10 @@ returns c =
     let at-priority = c .before in
     let at-place = at-priority .before in
     let at-prev = at-place .before in
-    ready-is _ _ _ _ (at-prev .prev .ensures) (at-place .thread .ensures) (at-priority .thread2 .ensures)
-    (c .running .ensures)
+    ready-is _ _ _ _ (at-prev .wide-link .ensures) (at-place .thread .ensures) (at-priority .thread2 .ensures)
+    (c .wide .ensures)
 
 pub ready-spec : {M : Type 1} → statement M
 ready-spec =
     tie.close
-    (tie.spec prev-requires thread-requires thread-requires-2 running-requires add-result returns)
+    (tie.spec wide-link-requires thread-requires thread-requires-2 wide-requires add-result returns)

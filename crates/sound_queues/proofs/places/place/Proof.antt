@@ -10,17 +10,17 @@ has-met-requires c κs = search needs
 thread-requires : tie.Need-thread-requires
 thread-requires c κs = search needs
 
-running-requires : tie.Need-running-requires
-running-requires c κs = search needs
+wide-requires : tie.Need-wide-requires
+wide-requires c κs = search needs
 
 add-queued : tie.Need-add-queued
 add-queued c = search needs
 
-next-requires : tie.Need-next-requires
-next-requires c κs = search needs
+wide-link-requires : tie.Need-wide-link-requires
+wide-link-requires c κs = search needs
 
-prev-requires : tie.Need-prev-requires
-prev-requires c κs = search needs
+wide-link-requires-2 : tie.Need-wide-link-requires-2
+wide-link-requires-2 c κs = search needs
 
 returns : tie.Need-returns
 returns c =
@@ -30,7 +30,7 @@ returns c =
     let at-has-met = at-place .before in
     let at-pre = at-has-met .before .before .before in
     placed-is _ _ (at-has-met .has-met .ensures .tells _ (at-pre .pre .2)) (at-place .thread .ensures)
-    (at-running .running .ensures) (at-next .next .ensures) (c .prev .ensures)
+    (at-running .wide .ensures) (at-next .wide-link .ensures) (c .wide-link2 .ensures)
 
 pub place-spec : {M : Type 1} → statement M
 place-spec =
@@ -38,8 +38,8 @@ place-spec =
     (tie.spec
     has-met-requires
     thread-requires
-    running-requires
+    wide-requires
     add-queued
-    next-requires
-    prev-requires
+    wide-link-requires
+    wide-link-requires-2
     returns)

@@ -23,12 +23,12 @@ loop-holds c = (search needs, lower-self _ _)
 add-i : tie.Need-add-i Inv-loop μ-loop
 add-i c = search needs
 
-head-requires : tie.Need-head-requires Inv-loop μ-loop
-head-requires c κs = search needs
+wide-link-requires : tie.Need-wide-link-requires Inv-loop μ-loop
+wide-link-requires c κs = search needs
 
 returns : tie.Need-returns Inv-loop μ-loop
 returns c =
-    one-fails (lower _ _) 256 _ (search needs) (lower-not _ _ _ (search needs) (c .before .head .ensures)
+    one-fails (lower _ _) 256 _ (search needs) (lower-not _ _ _ (search needs) (c .before .wide-link .ensures)
     (c .if1 .taken))
 
 loop-less : tie.Need-loop-less Inv-loop μ-loop
@@ -39,7 +39,7 @@ loop-again c =
     let at-loop = c .before .before .before in (
       search needs,
       below-more _ _ (at-loop .loop .inv .1)
-          (lower-empty _ _ _ (c .before .head .ensures) (c .if1 .left)),
+          (lower-empty _ _ _ (c .before .wide-link .ensures) (c .if1 .left)),
     )
 
 returns-2 : tie.Need-returns-2 Inv-loop μ-loop
@@ -53,7 +53,7 @@ above-spec =
     μ-loop
     loop-holds
     add-i
-    head-requires
+    wide-link-requires
     returns
     loop-less
     loop-again

@@ -4,11 +4,11 @@ use Rattle.sound_words.proofs.Running.{running-nobody, running-outside,
 use Rattle.sound_words.proofs.chosen.running.Statement.{statement}
 use Rattle.sound_words.proofs.chosen.running.Tie as tie
 
-running-requires : tie.Need-running-requires
-running-requires c κs = search needs
+wide-requires : tie.Need-wide-requires
+wide-requires c κs = search needs
 
-head-requires : tie.Need-head-requires
-head-requires c κs = search needs
+wide-link-requires : tie.Need-wide-link-requires
+wide-link-requires c κs = search needs
 
 above-requires : tie.Need-above-requires
 above-requires c κs = search needs
@@ -18,10 +18,10 @@ returns c =
     let at-head = c .before in
     let at-if1 = at-head .before in
     let at-running = at-if1 .before in
-    running-nobody _ (at-running .running .ensures) (at-if1 .if1 .taken) (at-head .head .ensures) (c .above .ensures)
+    running-nobody _ (at-running .wide .ensures) (at-if1 .if1 .taken) (at-head .wide-link .ensures) (c .above .ensures)
 
 returns-2 : tie.Need-returns-2
-returns-2 c = running-outside _ (c .before .before .running .ensures) (c .if2 .taken)
+returns-2 c = running-outside _ (c .before .before .wide .ensures) (c .if2 .taken)
 
 sub-t : tie.Need-sub-t
 sub-t c = search needs
@@ -42,15 +42,15 @@ returns-3 c =
     let at-if2 = at-place .before in
     let at-if1 = at-if2 .before in
     let at-running = at-if1 .before in
-    running-somebody _ (at-running .running .ensures) (at-if1 .if1 .left) (at-if2 .if2 .left)
+    running-somebody _ (at-running .wide .ensures) (at-if1 .if1 .left) (at-if2 .if2 .left)
     (at-place .thread .ensures) (at-priority .thread2 .ensures) (c .above2 .ensures)
 
 pub running-spec : {M : Type 1} → statement M
 running-spec =
     tie.close
     (tie.spec
-    running-requires
-    head-requires
+    wide-requires
+    wide-link-requires
     above-requires
     returns
     returns-2

@@ -24,15 +24,15 @@ loop-holds c = (search needs, summed-none _, below-none _)
 word-requires : tie.Need-word-requires Inv-loop μ-loop
 word-requires c κs = search needs
 
-summary-requires : tie.Need-summary-requires Inv-loop μ-loop
-summary-requires c κs = search needs
+wide-requires : tie.Need-wide-requires Inv-loop μ-loop
+wide-requires c κs = search needs
 
 returns : tie.Need-returns Inv-loop μ-loop
 returns c =
     let at-summary = c .before in
     let at-word = at-summary .before in
     let at-loop-test = at-word .before in
-    summary-bad _ _ (at-loop-test .loop-test .taken) (at-word .word .ensures) (at-summary .summary .ensures)
+    summary-bad _ _ (at-loop-test .loop-test .taken) (at-word .word .ensures) (at-summary .wide .ensures)
     (c .if1 .taken)
 
 share-requires : tie.Need-share-requires Inv-loop μ-loop
@@ -69,17 +69,17 @@ loop-again c =
           (share-of (at-loop .loop .bit) (at-word .word .ensures) (c .share .ensures)),
       below-more _ _
           (at-loop .loop .inv .2)
-          (agree _ _ (at-word .word .ensures) (at-summary .summary .ensures) (at-if1 .if1 .left)),
+          (agree _ _ (at-word .word .ensures) (at-summary .wide .ensures) (at-if1 .if1 .left)),
     )
 
-top-requires : tie.Need-top-requires Inv-loop μ-loop
-top-requires c κs = search needs
+wide-requires-2 : tie.Need-wide-requires-2 Inv-loop μ-loop
+wide-requires-2 c κs = search needs
 
 returns-2 : tie.Need-returns-2 Inv-loop μ-loop
 returns-2 c =
     let at-loop = c .before .before in
     summary-is _ _ (at-loop .loop .inv .0) (c .before .loop-test .left) (at-loop .loop .inv .1)
-    (at-loop .loop .inv .2) (c .top .ensures)
+    (at-loop .loop .inv .2) (c .wide2 .ensures)
 
 pub summary-spec : {M : Type 1} → statement M
 summary-spec =
@@ -89,7 +89,7 @@ summary-spec =
     μ-loop
     loop-holds
     word-requires
-    summary-requires
+    wide-requires
     returns
     share-requires
     add-sum
@@ -97,5 +97,5 @@ summary-spec =
     add-w
     loop-less
     loop-again
-    top-requires
+    wide-requires-2
     returns-2)

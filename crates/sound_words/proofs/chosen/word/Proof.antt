@@ -5,8 +5,7 @@ use native.Mathlib.Omega.{arith}
 use lib.Dec.{eqb}
 use borrow.Author.Needs.{needs}
 use Rattle.sound_words.proofs.Summing.{share-of, Summed, levels-of, summed-none, summed-more, summed-low}
-use Rattle.sound_words.proofs.Summing.{sum-fits}
-use Rattle.sound_words.proofs.Summing.{word-is}
+use Rattle.sound_words.proofs.Summing.{sum-fits, word-is}
 use Rattle.sound_words.proofs.chosen.word.Statement.{statement}
 use Rattle.sound_words.proofs.chosen.word.Tie as tie
 
@@ -20,14 +19,14 @@ abbrev μ-loop : tie.MeasureT-loop
 loop-holds : tie.Need-loop-holds Inv-loop μ-loop
 loop-holds c = (search needs, summed-none _)
 
-mul-head : tie.Need-mul-head Inv-loop μ-loop
-mul-head c = search needs
+mul-p : tie.Need-mul-p Inv-loop μ-loop
+mul-p c = search needs
 
-add-head : tie.Need-add-head Inv-loop μ-loop
-add-head c = search needs
+add-p : tie.Need-add-p Inv-loop μ-loop
+add-p c = search needs
 
-head-requires : tie.Need-head-requires Inv-loop μ-loop
-head-requires c κs = search needs
+wide-link-requires : tie.Need-wide-link-requires Inv-loop μ-loop
+wide-link-requires c κs = search needs
 
 share-requires : tie.Need-share-requires Inv-loop μ-loop
 share-requires c κs = search needs
@@ -36,7 +35,7 @@ add-sum : tie.Need-add-sum Inv-loop μ-loop
 add-sum c =
     let at-loop = c .before .before .before in
     record {
-      fits = sum-fits _ _ (not (eqb (c .before .head .result) 0)) (at-loop .loop .inv .0)
+      fits = sum-fits _ _ (not (eqb (c .before .wide-link .result) 0)) (at-loop .loop .inv .0)
           (at-loop .loop .inv .1)
           (c .share .ensures);
     }
@@ -57,7 +56,7 @@ loop-again c =
     let at-loop = c .before .before .before in (
       search needs,
       summed-more _ _ (at-loop .loop .inv .1)
-          (share-of (at-loop .loop .bit) (c .before .head .ensures) (c .share .ensures)),
+          (share-of (at-loop .loop .bit) (c .before .wide-link .ensures) (c .share .ensures)),
     )
 
 returns : tie.Need-returns Inv-loop μ-loop
@@ -70,9 +69,9 @@ word-spec =
     Inv-loop
     μ-loop
     loop-holds
-    mul-head
-    add-head
-    head-requires
+    mul-p
+    add-p
+    wide-link-requires
     share-requires
     add-sum
     add-bit

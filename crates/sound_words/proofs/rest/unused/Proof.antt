@@ -21,13 +21,13 @@ abbrev μ-loop : tie.MeasureT-loop
 loop-holds : tie.Need-loop-holds Inv-loop μ-loop
 loop-holds c = (search needs, below-none _)
 
-unused-requires : tie.Need-unused-requires Inv-loop μ-loop
-unused-requires c κs = search needs
+wide-requires : tie.Need-wide-requires Inv-loop μ-loop
+wide-requires c κs = search needs
 
 returns : tie.Need-returns Inv-loop μ-loop
 unfolding unusedTest
 returns c =
-    one-fails (unusedTest _) 470 _ (search needs) (ne-eqb _ 0 (λ z. c .if1 .taken (c .before .unused .ensures ∙ z)))
+    one-fails (unusedTest _) 470 _ (search needs) (ne-eqb _ 0 (λ z. c .if1 .taken (c .before .wide .ensures ∙ z)))
 
 add-i : tie.Need-add-i Inv-loop μ-loop
 add-i c = search needs
@@ -41,7 +41,7 @@ loop-again c =
     let at-loop = c .before .before .before in (
       search needs,
       below-more _ _ (at-loop .loop .inv .1)
-          (eq-eqb _ 0 (sym (c .before .unused .ensures) ∙ c .if1 .left)),
+          (eq-eqb _ 0 (sym (c .before .wide .ensures) ∙ c .if1 .left)),
     )
 
 returns-2 : tie.Need-returns-2 Inv-loop μ-loop
@@ -54,7 +54,7 @@ unused-spec =
     Inv-loop
     μ-loop
     loop-holds
-    unused-requires
+    wide-requires
     returns
     add-i
     loop-less

@@ -10,14 +10,14 @@ thread-requires c κs = search needs
 returns : tie.Need-returns
 returns c = waits-not _ _ (c .before .thread .ensures) (c .if1 .taken)
 
-line-requires : tie.Need-line-requires
-line-requires c κs = search needs
+wide-requires : tie.Need-wide-requires
+wide-requires c κs = search needs
 
 add-result : tie.Need-add-result
 add-result c = search needs
 
 returns-2 : tie.Need-returns-2
-returns-2 c = waits-line _ _ (c .before .before .thread .ensures) (c .before .if1 .left) (c .line .ensures)
+returns-2 c = waits-line _ _ (c .before .before .thread .ensures) (c .before .if1 .left) (c .wide .ensures)
 
 pub waits-spec : {M : Type 1} → statement M
-waits-spec = tie.close (tie.spec thread-requires returns line-requires add-result returns-2)
+waits-spec = tie.close (tie.spec thread-requires returns wide-requires add-result returns-2)
