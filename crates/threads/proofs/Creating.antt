@@ -4,7 +4,7 @@ use mathlib.Core.Path.{_≡_, refl, sym, ap}
 use mathlib.Core.Bool.{Bool}
 use mathlib.Core.List.{List}
 use Rattle.machine.specs.declared.Answer.{Answer}
-use Rattle.machine.specs.State.{State, Place, absent}
+use Rattle.machine.specs.State.{State, Place, absent, able}
 use Rattle.machine.specs.Scheduling.{enqueue}
 use Rattle.machine.specs.Results.{plain, done}
 use Rattle.machine.specs.Machine.{isAbsent, createIf, createThread}
@@ -13,7 +13,7 @@ use Rattle.machine.proofs.Preserved.Sites.{differ}
 use Rattle.layout.specs.declared.Field.{Field}
 use Rattle.layout.specs.Shows.{Shows}
 use Rattle.store.specs.Steps.{Shown, Does, Tells}
-use Rattle.store.specs.Store.{IsThread, newThread, creating}
+use Rattle.store.specs.Store.{IsThread, plainThread, creating}
 use Rattle.store.specs.Readings.{threadIn}
 use Rattle.queues.specs.Queues.{Loose, Chooses}
 use Rattle.queues.proofs.Joining.{shown-next, and-then}
@@ -60,7 +60,7 @@ module _ {m : List ℕ} {t r : ℕ} (p : ℕ) (T : Tells m (IsThread t) r (threa
             let I = sound-mid (h .sound) in
             apart-chooses
             (apart-enqueue t (λ r. differ (missing s M h) (I .queues .running t r) refl)
-            (apart-thread t (newThread p) (h .numbers .1) (mid-apart I)))
+            (apart-thread t (plainThread able p 5) (h .numbers .1) (mid-apart I)))
 
         pub create-chooses : Shown m (Given t p) → Shown o Chooses
         create-chooses S = shown-next made chooses S
