@@ -17,19 +17,21 @@ set-priority-requires c κs =
 
 set-ticks-requires : tie.Need-set-ticks-requires
 set-ticks-requires c κs =
-    let e = c .before .before .before in
-    let d = e .before .before .before .before in
-    let p = d .before .before .before .pre in
-    still (prioritising _ _) (e .set-priority .ensures) (placed (p .1) (d .set-place .ensures) (p .0))
+    let at-set-priority = c .before .before .before in
+    let at-set-place = at-set-priority .before .before .before .before in
+    let at-start = at-set-place .before .before .before in
+    still (prioritising _ _) (at-set-priority .set-priority .ensures)
+    (placed (at-start .pre .1) (at-set-place .set-place .ensures) (at-start .pre .0))
 
 set-owes-requires : tie.Need-set-owes-requires
 set-owes-requires c κs =
-    let f = c .before .before .before in
-    let e = f .before .before .before .before in
-    let d = e .before .before .before .before in
-    let p = d .before .before .before .pre in
-    still (ticking _ _) (f .set-ticks .ensures)
-    (still (prioritising _ _) (e .set-priority .ensures) (placed (p .1) (d .set-place .ensures) (p .0)))
+    let at-set-ticks = c .before .before .before in
+    let at-set-priority = at-set-ticks .before .before .before .before in
+    let at-set-place = at-set-priority .before .before .before .before in
+    let at-start = at-set-place .before .before .before in
+    still (ticking _ _) (at-set-ticks .set-ticks .ensures)
+    (still (prioritising _ _) (at-set-priority .set-priority .ensures)
+    (placed (at-start .pre .1) (at-set-place .set-place .ensures) (at-start .pre .0)))
 
 same-length : tie.Need-same-length
 same-length c = search needs

@@ -19,17 +19,21 @@ wrapping-sub-u32-requires c κs = search needs
 
 returns-2 : tie.Need-returns-2
 returns-2 c =
-    let less = c .before in
-    let read = less .before in
-    nobody-runs _ _ (read .before .before .if1 .left) (read .before .running-at .ensures) (read .get .ensures)
-    (less .wrapping-sub-u32 .ensures) (search needs) (c .if2 .taken)
+    let at-wrapping-sub-u32 = c .before in
+    let at-get = at-wrapping-sub-u32 .before in
+    let at-running-at = at-get .before in
+    let at-if1 = at-running-at .before in
+    nobody-runs _ _ (at-if1 .if1 .left) (at-running-at .running-at .ensures) (at-get .get .ensures)
+    (at-wrapping-sub-u32 .wrapping-sub-u32 .ensures) (search needs) (c .if2 .taken)
 
 returns-3 : tie.Need-returns-3
 returns-3 c =
-    let less = c .before in
-    let read = less .before in
-    thread-runs _ _ (read .before .before .if1 .left) (read .before .running-at .ensures) (read .get .ensures)
-    (less .wrapping-sub-u32 .ensures) (omega (arith, c .if2 .left))
+    let at-wrapping-sub-u32 = c .before in
+    let at-get = at-wrapping-sub-u32 .before in
+    let at-running-at = at-get .before in
+    let at-if1 = at-running-at .before in
+    thread-runs _ _ (at-if1 .if1 .left) (at-running-at .running-at .ensures) (at-get .get .ensures)
+    (at-wrapping-sub-u32 .wrapping-sub-u32 .ensures) (omega (arith, c .if2 .left))
 
 pub running-spec : {M : Type 1} → statement M
 running-spec =
