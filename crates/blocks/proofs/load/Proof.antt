@@ -30,11 +30,16 @@ thread-requires-8 c κs = search needs
 
 returns : tie.Need-returns
 returns c =
-    let at-thread5 = c .before .before .before in
-    let d = c .before .before .before .before in
-    loaded _ (d .before .before .before .thread .ensures) (d .before .before .thread2 .ensures)
-    (d .before .thread3 .ensures) (d .thread4 .ensures) (at-thread5 .thread5 .ensures)
-    (c .before .before .thread6 .ensures) (c .before .thread7 .ensures) (c .thread8 .ensures)
+    let at-thread7 = c .before in
+    let at-thread6 = at-thread7 .before in
+    let at-thread5 = at-thread6 .before in
+    let at-thread4 = at-thread5 .before in
+    let at-thread3 = at-thread4 .before in
+    let at-thread2 = at-thread3 .before in
+    let at-thread = at-thread2 .before in
+    loaded _ (at-thread .thread .ensures) (at-thread2 .thread2 .ensures) (at-thread3 .thread3 .ensures)
+    (at-thread4 .thread4 .ensures) (at-thread5 .thread5 .ensures) (at-thread6 .thread6 .ensures)
+    (at-thread7 .thread7 .ensures) (c .thread8 .ensures)
 
 pub load-spec : {M : Type 1} → statement M
 load-spec =

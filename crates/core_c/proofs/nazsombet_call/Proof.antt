@@ -18,9 +18,9 @@ same-length-2 c = search needs
 
 returns : tie.Need-returns
 returns c =
-    let taken = c .before .before .before .before .before in
-    answered-is _ _ _ (taken .take .result) _ (taken .before .before .before .call-in .ensures)
-    (taken .take .ensures)
+    let at-take = c .before .before .before .before .before in
+    let at-call-in = at-take .before .before .before in
+    answered-is _ _ _ (at-take .take .result) _ (at-call-in .call-in .ensures) (at-take .take .ensures)
 
 pub nazsombet-call-spec : {M : Type 1} → statement M
 nazsombet-call-spec =

@@ -23,14 +23,16 @@ enum-told c = search needs
 returns : tie.Need-returns
 unfolding reading
 returns c =
-    let found = c .before .before in
-    rw (sym (found .before .before .read .ensures) ∙ found .call .given .1, c .numbers-of .ensures)
+    let at-call = c .before .before in
+    let at-read = at-call .before .before in
+    rw (sym (at-read .read .ensures) ∙ at-call .call .given .1, c .numbers-of .ensures)
 
 returns-2 : tie.Need-returns-2
 unfolding reading
 returns-2 c =
-    let at-read = c .before .before .before in
-    rw (sym (at-read .read .ensures) ∙ c .before .code .given .1)
+    let at-code = c .before in
+    let at-read = at-code .before .before in
+    rw (sym (at-read .read .ensures) ∙ at-code .code .given .1)
 
 returns-3 : tie.Need-returns-3
 unfolding reading

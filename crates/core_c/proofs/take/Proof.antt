@@ -22,8 +22,9 @@ same-length-2 c = search needs
 
 returns : tie.Need-returns
 returns c =
-    let refused = c .before .before in
-    called-for _ _ none _ (refused .before .before .before .enum-told .given .1) (refused .refuse .ensures)
+    let at-refuse = c .before .before in
+    let at-enum-told = at-refuse .before .before .before in
+    called-for _ _ none _ (at-enum-told .enum-told .given .1) (at-refuse .refuse .ensures)
 
 call-requires : tie.Need-call-requires
 call-requires c κs = search needs
@@ -36,8 +37,9 @@ same-length-4 c = search needs
 
 returns-2 : tie.Need-returns-2
 returns-2 c =
-    let called = c .before .before .before .before in
-    called-for _ _ (some _) _ (called .before .before .before .before .named .given .1) (called .call .ensures)
+    let at-call = c .before .before .before .before in
+    let at-named = at-call .before .before .before .before in
+    called-for _ _ (some _) _ (at-named .named .given .1) (at-call .call .ensures)
 
 pub take-spec : {M : Type 1} → statement M
 take-spec =

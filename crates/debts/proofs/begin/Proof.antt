@@ -33,11 +33,12 @@ add-set-owes c = search needs
 
 set-owes-requires : tie.Need-set-owes-requires
 set-owes-requires c κs =
-    let a = c .before .before .before in
-    let l = a .before .before in
-    let f = l .before .before in
-    beginner-asked (f .first-at .ensures) (l .last-sender .ensures) (a .set-abort .ensures)
-    (f .before .before .before .pre)
+    let at-set-abort = c .before .before .before in
+    let at-last-sender = at-set-abort .before .before in
+    let at-first-at = at-last-sender .before .before in
+    let at-start = at-first-at .before .before .before in
+    beginner-asked (at-first-at .first-at .ensures) (at-last-sender .last-sender .ensures)
+    (at-set-abort .set-abort .ensures) (at-start .pre)
 
 same-length : tie.Need-same-length
 same-length c = search needs

@@ -33,8 +33,8 @@ add-set-owes c = search needs
 set-owes-requires : tie.Need-set-owes-requires
 set-owes-requires c κs =
     let at-set-owner = c .before .before .before in
-    let at-owner = at-set-owner .before .before .before in
-    joiner-asked (at-set-owner .set-owner .ensures) (at-owner .before .before .before .pre)
+    let at-start = at-set-owner .before .before .before .before .before .before in
+    joiner-asked (at-set-owner .set-owner .ensures) (at-start .pre)
 
 same-length-2 : tie.Need-same-length-2
 same-length-2 c = search needs

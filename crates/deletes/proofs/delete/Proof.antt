@@ -36,22 +36,26 @@ end-abort-requires c κs =
 
 delete-from-requires : tie.Need-delete-from-requires
 delete-from-requires c κs =
-    let at-end = c .before .before .before in
-    let at-drop = at-end .before .before .before .before in
-    let at-if1 = at-drop .before .before in
-    from-asked (at-if1 .before .endpoint .ensures) (at-if1 .if1 .left) (at-drop .drop-debt .ensures)
-    (at-end .end-abort .ensures) (at-if1 .before .before .before .before .pre)
+    let at-end-abort = c .before .before .before in
+    let at-drop-debt = at-end-abort .before .before .before .before in
+    let at-if1 = at-drop-debt .before .before in
+    let at-status = at-if1 .before in
+    let at-start = at-status .before .before .before in
+    from-asked (at-status .endpoint .ensures) (at-if1 .if1 .left) (at-drop-debt .drop-debt .ensures)
+    (at-end-abort .end-abort .ensures) (at-start .pre)
 
 same-length-2 : tie.Need-same-length-2
 same-length-2 c = search needs
 
 returns-2 : tie.Need-returns-2
 returns-2 c =
-    let at-end = c .before .before .before .before .before .before in
-    let at-drop = at-end .before .before .before .before in
-    let at-if1 = at-drop .before .before in
-    deletes (at-if1 .before .endpoint .ensures) (at-if1 .if1 .left) (at-drop .drop-debt .ensures)
-    (at-end .end-abort .ensures) _ (c .before .before .delete-from .ensures)
+    let at-delete-from = c .before .before in
+    let at-end-abort = at-delete-from .before .before .before .before in
+    let at-drop-debt = at-end-abort .before .before .before .before in
+    let at-if1 = at-drop-debt .before .before in
+    let at-status = at-if1 .before in
+    deletes (at-status .endpoint .ensures) (at-if1 .if1 .left) (at-drop-debt .drop-debt .ensures)
+    (at-end-abort .end-abort .ensures) _ (at-delete-from .delete-from .ensures)
 
 pub delete-spec : {M : Type 1} → statement M
 delete-spec =

@@ -40,24 +40,27 @@ counted-requires-2 c κs = search needs
 
 accept-requires-2 : tie.Need-accept-requires-2
 accept-requires-2 c κs =
-    let at-status = c .before .before .before .before in
-    let at-if1 = at-status .before .before in
-    let at-remove = at-if1 .before .before .before .before .before in
-    gone-asked (at-remove .remove .ensures) (at-if1 .before .first .ensures) (at-if1 .if1 .left)
-    (at-status .set-status .ensures) (at-remove .before .before .before .pre)
+    let at-set-status = c .before .before .before .before in
+    let at-if1 = at-set-status .before .before in
+    let at-first = at-if1 .before in
+    let at-remove = at-first .before .before .before .before in
+    let at-start = at-remove .before .before .before in
+    gone-asked (at-remove .remove .ensures) (at-first .first .ensures) (at-if1 .if1 .left)
+    (at-set-status .set-status .ensures) (at-start .pre)
 
 same-length-2 : tie.Need-same-length-2
 same-length-2 c = search needs
 
 returns-2 : tie.Need-returns-2
 returns-2 c =
-    let at-counted2 = c .before .before .before in
-    let at-status = c .before .before .before .before .before .before .before in
-    let at-if1 = at-status .before .before in
-    let at-remove = at-if1 .before .before .before .before .before in
-    deleted-all (at-remove .remove .ensures) (at-if1 .before .first .ensures) (at-if1 .if1 .left)
-    (at-status .set-status .ensures) (at-counted2 .counted2 .ensures)
-    (c .before .before .accept2 .ensures)
+    let at-accept2 = c .before .before in
+    let at-counted2 = at-accept2 .before in
+    let at-set-status = at-counted2 .before .before .before .before in
+    let at-if1 = at-set-status .before .before in
+    let at-first = at-if1 .before in
+    let at-remove = at-first .before .before .before .before in
+    deleted-all (at-remove .remove .ensures) (at-first .first .ensures) (at-if1 .if1 .left)
+    (at-set-status .set-status .ensures) (at-counted2 .counted2 .ensures) (at-accept2 .accept2 .ensures)
 
 pub delete-from-spec : {M : Type 1} → statement M
 delete-from-spec =

@@ -46,11 +46,13 @@ same-length c = search needs
 
 returns : tie.Need-returns Inv-loop μ-loop
 returns c =
-    let l = c .before .loop in
-    let bytes = c .before .before .before .before .args .bytes .now in
+    let at-loop = c .before in
+    let at-start = at-loop .before .before .before in
+    let bytes = at-start .args .bytes .now in
+    let words = at-loop .loop .words in
     let count = length bytes / 4 in
-    let all = fewer-words bytes (l .words) (l .i) count (l .inv .1) (search needs) in
-    (search needs, (counts (search needs), taken-words bytes (l .words) count refl (search needs) all))
+    let all = fewer-words bytes words (at-loop .loop .i) count (at-loop .loop .inv .1) (search needs) in
+    (search needs, (counts (search needs), taken-words bytes words count refl (search needs) all))
 
 pub words-spec : {M : Type 1} → statement M
 words-spec =

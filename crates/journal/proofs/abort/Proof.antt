@@ -16,16 +16,18 @@ enum-told c = search needs
 
 returns : tie.Need-returns
 returns c =
-    let a = c .before .before .before .before .args in
-    abort-nothing (a .endpoint) (a .allowance) (a .rest .now)
-    (number-wrong _ (sym (c .enum-told .given .1) ∙ c .before .before .number-in .ensures))
+    let at-number-in = c .before .before in
+    let at-start = at-number-in .before .before in
+    abort-nothing (at-start .args .endpoint) (at-start .args .allowance) (at-start .args .rest .now)
+    (number-wrong _ (sym (c .enum-told .given .1) ∙ at-number-in .number-in .ensures))
 
 returns-2 : tie.Need-returns-2
 returns-2 c =
-    let at-number-in = c .before .before .before in
-    let a = c .before .before .before .before .before .args in
-    abort-one (a .endpoint) (a .allowance) (a .rest .now) (c .before .badge .given .0 .0)
-    (number-is _ _ (sym (c .before .badge .given .1) ∙ at-number-in .number-in .ensures))
+    let at-badge = c .before in
+    let at-number-in = at-badge .before .before in
+    let at-start = at-number-in .before .before in
+    abort-one (at-start .args .endpoint) (at-start .args .allowance) (at-start .args .rest .now)
+    (at-badge .badge .given .0 .0) (number-is _ _ (sym (at-badge .badge .given .1) ∙ at-number-in .number-in .ensures))
 
 pub abort-spec : {M : Type 1} → statement M
 abort-spec = tie.close (tie.spec number-in-requires enum-known-badge enum-told returns returns-2)

@@ -13,19 +13,23 @@ words-taken-requires c κs = search needs
 
 returns : tie.Need-returns
 returns c =
-    let a = c .before .before .before .args in
-    let zero = sym (c .before .words-taken .ensures) ∙ c .if1 .taken in
-    ap asNamed (sym (caused (a .word) (a .rest .now) (wrong-word zero)))
+    let at-words-taken = c .before in
+    let at-start = at-words-taken .before .before in
+    let zero = sym (at-words-taken .words-taken .ensures) ∙ c .if1 .taken in
+    ap asNamed (sym (caused (at-start .args .word) (at-start .args .rest .now) (wrong-word zero)))
 
 call-of-requires : tie.Need-call-of-requires
 call-of-requires c κs = search needs
 
 returns-2 : tie.Need-returns-2
 returns-2 c =
-    let a = c .before .before .before .before .args in
+    let at-if1 = c .before in
+    let at-words-taken = at-if1 .before in
+    let at-start = at-words-taken .before .before in
     c .call-of .ensures
     ∙ ap asNamed
-    (call-begun (a .word) (a .rest .now) (λ z. c .before .if1 .left (c .before .before .words-taken .ensures ∙ z)))
+    (call-begun (at-start .args .word) (at-start .args .rest .now)
+    (λ z. at-if1 .if1 .left (at-words-taken .words-taken .ensures ∙ z)))
 
 pub call-at-spec : {M : Type 1} → statement M
 call-at-spec = tie.close (tie.spec words-taken-requires returns call-of-requires returns-2)

@@ -22,10 +22,12 @@ short-call-requires c κs = search needs
 returns : tie.Need-returns
 unfolding callOf
 returns c =
-    let a = c .before .before .before .before .args in
-    rw (c .before .before .match .keys1)
-    (unused-above (a .argument) (sendOf (a .subject) (a .rest .now)) _ _ (c .before .send .ensures)
-    (c .if-unused .ensures))
+    let at-send = c .before in
+    let at-match = at-send .before in
+    let at-start = at-match .before .before in
+    rw (at-match .match .keys1)
+    (unused-above (at-start .args .argument) (sendOf (at-start .args .subject) (at-start .args .rest .now)) _ _
+    (at-send .send .ensures) (c .if-unused .ensures))
 
 returns-2 : tie.Need-returns-2
 unfolding callOf
@@ -33,10 +35,13 @@ returns-2 c = rw (c .before .match .keys2) (c .abort .ensures)
 
 returns-3 : tie.Need-returns-3
 returns-3 c =
-    let a = c .before .before .before .args in
-    let other = c .before .match .rest in
+    let at-match = c .before in
+    let at-start = at-match .before .before in
+    let other = at-match .match .rest in
     c .short-call .ensures
-    ∙ ap asNamed (rest-unused (a .subject) (a .argument) (a .rest .now) (a .number) (other .0 .1) (other .1))
+    ∙ ap asNamed
+    (rest-unused (at-start .args .subject) (at-start .args .argument) (at-start .args .rest .now)
+    (at-start .args .number) (other .0 .1) (other .1))
 
 pub call-of-spec : {M : Type 1} → statement M
 call-of-spec =

@@ -14,13 +14,15 @@ shared-slice-read-word c = search needs
 
 returns-2 : tie.Need-returns-2
 returns-2 c =
-    let a = c .before .before .before .args in
-    ap asNumber (sym (number-first (a .top) (a .rest .now) (c .before .before .if1 .left) (c .if2 .taken)))
+    let at-if1 = c .before .before in
+    let at-start = at-if1 .before in
+    ap asNumber
+    (sym (number-first (at-start .args .top) (at-start .args .rest .now) (at-if1 .if1 .left) (c .if2 .taken)))
 
 returns-3 : tie.Need-returns-3
 returns-3 c =
-    let a = c .before .before .before .args in
-    ap asNumber (sym (number-other (a .top) (a .rest .now) (c .if2 .left)))
+    let at-start = c .before .before .before in
+    ap asNumber (sym (number-other (at-start .args .top) (at-start .args .rest .now) (c .if2 .left)))
 
 pub number-in-spec : {M : Type 1} → statement M
 number-in-spec = tie.close (tie.spec returns shared-slice-read-word returns-2 returns-3)

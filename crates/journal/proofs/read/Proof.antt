@@ -39,27 +39,31 @@ call-at-requires c κs = search needs
 
 words-taken-requires : tie.Need-words-taken-requires
 words-taken-requires c κs =
-    let at-args = c .before .before .before .before .before in
-    omega (arith, c .before .before .shared-slice-known2 .given (at-args .args .at))
+    let at-shared-slice-known2 = c .before .before in
+    let at-start = at-shared-slice-known2 .before .before .before in
+    omega (arith, at-shared-slice-known2 .shared-slice-known2 .given (at-start .args .at))
 
 add-answer : tie.Need-add-answer
 add-answer c =
-    let start = c .before .before .before .before .before .before in
-    let word = getD (start .args .journal .now) (start .args .at) 0 in
-    let below = c .before .before .before .before .if1 .left in
-    omega (arith, c .words-taken .ensures, taken-most (topByte word), start .good)
+    let at-if1 = c .before .before .before .before in
+    let at-start = at-if1 .before .before in
+    let word = getD (at-start .args .journal .now) (at-start .args .at) 0 in
+    let below = at-if1 .if1 .left in
+    omega (arith, c .words-taken .ensures, taken-most (topByte word), at-start .good)
 
 answer-requires : tie.Need-answer-requires
 answer-requires c κs = search needs
 
 returns-2 : tie.Need-returns-2
 returns-2 c =
-    let at-if1 = c .before .before .before .before .before in
-    let a = c .before .before .before .before .before .before .before .args in
+    let at-words-taken = c .before in
+    let at-call-at = at-words-taken .before in
+    let at-if1 = at-call-at .before .before .before in
+    let at-start = at-if1 .before .before in
     c .answer .ensures
-    ∙ read-word-at (a .journal .now) (a .at) (c .before .words-taken .result) (c .before .before .call-at .result)
-    (at-if1 .if1 .left) (c .before .before .call-at .ensures)
-    (c .before .words-taken .ensures)
+    ∙ read-word-at (at-start .args .journal .now) (at-start .args .at) (at-words-taken .words-taken .result)
+    (at-call-at .call-at .result) (at-if1 .if1 .left) (at-call-at .call-at .ensures)
+    (at-words-taken .words-taken .ensures)
 
 pub read-spec : {M : Type 1} → statement M
 read-spec =

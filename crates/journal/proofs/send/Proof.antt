@@ -12,16 +12,17 @@ use Rattle.journal.proofs.Options.{number-there}
 use Rattle.journal.proofs.send.Statement.{statement}
 use Rattle.journal.proofs.send.Tie as tie
 
+abbrev start : tie.After-badge → tie.Start
+start c =
+    let at-start = c .before .before .before .before in
+    at-start
+
 -- the badge that was found
-badge-is :
-    (c : tie.After-badge) →
-    numberIn 2 (c .before .before .before .before .args .rest .now) ≡ some (c .badge .given .0 .0)
+badge-is : (c : tie.After-badge) → numberIn 2 (start c .args .rest .now) ≡ some (c .badge .given .0 .0)
 badge-is c = number-is _ _ (sym (c .badge .given .1) ∙ c .before .before .number-in .ensures)
 
-has-first : (c : tie.After-badge) → 1 ≤ length (c .before .before .before .before .args .rest .now)
-has-first c =
-    let at-args = c .before .before .before .before in
-    number-there 2 (at-args .args .rest .now) _ (badge-is c)
+has-first : (c : tie.After-badge) → 1 ≤ length (start c .args .rest .now)
+has-first c = number-there 2 (start c .args .rest .now) _ (badge-is c)
 
 number-in-requires : tie.Need-number-in-requires
 number-in-requires c κs = search needs
@@ -34,9 +35,10 @@ enum-told c = search needs
 
 returns : tie.Need-returns
 returns c =
-    let a = c .before .before .before .before .args in
-    send-nothing (a .endpoint) (a .rest .now)
-    (number-wrong _ (sym (c .enum-told .given .1) ∙ c .before .before .number-in .ensures))
+    let at-number-in = c .before .before in
+    let at-start = at-number-in .before .before in
+    send-nothing (at-start .args .endpoint) (at-start .args .rest .now)
+    (number-wrong _ (sym (c .enum-told .given .1) ∙ at-number-in .number-in .ensures))
 
 sub-number-in : tie.Need-sub-number-in
 sub-number-in c = has-first (c .before)
@@ -58,18 +60,21 @@ enum-told-2 c = search needs
 
 returns-2 : tie.Need-returns-2
 returns-2 c =
-    let found = c .before .before .before .before .before in
-    let a = found .before .before .before .before .args in
-    send-no-message (a .endpoint) (a .rest .now) (found .badge .given .0 .0) (badge-is found)
-    (number-wrong _ (sym (c .enum-told2 .given .1) ∙ c .before .before .number-in2 .ensures))
+    let at-number-in2 = c .before .before in
+    let at-badge = at-number-in2 .before .before .before in
+    let at-start = start at-badge in
+    send-no-message (at-start .args .endpoint) (at-start .args .rest .now) (at-badge .badge .given .0 .0)
+    (badge-is at-badge) (number-wrong _ (sym (c .enum-told2 .given .1) ∙ at-number-in2 .number-in2 .ensures))
 
 returns-3 : tie.Need-returns-3
 returns-3 c =
-    let at-number-in2 = c .before .before .before in
-    let found = c .before .before .before .before .before .before in
-    let a = found .before .before .before .before .args in
-    send-one (a .endpoint) (a .rest .now) (found .badge .given .0 .0) (c .before .message .given .0 .0) (badge-is found)
-    (number-is _ _ (sym (c .before .message .given .1) ∙ at-number-in2 .number-in2 .ensures))
+    let at-message = c .before in
+    let at-number-in2 = at-message .before .before in
+    let at-badge = at-number-in2 .before .before .before in
+    let at-start = start at-badge in
+    send-one (at-start .args .endpoint) (at-start .args .rest .now) (at-badge .badge .given .0 .0)
+    (at-message .message .given .0 .0) (badge-is at-badge)
+    (number-is _ _ (sym (at-message .message .given .1) ∙ at-number-in2 .number-in2 .ensures))
 
 pub send-spec : {M : Type 1} → statement M
 send-spec =

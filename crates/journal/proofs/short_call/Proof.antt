@@ -59,10 +59,12 @@ returns-5 c = rw (c .before .match .keys5) (c .if-unused3 .ensures)
 returns-6 : tie.Need-returns-6
 unfolding callOf
 returns-6 c =
-    let a = c .before .before .before .args in
-    rw (c .before .before .match .keys6)
-    (unused-above (a .subject) (unused (a .argument) (some Tick)) _ _ (c .before .if-unused4 .ensures)
-    (c .if-unused5 .ensures))
+    let at-if-unused4 = c .before in
+    let at-match = at-if-unused4 .before in
+    let at-start = at-match .before in
+    rw (at-match .match .keys6)
+    (unused-above (at-start .args .subject) (unused (at-start .args .argument) (some Tick)) _ _
+    (at-if-unused4 .if-unused4 .ensures) (c .if-unused5 .ensures))
 
 returns-7 : tie.Need-returns-7
 unfolding callOf
@@ -71,10 +73,12 @@ returns-7 c = rw (c .before .match .keys7) (c .if-unused6 .ensures)
 returns-8 : tie.Need-returns-8
 unfolding callOf
 returns-8 c =
-    let a = c .before .before .before .args in
-    rw (c .before .before .match .keys8)
-    (unused-above (a .subject) (unused (a .argument) (some Yield)) _ _ (c .before .if-unused7 .ensures)
-    (c .if-unused8 .ensures))
+    let at-if-unused7 = c .before in
+    let at-match = at-if-unused7 .before in
+    let at-start = at-match .before in
+    rw (at-match .match .keys8)
+    (unused-above (at-start .args .subject) (unused (at-start .args .argument) (some Yield)) _ _
+    (at-if-unused7 .if-unused7 .ensures) (c .if-unused8 .ensures))
 
 returns-9 : tie.Need-returns-9
 unfolding callOf
@@ -86,8 +90,9 @@ returns-10 c = rw (c .match .keys10)
 
 returns-11 : tie.Need-returns-11
 returns-11 c =
-    let a = c .before .args in
-    ap asNamed (sym (no-short (a .subject) (a .argument) (a .number) (c .match .rest)))
+    let at-start = c .before in
+    ap asNamed
+    (sym (no-short (at-start .args .subject) (at-start .args .argument) (at-start .args .number) (c .match .rest)))
 
 pub short-call-spec : {M : Type 1} → statement M
 short-call-spec =

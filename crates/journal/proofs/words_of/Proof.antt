@@ -12,7 +12,7 @@ enum-known-call c = search needs
 one-word-requires : tie.Need-one-word-requires
 one-word-requires c κs =
     let at-start = c .before .before .before in
-    let h = fits-of _ _ (at-start .pre) (c .before .call .given .1) in (lit< tt, h .0, h .1)
+    let fits = fits-of _ _ (at-start .pre) (c .before .call .given .1) in (lit< tt, fits .0, fits .1)
 
 enum-known-call-2 : tie.Need-enum-known-call-2
 enum-known-call-2 c = search needs
@@ -28,7 +28,7 @@ enum-known-call-3 c = search needs
 one-word-requires-3 : tie.Need-one-word-requires-3
 one-word-requires-3 c κs =
     let at-start = c .before .before .before in
-    let h = fits-of _ _ (at-start .pre) (c .before .call3 .given .1) in (lit< tt, h .0, h .1)
+    let fits = fits-of _ _ (at-start .pre) (c .before .call3 .given .1) in (lit< tt, fits .0, fits .1)
 
 enum-known-call-4 : tie.Need-enum-known-call-4
 enum-known-call-4 c = search needs
@@ -88,7 +88,7 @@ enum-known-call-9 c = search needs
 one-word-requires-10 : tie.Need-one-word-requires-10
 one-word-requires-10 c κs =
     let at-start = c .before .before .before in
-    let h = fits-of _ _ (at-start .pre) (c .before .call9 .given .1) in (lit< tt, h .0, h .1)
+    let fits = fits-of _ _ (at-start .pre) (c .before .call9 .given .1) in (lit< tt, fits .0, fits .1)
 
 enum-known-call-10 : tie.Need-enum-known-call-10
 enum-known-call-10 c = search needs

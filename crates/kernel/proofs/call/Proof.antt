@@ -18,14 +18,15 @@ same-length-2 c = search needs
 
 returns : tie.Need-returns
 returns c =
-    let at-check = c .before .before .before .before in
-    check-refuses _ (at-check .check .ensures) _ (c .before .if1 .taken)
-    (c .plain .ensures)
+    let at-if1 = c .before in
+    let at-check = at-if1 .before .before .before in
+    check-refuses _ (at-check .check .ensures) _ (at-if1 .if1 .taken) (c .plain .ensures)
 
 step-requires : tie.Need-step-requires
 step-requires c κs =
-    let at-check = c .before .before .before .before in
-    check-shown _ (at-check .check .ensures) (c .before .if1 .left)
+    let at-if1 = c .before in
+    let at-check = at-if1 .before .before .before in
+    check-shown _ (at-check .check .ensures) (at-if1 .if1 .left)
 
 same-length-3 : tie.Need-same-length-3
 same-length-3 c = search needs
@@ -35,10 +36,11 @@ same-length-4 c = search needs
 
 returns-2 : tie.Need-returns-2
 returns-2 c =
-    let at-if1 = c .before .before .before .before in
-    let checked = c .before .before .before .before .before .before .before in
-    step-taken _ (checked .check .ensures) (checked .before .before .before .before .before .args .c)
-    (at-if1 .if1 .left) (c .before .before .step .ensures)
+    let at-step = c .before .before in
+    let at-if1 = at-step .before .before in
+    let at-check = at-if1 .before .before .before in
+    let at-start = at-check .before .before .before .before .before in
+    step-taken _ (at-check .check .ensures) (at-start .args .c) (at-if1 .if1 .left) (at-step .step .ensures)
 
 pub call-spec : {M : Type 1} → statement M
 call-spec =

@@ -18,25 +18,34 @@ same-length c = search needs
 
 returns : tie.Need-returns
 returns c =
-    let ran = c .before .before .before in
-    nobody-calls (ran .before .before .before .args .c) (ran .running .ensures) (c .before .before .number .ensures)
-    (c .before .if1 .taken) (c .plain .ensures)
+    let at-if1 = c .before in
+    let at-number = at-if1 .before in
+    let at-running = at-number .before in
+    let at-start = at-running .before .before .before in
+    nobody-calls (at-start .args .c) (at-running .running .ensures) (at-number .number .ensures) (at-if1 .if1 .taken)
+    (c .plain .ensures)
 
 carry-out-requires : tie.Need-carry-out-requires
 carry-out-requires c κs =
-    let ran = c .before .before .before in
-    served-asked (ran .before .before .before .args .c) (ran .running .ensures) (c .before .before .number .ensures)
-    (c .before .if1 .left) (ran .before .before .before .pre)
+    let at-if1 = c .before in
+    let at-number = at-if1 .before in
+    let at-running = at-number .before in
+    let at-start = at-running .before .before .before in
+    served-asked (at-start .args .c) (at-running .running .ensures) (at-number .number .ensures) (at-if1 .if1 .left)
+    (at-start .pre)
 
 same-length-2 : tie.Need-same-length-2
 same-length-2 c = search needs
 
 returns-2 : tie.Need-returns-2
 returns-2 c =
-    let told = c .before .before .before .before in
-    let ran = told .before .before in
-    served-done (ran .before .before .before .args .c) (ran .running .ensures) (told .before .number .ensures)
-    (told .if1 .left) (c .before .before .carry-out .ensures)
+    let at-carry-out = c .before .before in
+    let at-if1 = at-carry-out .before .before in
+    let at-number = at-if1 .before in
+    let at-running = at-number .before in
+    let at-start = at-running .before .before .before in
+    served-done (at-start .args .c) (at-running .running .ensures) (at-number .number .ensures) (at-if1 .if1 .left)
+    (at-carry-out .carry-out .ensures)
 
 pub perform-spec : {M : Type 1} → statement M
 perform-spec =

@@ -17,21 +17,22 @@ returns c =
 
 perform-requires : tie.Need-perform-requires
 perform-requires c κs =
-    let at-args = c .before .before .before .before in
-    range-asked (at-args .args .c) (c .before .before .in-range .ensures)
-    (not-false _ (c .before .if1 .left)) (at-args .pre)
+    let at-if1 = c .before in
+    let at-in-range = at-if1 .before in
+    let at-start = at-in-range .before .before in
+    range-asked (at-start .args .c) (at-in-range .in-range .ensures) (not-false _ (at-if1 .if1 .left)) (at-start .pre)
 
 same-length : tie.Need-same-length
 same-length c = search needs
 
 returns-2 : tie.Need-returns-2
 returns-2 c =
-    let at-if1 = c .before .before .before .before in
-    let at-in-range = c .before .before .before .before .before in
-    let at-args = c .before .before .before .before .before .before .before in
-    range-done (at-args .args .c)
-    (at-in-range .in-range .ensures)
-    (not-false _ (at-if1 .if1 .left)) (c .before .before .perform .ensures)
+    let at-perform = c .before .before in
+    let at-if1 = at-perform .before .before in
+    let at-in-range = at-if1 .before in
+    let at-start = at-in-range .before .before in
+    range-done (at-start .args .c) (at-in-range .in-range .ensures) (not-false _ (at-if1 .if1 .left))
+    (at-perform .perform .ensures)
 
 pub step-spec : {M : Type 1} → statement M
 step-spec =

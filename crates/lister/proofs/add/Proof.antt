@@ -30,12 +30,12 @@ same-length c = search needs
 
 returns : tie.Need-returns
 returns c =
-    let line = c .before .before .line in
-    let start = c .before .before .before .before .before in
-    let a = start .args in (
+    let at-line = c .before .before in
+    let at-start = at-line .before .before .before in
+    let args = at-start .args in (
       search needs,
-      line-added (a .out .now) (a .used) (a .used + lineRoom - a .used) (start .pre) (search needs) _ _ _ (line .result)
-          (line .ensures .0) (line .ensures .1 .0) (search needs) refl,
+      line-added (args .out .now) (args .used) (args .used + lineRoom - args .used) (at-start .pre) (search needs) _ _ _
+          (at-line .line .result) (at-line .line .ensures .0) (at-line .line .ensures .1 .0) (search needs) refl,
     )
 
 pub add-spec : {M : Type 1} → statement M

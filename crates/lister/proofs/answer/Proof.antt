@@ -19,16 +19,16 @@ array-share-prefix-bytes c = search needs
 
 slice-aggregate-words : tie.Need-slice-aggregate-words
 slice-aggregate-words c =
-    let start = c .before .before .before .before .before in
-    sym (within (start .args .l) (start .pre .0) (start .pre .1))
+    let at-start = c .before .before .before .before .before in
+    sym (within (at-start .args .l) (at-start .pre .0) (at-start .pre .1))
 
 slice-aggregate-words-2 : tie.Need-slice-aggregate-words-2
 slice-aggregate-words-2 c = search needs
 
 words-requires : tie.Need-words-requires
 words-requires c κs =
-    let start = c .before .before .before .before .before .before in
-    omega (arith, start .pre .0, within (start .args .l) (start .pre .0) (start .pre .1))
+    let at-start = c .before .before .before .before .before .before in
+    omega (arith, at-start .pre .0, within (at-start .args .l) (at-start .pre .0) (at-start .pre .1))
 
 array-share-prefix-words : tie.Need-array-share-prefix-words
 array-share-prefix-words c = search needs
@@ -56,14 +56,16 @@ same-length-3 c = search needs
 
 returns : tie.Need-returns
 returns c =
-    let stopped = c .before .before .stop in
-    let tested = c .before .before .before .before in
-    let turned = tested .before .before .before .before .before in
-    let filled = turned .before .before .before .before .before in
-    let a = filled .before .before .before .before .before .before .before .args in (
-      stopped .ensures .0,
-      left-answered (a .l) (a .out .now) (a .used) (lent (a .tables .now) (a .scratch .now)) _ _ (turned .next .result)
-          _ (filled .words2 .ensures .1 .1) (turned .next .ensures) (tested .match .keys2) _ (stopped .ensures .1),
+    let at-stop = c .before .before in
+    let at-match = at-stop .before .before in
+    let at-next = at-match .before .before .before .before .before in
+    let at-words2 = at-next .before .before .before .before .before in
+    let at-start = at-words2 .before .before .before .before .before .before .before in
+    let args = at-start .args in (
+      at-stop .stop .ensures .0,
+      left-answered (args .l) (args .out .now) (args .used) (lent (args .tables .now) (args .scratch .now)) _ _
+          (at-next .next .result) _ (at-words2 .words2 .ensures .1 .1) (at-next .next .ensures) (at-match .match .keys2)
+          _ (at-stop .stop .ensures .1),
     )
 
 number-requires : tie.Need-number-requires
@@ -77,10 +79,10 @@ empty-requires c κs = search needs
 
 add-requires : tie.Need-add-requires
 add-requires c κs =
-    let tested = c .before .before .before .before .before .before in
-    let turned = tested .before .before .before .before .before in
-    let filled = turned .before .before .before .before .before in
-    filled .before .before .before .before .before .before .before .pre .2
+    let at-next = c .before .before .before .before .before .before .before .before .before .before .before in
+    let at-words2 = at-next .before .before .before .before .before in
+    let at-start = at-words2 .before .before .before .before .before .before .before in
+    at-start .pre .2
 
 same-length-4 : tie.Need-same-length-4
 same-length-4 c = search needs
@@ -93,19 +95,21 @@ same-length-6 c = search needs
 
 returns-2 : tie.Need-returns-2
 returns-2 c =
-    let added = c .before .before in
-    let emptied = added .before .before in
-    let counted = emptied .before in
-    let named = counted .before in
-    let took = named .before .before in
-    let turned = took .before .before .before .before .before .before in
-    let filled = turned .before .before .before .before .before in
-    let a = filled .before .before .before .before .before .before .before .args in
-    let e = emptied .empty .ensures in (
-      (ap (λ (k : Lister). k .held) e, ap (λ (k : Lister). k .bytes) e, added .add .ensures .0),
-      call-answered (a .l) (a .out .now) (a .used) (lent (a .tables .now) (a .scratch .now)) _ _ (turned .next .result)
-          _ (filled .words2 .ensures .1 .1) (turned .next .ensures) _ _ _ _ (took .turn .given .1) _
-          (named .number .ensures) _ (counted .wrapping-add-u64 .ensures) _ e _ (added .add .ensures .1),
+    let at-add = c .before .before in
+    let at-empty = at-add .before .before in
+    let at-wrapping-add-u64 = at-empty .before in
+    let at-number = at-wrapping-add-u64 .before in
+    let at-turn = at-number .before .before in
+    let at-next = at-turn .before .before .before .before .before .before in
+    let at-words2 = at-next .before .before .before .before .before in
+    let at-start = at-words2 .before .before .before .before .before .before .before in
+    let args = at-start .args in
+    let now-empty = at-empty .empty .ensures in (
+      (ap (λ (k : Lister). k .held) now-empty, ap (λ (k : Lister). k .bytes) now-empty, at-add .add .ensures .0),
+      call-answered (args .l) (args .out .now) (args .used) (lent (args .tables .now) (args .scratch .now)) _ _
+          (at-next .next .result) _ (at-words2 .words2 .ensures .1 .1) (at-next .next .ensures) _ _ _ _
+          (at-turn .turn .given .1) _ (at-number .number .ensures) _ (at-wrapping-add-u64 .wrapping-add-u64 .ensures) _
+          now-empty _ (at-add .add .ensures .1),
     )
 
 pub answer-spec : {M : Type 1} → statement M

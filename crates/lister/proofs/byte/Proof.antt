@@ -12,41 +12,47 @@ use Rattle.lister.proofs.Holding.{not-yet, now-taken}
 use Rattle.lister.proofs.byte.Statement.{statement}
 use Rattle.lister.proofs.byte.Tie as tie
 
+abbrev start : tie.After-hold → tie.Start
+start c =
+    let at-start = c .before .before .before .before .before .before in
+    at-start
+
+abbrev held : tie.Else2 → tie.After-hold
+held c =
+    let at-hold = c .before .before .before .before in
+    at-hold
+
 -- one byte more is held
-one :
-    (c : tie.After-hold) →
-    c .hold .result .held ≡ c .before .before .before .before .before .before .args .from .held + 1
+one : (c : tie.After-hold) → c .hold .result .held ≡ start c .args .from .held + 1
 one c =
-    let start = c .before .before .before .before .before .before in
-    one-held (start .args .from) (start .args .byte) (start .pre .0) (start .pre .1) _ (c .hold .ensures)
+    let at-start = start c in
+    one-held (at-start .args .from) (at-start .args .byte) (at-start .pre .0) (at-start .pre .1) _ (c .hold .ensures)
 
 long : (c : tie.After-hold) → length (c .hold .result .bytes) ≡ 12
 long c =
-    let start = c .before .before .before .before .before .before in
-    as-long (start .args .from) (start .args .byte) (start .pre .0) (start .pre .1) _ (c .hold .ensures)
+    let at-start = start c in
+    as-long (at-start .args .from) (at-start .args .byte) (at-start .pre .0) (at-start .pre .1) _ (c .hold .ensures)
 
 -- where the bytes are ready, there are four
-yes :
-    (c : tie.Else2) →
-    let k = c .before .before .before .before .hold .result in
-    ready (take (k .held) (k .bytes)) ≡ true
+yes : (c : tie.Else2) → ready (take (held c .hold .result .held) (held c .hold .result .bytes)) ≡ true
 yes c = sym (c .before .whole .ensures) ∙ so (c .before .whole .result) (c .if2 .left)
 
-four : (c : tie.Else2) → 4 ≤ c .before .before .before .before .hold .result .held
+four : (c : tie.Else2) → 4 ≤ held c .hold .result .held
 four c =
-    let held = c .before .before .before .before in
-    let start = held .before .before .before .before .before .before in
-    enough (start .args .from) (start .args .byte) (start .pre .0) (start .pre .1) _ (held .hold .ensures) (yes c)
+    let at-hold = held c in
+    let at-start = start at-hold in
+    enough (at-start .args .from) (at-start .args .byte) (at-start .pre .0) (at-start .pre .1) _
+    (at-hold .hold .ensures) (yes c)
 
 returns : tie.Need-returns
 returns c =
-    let start = c .before .before .before .before .before in
-    let a = start .args in (
-      (start .pre .0, start .pre .1),
+    let at-start = c .before .before .before .before .before in
+    let args = at-start .args in (
+      (at-start .pre .0, at-start .pre .1),
       (
         omega arith,
-        stays (a .from) (a .byte) (lent (a .tables .now) (a .scratch .now)) (a .out .now) (a .used)
-            (not-so (a .from .going) (c .if1 .taken)),
+        stays (args .from) (args .byte) (lent (args .tables .now) (args .scratch .now)) (args .out .now) (args .used)
+            (not-so (args .from .going) (c .if1 .taken)),
       ),
     )
 
@@ -58,34 +64,44 @@ array-share-prefix-bytes c = omega (arith, one (c .before), long (c .before))
 
 slice-aggregate-whole : tie.Need-slice-aggregate-whole
 slice-aggregate-whole c =
-    let held = c .before .before in
-    let start = held .before .before .before .before .before .before in
-    sym (many (start .args .from) (start .args .byte) (start .pre .0) (start .pre .1) _ (held .hold .ensures))
+    let at-hold = c .before .before in
+    let at-start = start at-hold in
+    sym
+    (many (at-start .args .from) (at-start .args .byte) (at-start .pre .0) (at-start .pre .1) _
+    (at-hold .hold .ensures))
 
 whole-requires : tie.Need-whole-requires
 whole-requires c κs = search needs
 
 returns-2 : tie.Need-returns-2
 returns-2 c =
-    let held = c .before .before .before .before in
-    let start = held .before .before .before .before .before .before in
-    let a = start .args in
-    let going = so (a .from .going) (held .before .if1 .left) in
-    let no = sym (c .before .whole .ensures) ∙ not-so (c .before .whole .result) (c .if2 .taken) in (
-      (still-few (a .from) (a .byte) (start .pre .0) (start .pre .1) _ (held .hold .ensures) no, long held),
+    let at-whole = c .before in
+    let at-hold = at-whole .before .before .before in
+    let at-if1 = at-hold .before in
+    let at-start = start at-hold in
+    let args = at-start .args in
+    let going = so (args .from .going) (at-if1 .if1 .left) in
+    let no = sym (at-whole .whole .ensures) ∙ not-so (at-whole .whole .result) (c .if2 .taken) in (
       (
-        omega (arith, one held),
-        not-yet (a .from) (a .byte) (start .pre .0) (start .pre .1) _ (held .hold .ensures)
-            (lent (a .tables .now) (a .scratch .now)) (a .out .now) (a .used) going no,
+        still-few (args .from) (args .byte) (at-start .pre .0) (at-start .pre .1) _ (at-hold .hold .ensures) no,
+        long at-hold,
+      ),
+      (
+        omega (arith, one at-hold),
+        not-yet (args .from) (args .byte) (at-start .pre .0) (at-start .pre .1) _ (at-hold .hold .ensures)
+            (lent (args .tables .now) (args .scratch .now)) (args .out .now) (args .used) going no,
       ),
     )
 
 answer-requires : tie.Need-answer-requires
 answer-requires c κs =
-    let tested = c .before .before .before in
-    let held = tested .before .before .before .before in
-    let start = held .before .before .before .before .before .before in
-    (omega (arith, one held, start .pre .0), long held, omega (arith, one held, four tested, start .pre .2))
+    let at-if2 = c .before .before .before in
+    let at-hold = held at-if2 in
+    let at-start = start at-hold in (
+      omega (arith, one at-hold, at-start .pre .0),
+      long at-hold,
+      omega (arith, one at-hold, four at-if2, at-start .pre .2),
+    )
 
 same-length : tie.Need-same-length
 same-length c = search needs
@@ -98,18 +114,20 @@ same-length-3 c = search needs
 
 returns-3 : tie.Need-returns-3
 returns-3 c =
-    let answered = c .before .before .before .before .before .before in
-    let tested = answered .before .before .before .before in
-    let held = tested .before .before .before .before in
-    let start = held .before .before .before .before .before .before in
-    let a = start .args in
-    let told = answered .answer .ensures in
-    let going = so (a .from .going) (held .before .if1 .left) in (
-      (omega (arith, told .0 .0), ap length (told .0 .1) ∙ long held),
+    let at-answer = c .before .before .before .before .before .before in
+    let at-if2 = at-answer .before .before .before .before in
+    let at-hold = held at-if2 in
+    let at-if1 = at-hold .before in
+    let at-start = start at-hold in
+    let args = at-start .args in
+    let told = at-answer .answer .ensures in
+    let going = so (args .from .going) (at-if1 .if1 .left) in (
+      (omega (arith, told .0 .0), ap length (told .0 .1) ∙ long at-hold),
       (
-        omega (arith, told .0 .0, told .0 .2, one held, four tested),
-        now-taken (a .from) (a .byte) (start .pre .0) (start .pre .1) _ (held .hold .ensures)
-            (lent (a .tables .now) (a .scratch .now)) (a .out .now) (a .used) going (yes tested) _ _ _ (told .1),
+        omega (arith, told .0 .0, told .0 .2, one at-hold, four at-if2),
+        now-taken (args .from) (args .byte) (at-start .pre .0) (at-start .pre .1) _ (at-hold .hold .ensures)
+            (lent (args .tables .now) (args .scratch .now)) (args .out .now) (args .used) going (yes at-if2) _ _ _
+            (told .1),
       ),
     )
 

@@ -25,16 +25,16 @@ abbrev μ-loop : tie.MeasureT-loop
 
 loop-holds : tie.Need-loop-holds Inv-loop μ-loop
 loop-holds c =
-    let start = c .before .before .before .before in
-    let a = start .args in (
+    let at-start = c .before .before .before .before in
+    let args = at-start .args in (
       search needs,
       search needs,
       search needs,
-      start .pre .0,
-      start .pre .1,
+      at-start .pre .0,
+      at-start .pre .1,
       search needs,
       search needs,
-      none-fed (a .l) (lent (a .tables .now) (a .scratch .now)) (a .out .now),
+      none-fed (args .l) (lent (args .tables .now) (args .scratch .now)) (args .out .now),
     )
 
 shared-slice-read-byte : tie.Need-shared-slice-read-byte Inv-loop μ-loop
@@ -51,21 +51,23 @@ loop-less c = search needs
 
 loop-again : tie.Need-loop-again Inv-loop μ-loop
 loop-again c =
-    let b = c .before .before .before .before .before .before in
-    let test = b .before .before .before .before .before in
-    let at = test .before .loop in
-    let start = test .before .before .before .before .before .before in
-    let a = start .args in
-    let more = test .loop-test .taken in (
+    let at-byte = c .before .before .before .before .before .before in
+    let at-loop-test = at-byte .before .before .before .before .before in
+    let at-loop = at-loop-test .before in
+    let at-start = at-loop .before .before .before .before .before in
+    let args = at-start .args in
+    let loop = at-loop .loop in
+    let more = at-loop-test .loop-test .taken in (
       search needs,
       search needs,
       search needs,
-      b .byte .ensures .0 .0,
-      b .byte .ensures .0 .1,
+      at-byte .byte .ensures .0 .0,
+      at-byte .byte .ensures .0 .1,
       search needs,
       search needs,
-      one-fed (a .l) (lent (a .tables .now) (a .scratch .now)) (a .out .now) (a .part .now) (at .i) more (at .at) _ _
-          (at .inv .7) (omega (arith, start .pre .2, at .inv .5, more)) _ _ _ (b .byte .ensures .1 .1),
+      one-fed (args .l) (lent (args .tables .now) (args .scratch .now)) (args .out .now) (args .part .now) (loop .i)
+          more (loop .at) _ _ (loop .inv .7) (omega (arith, at-start .pre .2, loop .inv .5, more)) _ _ _
+          (at-byte .byte .ensures .1 .1),
     )
 
 same-length : tie.Need-same-length Inv-loop μ-loop
@@ -79,15 +81,18 @@ same-length-3 c = search needs
 
 returns : tie.Need-returns Inv-loop μ-loop
 returns c =
-    let at = c .before .loop in
-    let start = c .before .before .before .before .before .before in
-    let a = start .args in
-    let fits : at .at .used ≤ length (at .out) = omega (arith, start .pre .2, at .inv .2, at .inv .5, at .inv .6) in (
-      (at .inv .3, at .inv .4),
+    let at-loop = c .before in
+    let at-start = at-loop .before .before .before .before .before in
+    let args = at-start .args in
+    let loop = at-loop .loop in
+    let fits : loop .at .used ≤ length (loop .out) =
+    omega (arith, at-start .pre .2, loop .inv .2, loop .inv .5, loop .inv .6)
+    in (
+      (loop .inv .3, loop .inv .4),
       (
         counts fits,
-        all-fed (a .l) (lent (a .tables .now) (a .scratch .now)) (a .out .now) (a .part .now) (at .i)
-            (c .loop-test .left) (at .at) _ _ (at .inv .7),
+        all-fed (args .l) (lent (args .tables .now) (args .scratch .now)) (args .out .now) (args .part .now) (loop .i)
+            (c .loop-test .left) (loop .at) _ _ (loop .inv .7),
       ),
     )
 

@@ -10,17 +10,20 @@ use Rattle.lister.proofs.finish.Tie as tie
 
 returns : tie.Need-returns
 returns c =
-    let a = c .before .before .before .before .args in (
+    let at-start = c .before .before .before .before in
+    let args = at-start .args in (
       counts (search needs),
-      stopped-ends (a .l) (lent (a .tables .now) []) (a .out .now) (not-so (a .l .going) (c .if1 .taken)),
+      stopped-ends (args .l) (lent (args .tables .now) []) (args .out .now) (not-so (args .l .going) (c .if1 .taken)),
     )
 
 returns-2 : tie.Need-returns-2
 returns-2 c =
-    let on = c .before .before in
-    let a = on .before .before .before .before .args in (
+    let at-if1 = c .before .before in
+    let at-start = at-if1 .before .before .before .before in
+    let args = at-start .args in (
       counts (search needs),
-      nothing-ends (a .l) (lent (a .tables .now) []) (a .out .now) (so (a .l .going) (on .if1 .left)) (c .if2 .taken),
+      nothing-ends (args .l) (lent (args .tables .now) []) (args .out .now) (so (args .l .going) (at-if1 .if1 .left))
+          (c .if2 .taken),
     )
 
 plain-requires : tie.Need-plain-requires
@@ -37,16 +40,17 @@ same-length c = search needs
 
 returns-3 : tie.Need-returns-3
 returns-3 c =
-    let added = c .before .before .add in
-    let who = c .before .before .before in
-    let said = who .before in
-    let some = said .before .before in
-    let on = some .before .before in
-    let start = on .before .before .before .before in
-    let a = start .args in (
+    let at-add = c .before .before in
+    let at-running = at-add .before in
+    let at-plain = at-running .before in
+    let at-if2 = at-plain .before .before in
+    let at-if1 = at-if2 .before .before in
+    let at-start = at-if1 .before .before .before .before in
+    let args = at-start .args in (
       counts (search needs),
-      held-ends (a .l) (lent (a .tables .now) []) (a .out .now) (so (a .l .going) (on .if1 .left)) (some .if2 .left)
-          (start .pre .1) _ (said .plain .ensures) _ (who .running .ensures) _ _ (added .ensures .1),
+      held-ends (args .l) (lent (args .tables .now) []) (args .out .now) (so (args .l .going) (at-if1 .if1 .left))
+          (at-if2 .if2 .left) (at-start .pre .1) _ (at-plain .plain .ensures) _ (at-running .running .ensures) _ _
+          (at-add .add .ensures .1),
     )
 
 pub finish-spec : {M : Type 1} → statement M

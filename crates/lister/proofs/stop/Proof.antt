@@ -14,10 +14,12 @@ empty-requires c κs = search needs
 
 returns : tie.Need-returns
 returns c =
-    let a = c .before .before .before .args in
-    let e = c .empty .ensures in (
-      (ap (λ (k : Lister). k .held) e, ap (λ (k : Lister). k .bytes) e, search needs),
-      over-told (a .l) (a .out .now) (a .used) (a .turn) (c .before .match .keys2) _ e,
+    let at-match = c .before in
+    let at-start = at-match .before .before in
+    let args = at-start .args in
+    let now-empty = c .empty .ensures in (
+      (ap (λ (k : Lister). k .held) now-empty, ap (λ (k : Lister). k .bytes) now-empty, search needs),
+      over-told (args .l) (args .out .now) (args .used) (args .turn) (at-match .match .keys2) _ now-empty,
     )
 
 empty-requires-2 : tie.Need-empty-requires-2
@@ -34,15 +36,16 @@ same-length c = search needs
 
 returns-2 : tie.Need-returns-2
 returns-2 c =
-    let added = c .before .before in
-    let said = added .before in
-    let emptied = said .before .before in
-    let found = emptied .before .before in
-    let a = found .before .before .before .args in
-    let e = emptied .empty2 .ensures in (
-      (ap (λ (k : Lister). k .held) e, ap (λ (k : Lister). k .bytes) e, added .add .ensures .0),
-      stop-told (a .l) (a .out .now) (a .used) (a .turn) _ _ (found .turn .given .1) _ e _ (said .plain .ensures) _ _
-          (added .add .ensures .1),
+    let at-add = c .before .before in
+    let at-plain = at-add .before in
+    let at-empty2 = at-plain .before .before in
+    let at-turn = at-empty2 .before .before in
+    let at-start = at-turn .before .before .before in
+    let args = at-start .args in
+    let now-empty = at-empty2 .empty2 .ensures in (
+      (ap (λ (k : Lister). k .held) now-empty, ap (λ (k : Lister). k .bytes) now-empty, at-add .add .ensures .0),
+      stop-told (args .l) (args .out .now) (args .used) (args .turn) _ _ (at-turn .turn .given .1) _ now-empty _
+          (at-plain .plain .ensures) _ _ (at-add .add .ensures .1),
     )
 
 pub stop-spec : {M : Type 1} → statement M

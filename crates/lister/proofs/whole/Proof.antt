@@ -21,9 +21,9 @@ mul-result c = record { fits = omega (arith, c .words-taken .ensures, taken-most
 
 returns-2 : tie.Need-returns-2
 returns-2 c =
-    let read = c .before in
-    let a = read .before .before .before .args in
-    ready-is (a .bytes .now) _ _ (search needs) (read .word .ensures) (c .words-taken .ensures)
+    let at-word = c .before in
+    let at-start = at-word .before .before .before in
+    ready-is (at-start .args .bytes .now) _ _ (search needs) (at-word .word .ensures) (c .words-taken .ensures)
 
 pub whole-spec : {M : Type 1} → statement M
 whole-spec = tie.close (tie.spec returns word-requires words-taken-requires mul-result returns-2)

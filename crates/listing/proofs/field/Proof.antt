@@ -11,14 +11,16 @@ use Rattle.listing.proofs.field.Tie as tie
 
 number-requires : tie.Need-number-requires
 unfolding spaced
-number-requires c κs = let start = c .before .before in front-room (decimal (start .args .n)) (32 ∷ []) (start .pre)
+number-requires c κs =
+    let at-start = c .before .before in
+    front-room (decimal (at-start .args .n)) (32 ∷ []) (at-start .pre)
 
 -- Room for the space.
 space : (c : tie.After-number) → Room (c .number .last .0) (c .number .result) (32 ∷ [])
 unfolding spaced
 space c =
-    let start = c .before .before .before in
-    rest-room (decimal (start .args .n)) (32 ∷ []) (start .pre) (c .number .ensures)
+    let at-start = c .before .before .before in
+    rest-room (decimal (at-start .args .n)) (32 ∷ []) (at-start .pre) (c .number .ensures)
 
 slice-write-out : tie.Need-slice-write-out
 slice-write-out c = omega (arith, space (c .before .before) .fits)
@@ -32,9 +34,10 @@ same-length c = search needs
 returns : tie.Need-returns
 unfolding spaced
 returns c =
-    let first = c .before .before in
-    let start = first .before .before .before in
-    in-turn (start .pre) (first .number .ensures) (wrote-byte (omega (arith, space first .fits)) refl refl)
+    let at-number = c .before .before in
+    let at-start = at-number .before .before .before in
+    in-turn (at-start .pre) (at-number .number .ensures)
+    (wrote-byte (omega (arith, space at-number .fits)) refl refl)
 
 pub field-spec : {M : Type 1} → statement M
 field-spec = tie.close (tie.spec number-requires slice-write-out add-result same-length returns)

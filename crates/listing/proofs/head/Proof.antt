@@ -22,9 +22,11 @@ same-length c = search needs
 returns-2 : tie.Need-returns-2
 unfolding bytes
 returns-2 c =
-    let w = c .before .before .say .ensures in
-    let enough = c .before .before .before .before .before .if1 .left in
-    (front-length enough w, (front-after enough w, counts (omega (arith, w .next))))
+    let at-say = c .before .before in
+    let at-if1 = at-say .before .before .before in
+    let said = at-say .say .ensures in
+    let enough = at-if1 .if1 .left in
+    (front-length enough said, (front-after enough said, counts (omega (arith, said .next))))
 
 pub head-spec : {M : Type 1} → statement M
 head-spec = tie.close (tie.spec returns slice-aggregate-say say-requires same-length returns-2)

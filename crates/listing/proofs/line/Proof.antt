@@ -34,13 +34,14 @@ word (Thread t) vs h = h .1 .1 .1 .1 .0 .1
 -- The line's numbers are the code's.
 sized : (c : tie.Start) → Sized (rowOf (c .args .l))
 sized c =
-    let g = c .good .1 .0 .1 .1 in
-    let a = g .1 .1 .0 .1 .1 in
+    let line = c .good .1 .0 .1 .1 in
+    let told = line .1 .1 .0 .1 .1 in
     record {
-      index = g .0 .1;
-      call = g .1 .0 .1;
-      answer = record { code = a .0 .1; count = a .1 .0 .1; badge = a .1 .1 .0 .1; message = a .1 .1 .1 .0 .1 };
-      running = word (c .args .l .running) _ (g .1 .1 .1 .0);
+      index = line .0 .1;
+      call = line .1 .0 .1;
+      answer =
+          record { code = told .0 .1; count = told .1 .0 .1; badge = told .1 .1 .0 .1; message = told .1 .1 .1 .0 .1 };
+      running = word (c .args .l .running) _ (line .1 .1 .1 .0);
     }
 
 -- Room for the whole line, and for what follows each part.
@@ -53,66 +54,67 @@ first c = c .before .before
 
 room₁ : (c : tie.After-field) → Room (c .field .last .0) (c .field .result) (fromCall (row (first c)))
 room₁ c =
-    let r = row (first c) in
-    rest-room (spaced (r .index)) (fromCall r) (room-is (line-is r) (room (first c))) (c .field .ensures)
+    let the-row = row (first c) in
+    rest-room (spaced (the-row .index)) (fromCall the-row) (room-is (line-is the-row) (room (first c)))
+    (c .field .ensures)
 
 abbrev second : tie.After-field2 → tie.After-field
 second c =
-    let at-start = c .before .before .before .before .before in
-    at-start
+    let at-field = c .before .before .before .before .before in
+    at-field
 
 room₂ : (c : tie.After-field2) → Room (c .field2 .last .0) (c .field2 .result) (fromAnswer (row (first (second c))))
 room₂ c =
-    let r = row (first (second c)) in
-    rest-room (spaced (r .call)) (fromAnswer r) (room₁ (second c)) (c .field2 .ensures)
+    let the-row = row (first (second c)) in
+    rest-room (spaced (the-row .call)) (fromAnswer the-row) (room₁ (second c)) (c .field2 .ensures)
 
 abbrev third : tie.After-fields → tie.After-field2
 third c =
-    let at-start = c .before .before .before .before in
-    at-start
+    let at-field2 = c .before .before .before .before in
+    at-field2
 
 room₃ :
     (c : tie.After-fields)
     → Room (c .fields .last .0) (c .fields .result) (fromRunning (row (first (second (third c)))))
 room₃ c =
-    let r = row (first (second (third c))) in
-    rest-room (answerText (r .answer)) (fromRunning r) (room₂ (third c)) (c .fields .ensures)
+    let the-row = row (first (second (third c))) in
+    rest-room (answerText (the-row .answer)) (fromRunning the-row) (room₂ (third c)) (c .fields .ensures)
 
 abbrev fourth : tie.After-who → tie.After-fields
 fourth c =
-    let at-start = c .before .before .before .before in
-    at-start
+    let at-fields = c .before .before .before .before in
+    at-fields
 
 room₄ : (c : tie.After-who) → Room (c .who .last .0) (c .who .result) newline
 room₄ c =
-    let r = row (first (second (third (fourth c)))) in
-    rest-room (runner (r .running)) newline (room₃ (fourth c)) (c .who .ensures)
+    let the-row = row (first (second (third (fourth c)))) in
+    rest-room (runner (the-row .running)) newline (room₃ (fourth c)) (c .who .ensures)
 
 returns : tie.Need-returns
 returns c = (short-length _ _ (c .if1 .taken), (short-after _ _ (c .if1 .taken), counts (omega arith)))
 
 field-requires : tie.Need-field-requires
 field-requires c κs =
-    let r = row (c .before) in
-    front-room (spaced (r .index)) (fromCall r) (room-is (line-is r) (room (c .before)))
+    let the-row = row (c .before) in
+    front-room (spaced (the-row .index)) (fromCall the-row) (room-is (line-is the-row) (room (c .before)))
 
 cast-field : tie.Need-cast-field
 cast-field c = search needs
 
 field-requires-2 : tie.Need-field-requires-2
 field-requires-2 c κs =
-    let at-start = c .before .before .before .before in
-    front-room _ _ (room₁ (at-start))
+    let at-field = c .before .before .before .before in
+    front-room _ _ (room₁ at-field)
 
 fields-requires : tie.Need-fields-requires
 fields-requires c κs =
-    let at-start = c .before .before .before in
-    front-room _ _ (room₂ (at-start))
+    let at-field2 = c .before .before .before in
+    front-room _ _ (room₂ at-field2)
 
 who-requires : tie.Need-who-requires
 who-requires c κs =
-    let at-start = c .before .before .before in
-    front-room _ _ (room₃ (at-start))
+    let at-fields = c .before .before .before in
+    front-room _ _ (room₃ at-fields)
 
 add-next : tie.Need-add-next
 add-next c = omega (arith, room₄ (c .before .before) .fits)
@@ -125,22 +127,22 @@ same-length c = simp length-set (omega arith)
 
 returns-2 : tie.Need-returns-2
 returns-2 c =
-    let whoWrote = c .before .before in
-    let fieldsWrote = fourth whoWrote in
-    let callWrote = third fieldsWrote in
-    let indexWrote = second callWrote in
-    let start = first indexWrote in
-    let is = line-is (row start) in
-    let w =
+    let at-who = c .before .before in
+    let at-fields = fourth at-who in
+    let at-field2 = third at-fields in
+    let at-field = second at-field2 in
+    let at-if1 = first at-field in
+    let is = line-is (row at-if1) in
+    let wrote =
     wrote-is (sym is)
-    (in-turn (room-is is (room start)) (indexWrote .field .ensures)
-    (in-turn (room₁ indexWrote) (callWrote .field2 .ensures)
-    (in-turn (room₂ callWrote) (fieldsWrote .fields .ensures)
-    (in-turn (room₃ fieldsWrote) (whoWrote .who .ensures)
-    (wrote-byte (omega (arith, room₄ whoWrote .fits)) refl refl)))))
+    (in-turn (room-is is (room at-if1)) (at-field .field .ensures)
+    (in-turn (room₁ at-field) (at-field2 .field2 .ensures)
+    (in-turn (room₂ at-field2) (at-fields .fields .ensures)
+    (in-turn (room₃ at-fields) (at-who .who .ensures)
+    (wrote-byte (omega (arith, room₄ at-who .fits)) refl refl)))))
     in (
-      front-length (start .if1 .left) w,
-      (front-after (start .if1 .left) w, counts (simp length-set (omega (arith, room₄ whoWrote .fits)))),
+      front-length (at-if1 .if1 .left) wrote,
+      (front-after (at-if1 .if1 .left) wrote, counts (simp length-set (omega (arith, room₄ at-who .fits)))),
     )
 
 pub line-spec : {M : Type 1} → statement M

@@ -35,8 +35,9 @@ cast-number c = search needs
 number-requires : tie.Need-number-requires
 unfolding runner
 number-requires c κs =
-    let known = c .before .before in
-    room-is (ap said (known .running .given .1)) (known .before .before .before .pre)
+    let at-running = c .before .before in
+    let at-start = at-running .before .before .before in
+    room-is (ap said (at-running .running .given .1)) (at-start .pre)
 
 same-length : tie.Need-same-length
 same-length c = search needs
@@ -55,8 +56,9 @@ same-length-2 c = search needs
 returns-2 : tie.Need-returns-2
 unfolding runner
 returns-2 c =
-    let written = c .before .before in
-    wrote-is (sym (ap said (written .before .before .before .running .given .1))) (written .number .ensures)
+    let at-number = c .before .before in
+    let at-running = at-number .before .before .before in
+    wrote-is (sym (ap said (at-running .running .given .1))) (at-number .number .ensures)
 
 pub who-spec : {M : Type 1} → statement M
 who-spec =

@@ -18,8 +18,8 @@ line-requires c κs = search needs
 
 expect-requires : tie.Need-expect-requires
 expect-requires c κs =
-    let l = c .before .line in
-    eq-eqb (l .result) 0 (l .ensures .0 ∙ sym (short-length _ _ (lit< tt)))
+    let at-line = c .before in
+    eq-eqb (at-line .line .result) 0 (at-line .line .ensures .0 ∙ sym (short-length _ _ (lit< tt)))
 
 returns : tie.Need-returns
 returns c = search needs

@@ -15,10 +15,10 @@ same-length c = search needs
 
 returns : tie.Need-returns
 returns c =
-    let at-if1 = c .before .before .before .before in
-    let at-running = c .before .before .before .before .before in
-    chosen-idle (at-running .running .ensures)
-    (at-if1 .if1 .taken) (c .before .before .dispatch .ensures)
+    let at-dispatch = c .before .before in
+    let at-if1 = at-dispatch .before .before in
+    let at-running = at-if1 .before in
+    chosen-idle (at-running .running .ensures) (at-if1 .if1 .taken) (at-dispatch .dispatch .ensures)
 
 sub-displace : tie.Need-sub-displace
 sub-displace c = search needs
@@ -28,19 +28,20 @@ cast-displace c = search needs
 
 displace-requires : tie.Need-displace-requires
 displace-requires c κs =
-    let at-start = c .before .before .before .before .before in
-    runner-shown (c .before .before .running .ensures) (c .before .if1 .left)
-    (at-start .pre)
+    let at-if1 = c .before in
+    let at-running = at-if1 .before in
+    let at-start = at-running .before .before .before in
+    runner-shown (at-running .running .ensures) (at-if1 .if1 .left) (at-start .pre)
 
 same-length-2 : tie.Need-same-length-2
 same-length-2 c = search needs
 
 returns-2 : tie.Need-returns-2
 returns-2 c =
-    let at-if1 = c .before .before .before .before in
-    let at-running = c .before .before .before .before .before in
-    chosen (at-running .running .ensures)
-    (at-if1 .if1 .left) (c .before .before .displace .ensures)
+    let at-displace = c .before .before in
+    let at-if1 = at-displace .before .before in
+    let at-running = at-if1 .before in
+    chosen (at-running .running .ensures) (at-if1 .if1 .left) (at-displace .displace .ensures)
 
 pub choose-spec : {M : Type 1} → statement M
 choose-spec =

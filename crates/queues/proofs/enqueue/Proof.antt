@@ -12,28 +12,26 @@ cast-push-tail c = search needs
 
 push-tail-requires : tie.Need-push-tail-requires
 push-tail-requires c κs =
-    let at-start = c .before .before .before .before in
-    joinable-level (c .before .thread .ensures) (at-start .pre)
+    let at-thread = c .before in
+    let at-start = at-thread .before .before .before in
+    joinable-level (at-thread .thread .ensures) (at-start .pre)
 
 set-occupied-requires : tie.Need-set-occupied-requires
 set-occupied-requires c κs =
     let at-push-tail = c .before .before .before in
-    let at-thread = c .before .before .before .before .before in
-    let at-start = c .before .before .before .before .before .before .before .before in
-    markable (at-thread .thread .ensures)
-    (at-start .pre)
-    (at-push-tail .push-tail .ensures)
+    let at-thread = at-push-tail .before .before in
+    let at-start = at-thread .before .before .before in
+    markable (at-thread .thread .ensures) (at-start .pre) (at-push-tail .push-tail .ensures)
 
 same-length : tie.Need-same-length
 same-length c = search needs
 
 returns : tie.Need-returns
 returns c =
-    let at-push-tail = c .before .before .before .before .before .before in
-    let at-thread = c .before .before .before .before .before .before .before .before in
-    enqueued (at-thread .thread .ensures)
-    (at-push-tail .push-tail .ensures)
-    (c .before .before .set-occupied .ensures)
+    let at-set-occupied = c .before .before in
+    let at-push-tail = at-set-occupied .before .before .before .before in
+    let at-thread = at-push-tail .before .before in
+    enqueued (at-thread .thread .ensures) (at-push-tail .push-tail .ensures) (at-set-occupied .set-occupied .ensures)
 
 pub enqueue-spec : {M : Type 1} → statement M
 enqueue-spec =

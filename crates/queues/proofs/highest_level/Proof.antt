@@ -19,25 +19,29 @@ enum-told c = search needs
 
 returns : tie.Need-returns
 returns c =
-    let at-load-summary = c .before .before .before in
-    tells-nothing (at-load-summary .load-summary .ensures) (c .before .before .highest .ensures)
-    (c .enum-told .given .1)
+    let at-highest = c .before .before in
+    let at-load-summary = at-highest .before in
+    tells-nothing (at-load-summary .load-summary .ensures) (at-highest .highest .ensures) (c .enum-told .given .1)
 
 add-result : tie.Need-add-result
 add-result c =
-    let d = c .before .before .before in
+    let at-level = c .before in
+    let at-highest = at-level .before .before in
+    let at-load-summary = at-highest .before in
+    let at-start = at-load-summary .before .before in
     omega (
       arith,
-      level-small (d .before .load-summary .ensures) (d .highest .ensures) (c .before .level .given .0 .0)
-          (c .before .level .given .1) (d .before .before .before .pre),
+      level-small (at-load-summary .load-summary .ensures) (at-highest .highest .ensures) (at-level .level .given .0 .0)
+          (at-level .level .given .1) (at-start .pre),
     )
 
 returns-2 : tie.Need-returns-2
 returns-2 c =
-    let at-highest = c .before .before .before in
-    let at-load-summary = c .before .before .before .before in
-    tells-level (at-load-summary .load-summary .ensures)
-    (at-highest .highest .ensures) (c .before .level .given .0 .0) (c .before .level .given .1)
+    let at-level = c .before in
+    let at-highest = at-level .before .before in
+    let at-load-summary = at-highest .before in
+    tells-level (at-load-summary .load-summary .ensures) (at-highest .highest .ensures) (at-level .level .given .0 .0)
+    (at-level .level .given .1)
 
 pub highest-level-spec : {M : Type 1} → statement M
 highest-level-spec =

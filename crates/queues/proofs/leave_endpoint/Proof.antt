@@ -13,17 +13,17 @@ add-unlink c = search needs
 unlink-requires : tie.Need-unlink-requires
 unlink-requires c κs =
     let at-pass-marks = c .before .before .before in
-    let at-start = c .before .before .before .before .before .before in
-    leavable-endpoint (at-pass-marks .pass-marks .ensures)
-    (at-start .pre)
+    let at-start = at-pass-marks .before .before .before in
+    leavable-endpoint (at-pass-marks .pass-marks .ensures) (at-start .pre)
 
 same-length : tie.Need-same-length
 same-length c = search needs
 
 returns : tie.Need-returns
 returns c =
-    let at-pass-marks = c .before .before .before .before .before .before in
-    left (at-pass-marks .pass-marks .ensures) (c .before .before .unlink .ensures)
+    let at-unlink = c .before .before in
+    let at-pass-marks = at-unlink .before .before .before .before in
+    left (at-pass-marks .pass-marks .ensures) (at-unlink .unlink .ensures)
 
 pub leave-endpoint-spec : {M : Type 1} → statement M
 leave-endpoint-spec =

@@ -18,21 +18,21 @@ same-length c = search needs
 
 returns : tie.Need-returns
 returns c =
-    let at-if1 = c .before .before .before .before in
-    let at-first = c .before .before .before .before .before in
-    let at-unlink = c .before .before .before .before .before .before .before .before .before in
-    emptied (at-unlink .unlink .ensures)
-    (at-first .first .ensures) (at-if1 .if1 .taken)
-    (c .before .before .set-empty .ensures)
+    let at-set-empty = c .before .before in
+    let at-if1 = at-set-empty .before .before in
+    let at-first = at-if1 .before in
+    let at-unlink = at-first .before .before .before .before in
+    emptied (at-unlink .unlink .ensures) (at-first .first .ensures) (at-if1 .if1 .taken)
+    (at-set-empty .set-empty .ensures)
 
 same-length-2 : tie.Need-same-length-2
 same-length-2 c = search needs
 
 returns-2 : tie.Need-returns-2
 returns-2 c =
-    let at-unlink = c .before .before .before .before .before in
-    still-occupied (at-unlink .unlink .ensures) (c .before .first .ensures)
-    (c .if1 .left)
+    let at-first = c .before in
+    let at-unlink = at-first .before .before .before .before in
+    still-occupied (at-unlink .unlink .ensures) (at-first .first .ensures) (c .if1 .left)
 
 pub leave-level-spec : {M : Type 1} → statement M
 leave-level-spec =

@@ -24,12 +24,12 @@ same-length c = search needs
 
 returns : tie.Need-returns
 returns c =
-    let at-if2 = c .before .before .before .before in
-    let at-if1 = c .before .before .before .before .before in
-    let at-endpoint2 = c .before .before .before .before .before .before in
-    let at-endpoint = c .before .before .before .before .before .before .before .before in
-    passed-both (at-endpoint .endpoint .ensures)
-    (at-endpoint2 .endpoint2 .ensures) (c .before .before .set-marks .ensures)
+    let at-set-marks = c .before .before in
+    let at-if2 = at-set-marks .before .before in
+    let at-if1 = at-if2 .before in
+    let at-endpoint2 = at-if1 .before in
+    let at-endpoint = at-endpoint2 .before .before in
+    passed-both (at-endpoint .endpoint .ensures) (at-endpoint2 .endpoint2 .ensures) (at-set-marks .set-marks .ensures)
     (at-if1 .if1 .taken) (at-if2 .if2 .taken)
 
 next-requires : tie.Need-next-requires
@@ -43,16 +43,14 @@ same-length-2 c = search needs
 
 returns-2 : tie.Need-returns-2
 returns-2 c =
-    let at-next = c .before .before .before .before in
-    let at-if2 = c .before .before .before .before .before .before in
-    let at-if1 = c .before .before .before .before .before .before .before in
-    let at-endpoint2 = c .before .before .before .before .before .before .before .before in
-    let at-endpoint = c .before .before .before .before .before .before .before .before .before .before in
-    passed-cursor (at-endpoint .endpoint .ensures)
-    (at-endpoint2 .endpoint2 .ensures)
-    (at-next .next .ensures) (c .before .before .set-marks2 .ensures)
-    (at-if1 .if1 .taken)
-    (at-if2 .if2 .left)
+    let at-set-marks2 = c .before .before in
+    let at-next = at-set-marks2 .before .before in
+    let at-if2 = at-next .before .before in
+    let at-if1 = at-if2 .before in
+    let at-endpoint2 = at-if1 .before in
+    let at-endpoint = at-endpoint2 .before .before in
+    passed-cursor (at-endpoint .endpoint .ensures) (at-endpoint2 .endpoint2 .ensures) (at-next .next .ensures)
+    (at-set-marks2 .set-marks2 .ensures) (at-if1 .if1 .taken) (at-if2 .if2 .left)
 
 prev-requires : tie.Need-prev-requires
 prev-requires c κs = search needs
@@ -65,25 +63,25 @@ same-length-3 c = search needs
 
 returns-3 : tie.Need-returns-3
 returns-3 c =
-    let at-prev = c .before .before .before .before in
-    let at-if3 = c .before .before .before .before .before .before in
-    let at-if1 = c .before .before .before .before .before .before .before in
-    let at-endpoint2 = c .before .before .before .before .before .before .before .before in
-    let at-endpoint = c .before .before .before .before .before .before .before .before .before .before in
-    passed-end (at-endpoint .endpoint .ensures)
-    (at-endpoint2 .endpoint2 .ensures)
-    (at-prev .prev .ensures) (c .before .before .set-marks3 .ensures)
-    (at-if1 .if1 .left)
-    (at-if3 .if3 .taken)
+    let at-set-marks3 = c .before .before in
+    let at-prev = at-set-marks3 .before .before in
+    let at-if3 = at-prev .before .before in
+    let at-if1 = at-if3 .before in
+    let at-endpoint2 = at-if1 .before in
+    let at-endpoint = at-endpoint2 .before .before in
+    passed-end (at-endpoint .endpoint .ensures) (at-endpoint2 .endpoint2 .ensures) (at-prev .prev .ensures)
+    (at-set-marks3 .set-marks3 .ensures) (at-if1 .if1 .left) (at-if3 .if3 .taken)
 
 same-length-4 : tie.Need-same-length-4
 same-length-4 c = search needs
 
 returns-4 : tie.Need-returns-4
 returns-4 c =
-    let at-endpoint = c .before .before .before .before in
-    passed-neither (at-endpoint .endpoint .ensures) (c .before .before .endpoint2 .ensures)
-    (c .before .if1 .left) (c .if3 .left)
+    let at-if1 = c .before in
+    let at-endpoint2 = at-if1 .before in
+    let at-endpoint = at-endpoint2 .before .before in
+    passed-neither (at-endpoint .endpoint .ensures) (at-endpoint2 .endpoint2 .ensures) (at-if1 .if1 .left)
+    (c .if3 .left)
 
 pub pass-marks-spec : {M : Type 1} → statement M
 pass-marks-spec =

@@ -9,16 +9,18 @@ thread-requires c κs = search needs
 
 leave-level-requires : tie.Need-leave-level-requires
 leave-level-requires c κs =
-    let at-start = c .before .before .before .before in
-    own-shown (c .before .thread .ensures) (at-start .pre)
+    let at-thread = c .before in
+    let at-start = at-thread .before .before .before in
+    own-shown (at-thread .thread .ensures) (at-start .pre)
 
 same-length : tie.Need-same-length
 same-length c = search needs
 
 returns : tie.Need-returns
 returns c =
-    let at-thread = c .before .before .before .before in
-    unqueued (at-thread .thread .ensures) (c .before .before .leave-level .ensures)
+    let at-leave-level = c .before .before in
+    let at-thread = at-leave-level .before .before in
+    unqueued (at-thread .thread .ensures) (at-leave-level .leave-level .ensures)
 
 pub unqueue-spec : {M : Type 1} → statement M
 unqueue-spec = tie.close (tie.spec thread-requires leave-level-requires same-length returns)

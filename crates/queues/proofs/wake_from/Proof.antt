@@ -10,18 +10,17 @@ leave-endpoint-requires c κs = search needs
 wake-requires : tie.Need-wake-requires
 wake-requires c κs =
     let at-leave-endpoint = c .before .before .before in
-    let at-start = c .before .before .before .before .before .before in
-    left-shown (at-leave-endpoint .leave-endpoint .ensures)
-    (at-start .pre)
+    let at-start = at-leave-endpoint .before .before .before in
+    left-shown (at-leave-endpoint .leave-endpoint .ensures) (at-start .pre)
 
 same-length : tie.Need-same-length
 same-length c = search needs
 
 returns : tie.Need-returns
 returns c =
-    let at-leave-endpoint = c .before .before .before .before .before .before in
-    woken-from (at-leave-endpoint .leave-endpoint .ensures) _ _ _
-    (c .before .before .wake .ensures)
+    let at-wake = c .before .before in
+    let at-leave-endpoint = at-wake .before .before .before .before in
+    woken-from (at-leave-endpoint .leave-endpoint .ensures) _ _ _ (at-wake .wake .ensures)
 
 pub wake-from-spec : {M : Type 1} → statement M
 wake-from-spec = tie.close (tie.spec leave-endpoint-requires wake-requires same-length returns)

@@ -22,9 +22,10 @@ same-length c = search needs
 
 returns : tie.Need-returns
 returns c =
-    let who = c .before in
-    let arm = who .before .before in
-    left _ _ _ _ _ (arm .before .read .ensures) (arm .match .keys2) (c .stop .ensures) (who .running .ensures)
+    let at-running = c .before in
+    let at-match = at-running .before .before in
+    let at-read = at-match .before in
+    left _ _ _ _ _ (at-read .read .ensures) (at-match .match .keys2) (c .stop .ensures) (at-running .running .ensures)
 
 call-requires : tie.Need-call-requires
 call-requires c κs = search needs
@@ -40,10 +41,11 @@ same-length-3 c = search needs
 
 returns-2 : tie.Need-returns-2
 returns-2 c =
-    let made = c .before .before .before .before .before .before in
-    let found = made .before .before .before .before in
-    took _ _ _ _ _ _ _ (sym (found .before .before .read .ensures) ∙ found .reading .given .1)
-    (made .call .ensures) (c .running2 .ensures)
+    let at-call = c .before .before .before .before .before .before in
+    let at-reading = at-call .before .before .before .before in
+    let at-read = at-reading .before .before in
+    took _ _ _ _ _ _ _ (sym (at-read .read .ensures) ∙ at-reading .reading .given .1) (at-call .call .ensures)
+    (c .running2 .ensures)
 
 pub next-spec : {M : Type 1} → statement M
 next-spec =

@@ -37,7 +37,7 @@ sub-i c = omega (arith, length-some (c .before .before .args .n))
 
 -- src/lib.rt:46:5
 loop-holds : tie.Need-loop-holds Inv-loop μ-loop
-loop-holds c = let h = length-some (c .before .before .args .n) in (omega arith, omega arith, refl, refl)
+loop-holds c = let some = length-some (c .before .before .args .n) in (omega arith, omega arith, refl, refl)
 
 -- src/lib.rt:47:18
 cast-out : tie.Need-cast-out Inv-loop μ-loop
@@ -54,7 +54,7 @@ slice-write-out c = omega arith
 -- src/lib.rt:49:9
 sub-i-2 : tie.Need-sub-i-2 Inv-loop μ-loop
 sub-i-2 c =
-    let n = c .before .loop .left in omega (arith, length-some (n / 10), length-more n (c .loop-test .taken))
+    let left = c .before .loop .left in omega (arith, length-some (left / 10), length-more left (c .loop-test .taken))
 
 -- src/lib.rt:46:5
 loop-less : tie.Need-loop-less Inv-loop μ-loop
@@ -63,13 +63,14 @@ loop-less c = omega arith
 -- src/lib.rt:46:5
 loop-again : tie.Need-loop-again Inv-loop μ-loop
 loop-again c =
-    let l = c .before .loop in
-    let h = length-more (l .left) (c .loop-test .taken) in
-    let some = length-some (l .left / 10) in (
+    let loop = c .before .loop in
+    let more = length-more (loop .left) (c .loop-test .taken) in
+    let some = length-some (loop .left / 10) in (
       omega arith,
       simp length-set (omega arith),
-      simp length-set (l .inv .2),
-      digit-stored (l .out) _ (l .left) (l .i) (l .inv .0) (l .inv .1) (c .loop-test .taken) ∙ l .inv .3,
+      simp length-set (loop .inv .2),
+      digit-stored (loop .out) _ (loop .left) (loop .i) (loop .inv .0) (loop .inv .1) (c .loop-test .taken)
+          ∙ loop .inv .3,
     )
 
 -- src/lib.rt:51:14
@@ -91,10 +92,11 @@ same-length c = simp length-set (c .before .loop .inv .2)
 -- src/lib.rt:39:1
 returns : tie.Need-returns Inv-loop μ-loop
 returns c =
-    let l = c .before .loop in
+    let loop = c .before .loop in
     record {
       next = omega arith;
-      bytes = digit-first (l .out) _ (l .left) (l .i) (l .inv .0) (l .inv .1) (omega arith) ∙ l .inv .3;
+      bytes =
+          digit-first (loop .out) _ (loop .left) (loop .i) (loop .inv .0) (loop .inv .1) (omega arith) ∙ loop .inv .3;
     }
 
 pub number-spec : {M : Type 1} → statement M

@@ -28,12 +28,12 @@ same-length c = search needs
 
 returns : tie.Need-returns
 returns c =
-    let copied-there = c .before .before .copy in
-    let start = c .before .before .before .before .before .before in
-    let a = start .args in
-    part-wrote (a .out .now) (a .at) (length (a .out .now) - a .at) (omega (arith, start .pre .fits)) _ _ _
-    (copied-there .result) (copied (copied-there .ensures .0) (copied-there .ensures .1))
-    (omega (arith, start .pre .fits)) refl
+    let at-copy = c .before .before in
+    let at-start = at-copy .before .before .before .before in
+    let args = at-start .args in
+    part-wrote (args .out .now) (args .at) (length (args .out .now) - args .at) (omega (arith, at-start .pre .fits))
+    _ _ _ (at-copy .copy .result) (copied (at-copy .copy .ensures .0) (at-copy .copy .ensures .1))
+    (omega (arith, at-start .pre .fits)) refl
 
 pub say-spec : {M : Type 1} → statement M
 say-spec =

@@ -17,9 +17,12 @@ set-priority-requires c κs = search priority-asked
 enqueue-requires : tie.Need-enqueue-requires
 enqueue-requires c κs =
     let at-set-priority = c .before .before .before in
-    let d = c .before .before .before .before .before .before .before in
-    tail-asked _ (d .before .before .before .is-ready .ensures) (d .before .before .if1 .taken) (d .unqueue .ensures)
-    (at-set-priority .set-priority .ensures) (d .before .before .before .before .before .before .pre)
+    let at-unqueue = at-set-priority .before .before .before .before in
+    let at-if1 = at-unqueue .before .before in
+    let at-is-ready = at-if1 .before in
+    let at-start = at-is-ready .before .before .before in
+    tail-asked _ (at-is-ready .is-ready .ensures) (at-if1 .if1 .taken) (at-unqueue .unqueue .ensures)
+    (at-set-priority .set-priority .ensures) (at-start .pre)
 
 same-length : tie.Need-same-length
 same-length c = search needs

@@ -28,9 +28,12 @@ leave-requires c κs = search leave-asked
 clear-thread-requires : tie.Need-clear-thread-requires
 clear-thread-requires c κs =
     let at-leave = c .before .before .before in
-    let d = c .before .before .before .before .before .before .before in
-    clear-asked (d .before .before .before .thread .ensures) (d .before .before .if1 .left) (d .drop-debt .ensures)
-    (at-leave .leave .ensures) (d .before .before .before .before .before .before .pre)
+    let at-drop-debt = at-leave .before .before .before .before in
+    let at-if1 = at-drop-debt .before .before in
+    let at-thread = at-if1 .before in
+    let at-start = at-thread .before .before .before in
+    clear-asked (at-thread .thread .ensures) (at-if1 .if1 .left) (at-drop-debt .drop-debt .ensures)
+    (at-leave .leave .ensures) (at-start .pre)
 
 done-requires : tie.Need-done-requires
 done-requires c κs = search destroy-chooses

@@ -40,15 +40,20 @@ returns-2 c =
 
 change-requires : tie.Need-change-requires
 change-requires c κs =
-    let d = c .before .before .before .before in
-    change-asked _ (d .before .thread .ensures) (d .if1 .left) (d .before .before .before .before .pre)
+    let at-if1 = c .before .before .before .before in
+    let at-place = at-if1 .before in
+    let at-start = at-place .before .before .before in
+    change-asked _ (at-place .thread .ensures) (at-if1 .if1 .left) (at-start .pre)
 
 done-requires-2 : tie.Need-done-requires-2
 done-requires-2 c κs =
     let at-change = c .before .before .before in
-    let d = c .before .before .before .before .before .before in
-    priority-chooses _ (d .before .before .before .thread .ensures) (d .before .before .if1 .left) (d .thread2 .ensures)
-    (at-change .change .ensures) (d .before .before .before .before .before .before .pre)
+    let at-priority = at-change .before .before .before in
+    let at-if1 = at-priority .before .before in
+    let at-place = at-if1 .before in
+    let at-start = at-place .before .before .before in
+    priority-chooses _ (at-place .thread .ensures) (at-if1 .if1 .left) (at-priority .thread2 .ensures)
+    (at-change .change .ensures) (at-start .pre)
 
 same-length-3 : tie.Need-same-length-3
 same-length-3 c = search needs

@@ -12,8 +12,10 @@ lend-to-tick-requires c κs = search needs
 
 store-requires : tie.Need-store-requires
 store-requires c κs =
-    let d = c .before .before in
-    store-asked (d .load .ensures) (c .before .lend-to-tick .ensures) (d .before .before .before .pre)
+    let at-lend-to-tick = c .before in
+    let at-load = at-lend-to-tick .before in
+    let at-start = at-load .before .before .before in
+    store-asked (at-load .load .ensures) (at-lend-to-tick .lend-to-tick .ensures) (at-start .pre)
 
 same-length : tie.Need-same-length
 same-length c = search needs

@@ -31,23 +31,27 @@ loop-holds c =
     (refl, refl, omega (arith, ap (λ (l : Lister). l .held) is), ap (λ (l : Lister). length (l .bytes)) is)
 
 turn-requires : tie.Need-turn-requires Inv-loop μ-loop
-turn-requires c κs = let inv = c .before .before .before .before .loop .inv in (inv .2, inv .3)
+turn-requires c κs =
+    let at-loop = c .before .before .before .before in
+    (at-loop .loop .inv .2, at-loop .loop .inv .3)
 
 sub-turns : tie.Need-sub-turns Inv-loop μ-loop
 sub-turns c = search needs
 
 loop-less : tie.Need-loop-less Inv-loop μ-loop
 loop-less c =
-    let test = c .before .before .before .before .before .before .before .before in
-    less (test .before .loop .turns) (search needs)
+    let at-loop = c .before .before .before .before .before .before .before .before .before in
+    less (at-loop .loop .turns) (search needs)
 
 loop-again : tie.Need-loop-again Inv-loop μ-loop
 loop-again c =
-    let told = c .before .before .before .before .turn .ensures in
-    (search needs, search needs, told .0, told .1)
+    let at-turn = c .before .before .before .before in
+    (search needs, search needs, at-turn .turn .ensures .0, at-turn .turn .ensures .1)
 
 finish-requires : tie.Need-finish-requires Inv-loop μ-loop
-finish-requires c κs = let inv = c .before .before .before .loop .inv in (inv .2, inv .3)
+finish-requires c κs =
+    let at-loop = c .before .before .before in
+    (at-loop .loop .inv .2, at-loop .loop .inv .3)
 
 same-length : tie.Need-same-length Inv-loop μ-loop
 same-length c = search needs

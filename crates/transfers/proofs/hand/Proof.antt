@@ -25,8 +25,9 @@ add-suspend c = search needs
 
 suspend-requires : tie.Need-suspend-requires
 suspend-requires c κs =
-    let j = c .before .before .before in
-    joined-asked (λ h. h .0) (j .join-endpoint .ensures) (j .before .before .before .before .before .before .pre)
+    let at-join-endpoint = c .before .before .before in
+    let at-start = at-join-endpoint .before .before .before .before .before .before in
+    joined-asked (λ h. h .0) (at-join-endpoint .join-endpoint .ensures) (at-start .pre)
 
 same-length : tie.Need-same-length
 same-length c = search needs
@@ -42,8 +43,10 @@ cast-wake-from c = search needs
 
 wake-from-requires : tie.Need-wake-from-requires
 wake-from-requires c κs =
-    let f = c .before .before in
-    receiver-asked (f .first-at .ensures) (c .before .if1 .left) (f .before .before .before .pre)
+    let at-if1 = c .before in
+    let at-first-at = at-if1 .before in
+    let at-start = at-first-at .before .before .before in
+    receiver-asked (at-first-at .first-at .ensures) (at-if1 .if1 .left) (at-start .pre)
 
 done-requires : tie.Need-done-requires
 done-requires c κs =

@@ -31,8 +31,9 @@ drop-debt-requires c κs = search debtor-asked depth 9
 
 take-requires : tie.Need-take-requires
 take-requires c κs =
-    let d = c .before .before .before in
-    dropped-asked (d .drop-debt .ensures) (d .before .before .before .before .before .before .before .pre)
+    let at-drop-debt = c .before .before .before in
+    let at-start = at-drop-debt .before .before .before .before .before .before .before in
+    dropped-asked (at-drop-debt .drop-debt .ensures) (at-start .pre)
 
 same-length-3 : tie.Need-same-length-3
 same-length-3 c = search needs

@@ -50,9 +50,9 @@ drop-debt-requires c κs = search debtor-asked depth 9
 
 hand-requires : tie.Need-hand-requires
 hand-requires c κs =
-    let d = c .before .before .before in
-    let u = d .before .before .before in
-    dropped-asked (d .drop-debt .ensures) (u .before .before .before .before .before .before .before .pre)
+    let at-drop-debt = c .before .before .before in
+    let at-start = at-drop-debt .before .before .before .before .before .before .before .before .before .before in
+    dropped-asked (at-drop-debt .drop-debt .ensures) (at-start .pre)
 
 same-length-4 : tie.Need-same-length-4
 same-length-4 c = search needs

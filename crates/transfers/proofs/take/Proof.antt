@@ -25,8 +25,9 @@ add-suspend c = search needs
 
 suspend-requires : tie.Need-suspend-requires
 suspend-requires c κs =
-    let j = c .before .before .before in
-    joined-asked (λ h. h) (j .join-endpoint .ensures) (j .before .before .before .before .before .before .pre)
+    let at-join-endpoint = c .before .before .before in
+    let at-start = at-join-endpoint .before .before .before .before .before .before in
+    joined-asked (λ h. h) (at-join-endpoint .join-endpoint .ensures) (at-start .pre)
 
 same-length : tie.Need-same-length
 same-length c = search needs

@@ -15,8 +15,9 @@ wake-from-requires c κs = search waits-asked depth 9
 
 accept-requires : tie.Need-accept-requires
 accept-requires c κs =
-    let w = c .before .before .before in
-    taken-asked (w .wake-from .ensures) (w .before .before .before .before .before .before .before .pre)
+    let at-wake-from = c .before .before .before in
+    let at-start = at-wake-from .before .before .before .before .before .before .before in
+    taken-asked (at-wake-from .wake-from .ensures) (at-start .pre)
 
 same-length : tie.Need-same-length
 same-length c = search needs

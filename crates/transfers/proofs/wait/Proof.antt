@@ -24,15 +24,16 @@ drop-debt-requires c κs = search debtor-asked depth 9
 
 set-line-requires : tie.Need-set-line-requires
 set-line-requires c κs =
-    let d = c .before .before .before .before in
-    line-asked (dropped-asked (d .drop-debt .ensures) (d .before .before .before .before .before .before .pre))
+    let at-drop-debt = c .before .before .before .before in
+    let at-start = at-drop-debt .before .before .before .before .before .before in
+    line-asked (dropped-asked (at-drop-debt .drop-debt .ensures) (at-start .pre))
 
 done-requires : tie.Need-done-requires
 done-requires c κs =
-    let w = c .before .before .before in
-    let d = w .before .before .before .before .before in
-    taken-asked (w .set-line .ensures)
-    (dropped-asked (d .drop-debt .ensures) (d .before .before .before .before .before .before .pre))
+    let at-set-line = c .before .before .before in
+    let at-drop-debt = at-set-line .before .before .before .before .before in
+    let at-start = at-drop-debt .before .before .before .before .before .before in
+    taken-asked (at-set-line .set-line .ensures) (dropped-asked (at-drop-debt .drop-debt .ensures) (at-start .pre))
 
 same-length-2 : tie.Need-same-length-2
 same-length-2 c = search needs
@@ -49,18 +50,19 @@ returns-2 c =
 
 cast-set-line : tie.Need-cast-set-line
 cast-set-line c =
-    let d = c .before .before .before .before in
-    omega (arith, calling-thread (d .before .before .before .before .before .before .pre .holds))
+    let at-start = c .before .before .before .before .before .before .before .before .before .before in
+    omega (arith, calling-thread (at-start .pre .holds))
 
 add-set-line : tie.Need-add-set-line
 add-set-line c =
-    let d = c .before .before .before .before in
-    omega (arith, calling-thread (d .before .before .before .before .before .before .pre .holds))
+    let at-start = c .before .before .before .before .before .before .before .before .before .before in
+    omega (arith, calling-thread (at-start .pre .holds))
 
 set-line-requires-2 : tie.Need-set-line-requires-2
 set-line-requires-2 c κs =
-    let d = c .before .before .before .before in
-    line-asked (dropped-asked (d .drop-debt .ensures) (d .before .before .before .before .before .before .pre))
+    let at-drop-debt = c .before .before .before .before in
+    let at-start = at-drop-debt .before .before .before .before .before .before in
+    line-asked (dropped-asked (at-drop-debt .drop-debt .ensures) (at-start .pre))
 
 cast-suspend : tie.Need-cast-suspend
 cast-suspend c = search needs
@@ -70,10 +72,10 @@ add-suspend c = search needs
 
 suspend-requires : tie.Need-suspend-requires
 suspend-requires c κs =
-    let w = c .before .before .before in
-    let d = w .before .before .before .before .before in
-    waiter-asked (w .set-line2 .ensures)
-    (dropped-asked (d .drop-debt .ensures) (d .before .before .before .before .before .before .pre))
+    let at-set-line2 = c .before .before .before in
+    let at-drop-debt = at-set-line2 .before .before .before .before .before in
+    let at-start = at-drop-debt .before .before .before .before .before .before in
+    waiter-asked (at-set-line2 .set-line2 .ensures) (dropped-asked (at-drop-debt .drop-debt .ensures) (at-start .pre))
 
 same-length-3 : tie.Need-same-length-3
 same-length-3 c = search needs

@@ -74,9 +74,12 @@ if-unused-requires-4 c κs = search needs
 
 returns-3 : tie.Need-returns-3
 returns-3 c =
-    let call = c .before .before in
-    short-is _ _ _ _ (call .short-call .ensures) (c .before .if-unused3 .ensures) (c .if-unused4 .ensures)
-    ∙ ap asNamed (is-short _ (call .before .before .if1 .left) (call .before .if2 .left))
+    let at-if-unused3 = c .before in
+    let at-short-call = at-if-unused3 .before in
+    let at-if2 = at-short-call .before in
+    let at-if1 = at-if2 .before in
+    short-is _ _ _ _ (at-short-call .short-call .ensures) (at-if-unused3 .if-unused3 .ensures) (c .if-unused4 .ensures)
+    ∙ ap asNamed (is-short _ (at-if1 .if1 .left) (at-if2 .if2 .left))
 
 pub call-in-spec : {M : Type 1} → statement M
 call-in-spec =
