@@ -8,6 +8,7 @@ use lib.ListN.{length}
 use Rattle.machine.specs.State.{State}
 use Rattle.machine.specs.Endpoints.{wakeFrom}
 use Rattle.machine.specs.Aborts.{Removal, oneMore, removeUpTo}
+use Rattle.layout.specs.Addresses.{tableWords}
 use Rattle.layout.specs.Words.{firstOf}
 use Rattle.layout.specs.Shows.{Shows}
 use Rattle.links.specs.Links.{First}
@@ -87,7 +88,7 @@ removing-none S =
     }
 
 module _ {m₀ m : List ℕ} {e a left : ℕ} (R : Removing m₀ m e a left) where
-  pub first-asked : (length m ≡ 4096) × (256 + e ≤ 319)
+  pub first-asked : (length m ≡ tableWords) × (256 + e ≤ 319)
   first-asked = (R .there .shows .size, omega (arith, R .there .holds .endpoint))
 
   -- Nothing is left to do.

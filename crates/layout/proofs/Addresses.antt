@@ -13,6 +13,7 @@ use Rattle.layout.specs.declared.Field.{Field}
 use Rattle.layout.specs.declared.Part.{Part}
 use Rattle.layout.specs.declared.Slot.{Slot}
 use Rattle.layout.specs.declared.Link.{Link}
+use Rattle.layout.specs.Addresses.{tableWords}
 use Rattle.layout.specs.Addresses.{Name, slot, link, ValidSlot, ValidLink, Valid, column, offset, at, linkAt}
 use Rattle.layout.specs.Addresses.{address, inThread, inQueue, inEndpoint, nameOf, word}
 
@@ -151,7 +152,7 @@ name-address (link k) h = name-linkAt k h
 pub address-injective : (a b : Name) → Valid a → Valid b → address a ≡ address b → a ≡ b
 address-injective a b h g e = sym (name-address a h) ∙ ap nameOf e ∙ name-address b g
 
-pub at-small : (a : Slot) → ValidSlot a → at a < 4096
+pub at-small : (a : Slot) → ValidSlot a → at a < tableWords
 unfolding at
 at-small (Slot.Thread f t) h = omega (arith, column-small f)
 at-small (Slot.Endpoint p e) h = omega (arith, offset-small p)
@@ -161,14 +162,14 @@ at-small Slot.Top h = omega arith
 at-small Slot.Running h = omega arith
 at-small (Slot.Unused i) h = omega arith
 
-pub linkAt-small : (k : Link) → ValidLink k → linkAt k < 4096
+pub linkAt-small : (k : Link) → ValidLink k → linkAt k < tableWords
 unfolding linkAt
 linkAt-small (Link.Next t) h = omega arith
 linkAt-small (Link.Prev t) h = omega arith
 linkAt-small (Link.Head q) h = omega arith
 linkAt-small (Link.Tail q) h = omega arith
 
-pub address-small : (a : Name) → Valid a → address a < 4096
+pub address-small : (a : Name) → Valid a → address a < tableWords
 address-small (slot a) h = at-small a h
 address-small (link k) h = linkAt-small k h
 
@@ -224,7 +225,7 @@ below? i n = go (ltb i n) refl
     go true e = inl (ltb-true i n e)
     go false e = inr (ltb-false i n e)
 
-module _ (i : ℕ) (small : i < 4096) where
+module _ (i : ℕ) (small : i < tableWords) where
   from-marks : 3624 ≤ i → HasName i
   unfolding at
   from-marks h = go (below? i 3625) (below? i 3626)

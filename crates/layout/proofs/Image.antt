@@ -17,7 +17,7 @@ use Rattle.layout.specs.declared.Field.{Field}
 use Rattle.layout.specs.declared.Part.{Part}
 use Rattle.layout.specs.declared.Slot.{Slot}
 use Rattle.layout.specs.declared.Link.{Link}
-use Rattle.layout.specs.Addresses.{Name, slot, link, Valid, address, at, linkAt, nameOf, word}
+use Rattle.layout.specs.Addresses.{tableWords, Name, slot, link, Valid, address, at, linkAt, nameOf, word}
 use Rattle.layout.specs.Words.{firstOf, lastOf, threadWord, endpointWord, afterIn, beforeIn, queuesOf, queueOf}
 use Rattle.layout.specs.Words.{wordAt, tabulate, image, occupiedIn}
 use Rattle.layout.specs.Shows.{Chain, Shows}
@@ -37,13 +37,13 @@ getD-tabulate zero f i h = absurd (omega arith)
 getD-tabulate (suc n) f zero h = refl
 getD-tabulate (suc n) f (suc i) h = getD-tabulate n (λ k. f (suc k)) i (omega arith)
 
-pub length-image : (s : State) → length (image s) ≡ 4096
+pub length-image : (s : State) → length (image s) ≡ tableWords
 unfolding image
-length-image s = length-tabulate 4096 (λ i. wordAt s (nameOf i))
+length-image s = length-tabulate tableWords (λ i. wordAt s (nameOf i))
 
-word-image : (s : State) (i : ℕ) → i < 4096 → word (image s) i ≡ wordAt s (nameOf i)
+word-image : (s : State) (i : ℕ) → i < tableWords → word (image s) i ≡ wordAt s (nameOf i)
 unfolding image word
-word-image s i h = getD-tabulate 4096 (λ i. wordAt s (nameOf i)) i h
+word-image s i h = getD-tabulate tableWords (λ i. wordAt s (nameOf i)) i h
 
 -- The image holds at each name the word of that name.
 pub image-name : (s : State) (a : Name) → Valid a → word (image s) (address a) ≡ wordAt s a
@@ -51,7 +51,7 @@ image-name s a h = word-image s (address a) (address-small a h) ∙ ap (wordAt s
 
 -- Two memories with the same words at all names are one.
 pub same-memory :
-    (m n : List ℕ) → length m ≡ 4096 → length n ≡ 4096
+    (m n : List ℕ) → length m ≡ tableWords → length n ≡ tableWords
     → ((a : Name) → Valid a → word m (address a) ≡ word n (address a)) → m ≡ n
 unfolding word
 same-memory m n h g f =
@@ -187,10 +187,11 @@ fresh-word (link (Link.Prev t)) = unfold queueOf beforeIn in refl
 fresh-word (link (Link.Head q)) = ap firstOf (fresh-queues q)
 fresh-word (link (Link.Tail q)) = ap (lastOf 0) (fresh-queues q)
 
-pub image-fresh : image freshState ≡ replicate 4096 0
+pub image-fresh : image freshState ≡ replicate tableWords 0
 image-fresh =
-    same-memory (image freshState) (replicate 4096 0) (length-image freshState) (length-replicate {A = ℕ} 4096 0)
+    same-memory (image freshState) (replicate tableWords 0)
+    (length-image freshState) (length-replicate {A = ℕ} tableWords 0)
     (λ a h. image-name freshState a h ∙ fresh-word a ∙ sym (zero (address a) (address-small a h)))
   where
-    zero : (i : ℕ) → i < 4096 → word (replicate 4096 0) i ≡ 0
-    zero i h = unfold word in getD-replicate 4096 i 0 0 h
+    zero : (i : ℕ) → i < tableWords → word (replicate tableWords 0) i ≡ 0
+    zero i h = unfold word in getD-replicate tableWords i 0 0 h

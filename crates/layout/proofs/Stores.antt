@@ -10,6 +10,7 @@ use Rattle.machine.specs.State.{State}
 use Rattle.machine.proofs.Lists.{Same, same, other, same?}
 use Rattle.layout.specs.declared.Slot.{Slot}
 use Rattle.layout.specs.declared.Link.{Link}
+use Rattle.layout.specs.Addresses.{tableWords}
 use Rattle.layout.specs.Addresses.{slot, link, ValidSlot, ValidLink, at, linkAt, word, afterAt, beforeAt}
 use Rattle.layout.specs.Words.{content, queuesOf}
 use Rattle.layout.specs.Shows.{Joined, Chain, Linked, Shows}
@@ -31,7 +32,7 @@ at-no-link a k h g e =
 
 -- The words after a store to a slot, and after a store to a link.
 
-module _ (m : List ℕ) (size : length m ≡ 4096) (v : ℕ) where
+module _ (m : List ℕ) (size : length m ≡ tableWords) (v : ℕ) where
   module _ (a : Slot) (h : ValidSlot a) where
     pub slot-same : word (set m (at a) v) (at a) ≡ v
     slot-same = word-set-same m (at a) v (omega (arith, at-small a h))

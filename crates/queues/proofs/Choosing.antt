@@ -13,6 +13,7 @@ use Rattle.machine.specs.Scheduling.{standDown, highest, dispatchHead, dispatch
 use Rattle.machine.specs.Scheduling.{displace, chooseFor, choose}
 use Rattle.machine.proofs.Lists.{without-first}
 use Rattle.machine.proofs.Preserved.Choosing.{Highest, highest-is}
+use Rattle.layout.specs.Addresses.{tableWords}
 use Rattle.summary.specs.declared.Summary.{Summary}
 use Rattle.summary.specs.declared.Level.{Level}
 use Rattle.summary.specs.declared.Level.the-variants.{At, Nothing}
@@ -87,7 +88,7 @@ module _ {m : List ℕ} {r : ℕ} (T : Tells m Any r highestLink) where
     top-is : (s : State) → Shows m s → Highest 256 (s .levels) (some (r - 1))
     top-is s M = rw (level-at s M) at (highest-is (s .levels))
 
-    pub readable : Shown m Any → (length m ≡ 4096) × (r - 1 ≤ 319)
+    pub readable : Shown m Any → (length m ≡ tableWords) × (r - 1 ≤ 319)
     readable S = (S .shows .size, omega (arith, top-is (S .state) (S .shows) .0))
 
     module _ {link : ℕ} (F : First m (r - 1) link) where

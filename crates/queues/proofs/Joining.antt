@@ -11,6 +11,7 @@ use Rattle.machine.specs.State.{State, Place, able, setRuns}
 use Rattle.machine.specs.Scheduling.{enqueue, standDown, wake, block, occupied}
 use Rattle.machine.specs.Endpoints.{joinEndpoint}
 use Rattle.machine.proofs.Lists.{put-same}
+use Rattle.layout.specs.Addresses.{tableWords}
 use Rattle.layout.specs.declared.Field.{Field}
 use Rattle.layout.specs.Words.{queuesOf}
 use Rattle.layout.specs.Shows.{Linked, Shows}
@@ -55,7 +56,7 @@ module _ {m : List ℕ} {t p : ℕ} (R : Tells m (IsThread t) p (threadIn Field.
         free = S .holds .free;
       }
 
-  pub markable : {n : List ℕ} → Shown m (Loose t) → JoinsQueue m p t n → (length n ≡ 4096) × (p < 256)
+  pub markable : {n : List ℕ} → Shown m (Loose t) → JoinsQueue m p t n → (length n ≡ tableWords) × (p < 256)
   markable S J =
       (J .kept .size ∙ S .shows .size, omega (arith, level-of (S .state) (S .shows) (S .holds), S .holds .level))
 

@@ -7,6 +7,7 @@ use mathlib.Core.List.{List}
 use lib.ListN.{length}
 use Rattle.machine.specs.State.{State}
 use Rattle.machine.specs.Sound.{Sound}
+use Rattle.layout.specs.Addresses.{tableWords}
 use Rattle.layout.specs.Shows.{Shows}
 use Rattle.layout.specs.Decode.{decode}
 use Rattle.layout.proofs.Neat.{sound-neat}
@@ -23,7 +24,7 @@ pub record Sound-tables (m : List ℕ) : Type 0 where
   pub shows : Shows m state
 
 -- Where all tests pass, the decoded state is sound and shown.
-pub good-decoded : (m : List ℕ) → length m ≡ 4096 → goodTest m ≡ true → Sound (decode m) × Shows m (decode m)
+pub good-decoded : (m : List ℕ) → length m ≡ tableWords → goodTest m ≡ true → Sound (decode m) × Shows m (decode m)
 good-decoded m size h =
     let T = tells-tried m .holds h in
     let R = tried-reads m T in
@@ -39,7 +40,7 @@ sound-good m s S M =
     tells-tried m .back (tried-of m s R (sound-left m s R S (M .links)))
 
 -- All tests pass exactly where the memory shows a sound state.
-pub good-exactly : (m : List ℕ) → length m ≡ 4096 → (goodTest m ≡ true) ↔ Sound-tables m
+pub good-exactly : (m : List ℕ) → length m ≡ tableWords → (goodTest m ≡ true) ↔ Sound-tables m
 good-exactly m size = (
   λ h. let r = good-decoded m size h in record { state = decode m; sound = r .0; shows = r .1 },
   λ r. sound-good m (r .state) (r .sound) (r .shows),

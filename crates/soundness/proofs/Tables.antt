@@ -11,6 +11,7 @@ use borrow.Author.Tests.{eq-eqb}
 use Rattle.machine.specs.Lists.{pick}
 use Rattle.machine.specs.State.{State}
 use Rattle.machine.specs.Sound.{Sound}
+use Rattle.layout.specs.Addresses.{tableWords}
 use Rattle.layout.specs.Words.{image}
 use Rattle.layout.specs.Shows.{Shows}
 use Rattle.layout.specs.Decode.{decode}
@@ -33,8 +34,8 @@ found m s false b e = none-some e
 state-sound : (m : List ℕ) (s : State) → stateOf m ≡ some s → Sound s × (m ≡ image s)
 unfolding stateOf
 state-sound m s e =
-    let f = found m s (eqb (length m) 4096) (goodTest m) e in
-    let g = good-decoded m (tells-eqb (length m) 4096 .holds (f .0)) (f .1) in
+    let f = found m s (eqb (length m) tableWords) (goodTest m) e in
+    let g = good-decoded m (tells-eqb (length m) tableWords .holds (f .0)) (f .1) in
     let S = g .0 in
     subst (λ (z : State). Sound z × (m ≡ image z)) (f .2)
     (S, shows-image (decode m) (S .ranges) (S .queues) m (g .1))
@@ -43,7 +44,7 @@ state-sound m s e =
 pub shows-state : (m : List ℕ) (s : State) → Sound s → Shows m s → stateOf m ≡ some s
 unfolding stateOf
 shows-state m s S M =
-    rw (eq-eqb (length m) 4096 (M .size), sound-good m s S M) (ap {B = Option State} some (shows-decode m s S M))
+    rw (eq-eqb (length m) tableWords (M .size), sound-good m s S M) (ap {B = Option State} some (shows-decode m s S M))
 
 -- stateOf m is some s exactly when s is sound and m is its image.
 pub state-exact : (m : List ℕ) (s : State) → (stateOf m ≡ some s) ↔ (Sound s × (m ≡ image s))
@@ -57,6 +58,6 @@ pub state-shows : (m : List ℕ) (s : State) → stateOf m ≡ some s → Shows 
 state-shows m s e = let k = state-exact m s .0 e in image-stands m s (k .0) (k .1)
 
 -- Of 4,096 words the tests alone decide.
-pub good-state : (m : List ℕ) → length m ≡ 4096 → stateOf m ≡ pick (goodTest m) (some (decode m)) none
+pub good-state : (m : List ℕ) → length m ≡ tableWords → stateOf m ≡ pick (goodTest m) (some (decode m)) none
 unfolding stateOf
-good-state m size = rw (eq-eqb (length m) 4096 size)
+good-state m size = rw (eq-eqb (length m) tableWords size)

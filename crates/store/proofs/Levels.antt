@@ -13,7 +13,7 @@ use Rattle.summary.specs.declared.Summary.{Summary}
 use Rattle.summary.specs.Levels.{wordOf, summaryOf, SetsBit}
 use Rattle.summary.proofs.Words.{words-at, words-are, summary-is, summary-words, summary-top, word-agree}
 use Rattle.layout.specs.declared.Slot.{Slot}
-use Rattle.layout.specs.Addresses.{at, word}
+use Rattle.layout.specs.Addresses.{tableWords, at, word}
 use Rattle.layout.specs.Words.{occupiedIn}
 use Rattle.layout.specs.Shows.{Shows}
 use Rattle.store.specs.Levels.{SummaryWords, LoadsSummary, WritesLevel, SetsLevel}
@@ -58,7 +58,7 @@ no-top : (w : ℕ) → Slot.Summary w ≡ Slot.Top → ⊥
 no-top w e = let z : _≡_ {A = ℕ} 0 1 = cc in omega arith
 
 pub writes :
-    (m n₁ n₂ : List ℕ) (sm : Summary) (p : ℕ) → length m ≡ 4096 → p < 256
+    (m n₁ n₂ : List ℕ) (sm : Summary) (p : ℕ) → length m ≡ tableWords → p < 256
     → n₁ ≡ set m (at (Slot.Summary (p / 32))) (getD (sm .words) (p / 32) 0)
     → n₂ ≡ set n₁ (at Slot.Top) (sm .top) → WritesLevel m sm p n₂
 writes m n₁ n₂ sm p size small e₁ e₂ =

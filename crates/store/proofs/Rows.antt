@@ -10,14 +10,14 @@ use Rattle.machine.specs.State.{State}
 use Rattle.machine.proofs.Lists.{Same, same, other, same?}
 use Rattle.layout.specs.declared.Slot.{Slot}
 use Rattle.layout.specs.declared.Link.{Link}
-use Rattle.layout.specs.Addresses.{ValidSlot, ValidLink, at, linkAt, word}
+use Rattle.layout.specs.Addresses.{tableWords, ValidSlot, ValidLink, at, linkAt, word}
 use Rattle.layout.specs.Words.{content, queuesOf}
 use Rattle.layout.specs.Shows.{Shows}
 use Rattle.layout.proofs.Stores.{slot-same, slot-other, slot-link, linked-keep, linked-same}
 
 -- n is m but for one row, whose words are w; the slots that are not of the row are Off it.
 pub record RowChanged {F : Type 0} (row : F → Slot) (Off : Slot → Type 0) (m n : List ℕ) (w : F → ℕ) : Type 0 where
-  pub size : length n ≡ 4096
+  pub size : length n ≡ tableWords
   pub here : (f : F) → word n (at (row f)) ≡ w f
   pub slots : (a : Slot) → ValidSlot a → Off a → word n (at a) ≡ word m (at a)
   pub links : (k : Link) → ValidLink k → word n (linkAt k) ≡ word m (linkAt k)

@@ -6,7 +6,7 @@ use lib.ListN.{length, set, length-set}
 use Rattle.machine.specs.State.{State}
 use Rattle.layout.specs.declared.Slot.{Slot}
 use Rattle.layout.specs.declared.Link.{Link}
-use Rattle.layout.specs.Addresses.{ValidSlot, ValidLink, at, linkAt, word}
+use Rattle.layout.specs.Addresses.{tableWords, ValidSlot, ValidLink, at, linkAt, word}
 use Rattle.layout.specs.Words.{content, queuesOf}
 use Rattle.layout.specs.Shows.{Shows}
 use Rattle.layout.proofs.Stores.{store-shows, slot-same, slot-other, slot-link}
@@ -34,7 +34,7 @@ pub record Stored (m n : List ℕ) (a : Slot) (v : ℕ) : Type 0 where
   pub links : (k : Link) → ValidLink k → word n (linkAt k) ≡ word m (linkAt k)
 
 pub stored :
-    (m n : List ℕ) (a : Slot) (v : ℕ) → length m ≡ 4096 → ValidSlot a → n ≡ set m (at a) v → Stored m n a v
+    (m n : List ℕ) (a : Slot) (v : ℕ) → length m ≡ tableWords → ValidSlot a → n ≡ set m (at a) v → Stored m n a v
 stored m n a v size h e =
     subst (λ l. Stored m l a v) (sym e)
     (record {
