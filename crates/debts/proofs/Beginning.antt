@@ -10,6 +10,7 @@ use Rattle.machine.specs.State.{State, Thread, sending, receiving, owns, Abort}
 use Rattle.machine.specs.Endpoints.{isSending, senders, setAbort}
 use Rattle.machine.specs.Aborts.{begin}
 use Rattle.machine.proofs.Lists.{only-nil, only-all, only-none}
+use Rattle.layout.specs.Addresses.{endpointQueue}
 use Rattle.layout.specs.Words.{firstOf, lastOf, queuesOf}
 use Rattle.layout.specs.Shows.{Shows}
 use Rattle.layout.proofs.Standing.{queues-endpoint}
@@ -40,7 +41,7 @@ module _ {m : List ℕ} {e r : ℕ} (F : FirstAt m e (2 + e) r) where
             sym (ap (lastOf 0) (first-zero l (sym (F .sends refl .tells s M A) ∙ z)));
       }
 
-  pub last-sends : {d : ℕ} → (r ≡ 0 → ⊥) → Last m (256 + e) d → Tells m (Alike e) d (lastSender e)
+  pub last-sends : {d : ℕ} → (r ≡ 0 → ⊥) → Last m (endpointQueue e) d → Tells m (Alike e) d (lastSender e)
   last-sends {d} z k = record { tells = λ s M A. go s M (A .endpoint) (F .sends refl .tells s M A) (A .alike) }
     where
       last-waiter : (s : State) → Shows m s → e ≤ 63 → d ≡ lastOf 0 (s .endpoints e .waiters)

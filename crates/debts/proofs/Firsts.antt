@@ -9,6 +9,7 @@ use Rattle.machine.specs.Lists.{only, Mem}
 use Rattle.machine.specs.State.{State, Place, sending, receiving}
 use Rattle.machine.specs.Endpoints.{isSending, isReceiving}
 use Rattle.machine.proofs.Lists.{only-nil, only-all, only-none}
+use Rattle.layout.specs.Addresses.{endpointQueue}
 use Rattle.layout.specs.declared.Field.{Field}
 use Rattle.layout.specs.Words.{placeCode, firstOf, queuesOf}
 use Rattle.layout.specs.Shows.{Shows}
@@ -29,7 +30,7 @@ pub first-waits : (r : ℕ) (l : List ℕ) → (r ≡ 0 → ⊥) → r ≡ first
 first-waits r [] z k = absurd (z k)
 first-waits r (u ∷ l) z k = inl (omega arith)
 
-module _ (e : ℕ) {m : List ℕ} {r : ℕ} (F : First m (256 + e) r) where
+module _ (e : ℕ) {m : List ℕ} {r : ℕ} (F : First m (endpointQueue e) r) where
   pub first-waiter : (s : State) → Shows m s → r ≡ firstOf (s .endpoints e .waiters)
   first-waiter s M = F .first (queuesOf s) (M .links) ∙ ap firstOf (queues-endpoint s e)
 
@@ -37,7 +38,7 @@ module _ (e : ℕ) {m : List ℕ} {r : ℕ} (F : First m (256 + e) r) where
   waits s M z = first-waits r (s .endpoints e .waiters) z (first-waiter s M)
 
   pub small : (s : State) → Shows m s → e ≤ 63 → (r ≡ 0 → ⊥) → r - 1 ≤ 255
-  small s M h z = M .links .small (256 + e) (r - 1) (omega arith) (rw (queues-endpoint s e) (waits s M z))
+  small s M h z = M .links .small (endpointQueue e) (r - 1) (omega arith) (rw (queues-endpoint s e) (waits s M z))
 
   pub place-asked : (r ≡ 0 → ⊥) → Shown m (Alike e) → Shown m (IsThread (r - 1))
   place-asked z S =

@@ -10,6 +10,7 @@ use Rattle.machine.specs.Results.{Result, plain, counted, accept, refuse}
 use Rattle.machine.specs.Aborts.{deleted, deleteFrom, deleteAt, delete}
 use Rattle.machine.proofs.Preserved.Mid.{sound-mid}
 use Rattle.machine.proofs.Preserved.Debts.{mid-dropDebt}
+use Rattle.layout.specs.Addresses.{endpointQueue}
 use Rattle.layout.specs.declared.Part.{Part}
 use Rattle.layout.specs.Words.{statusCode}
 use Rattle.layout.specs.Shows.{Shows}
@@ -46,7 +47,7 @@ module _ {m n : List ℕ} {e a c : ℕ} (R : Removes m e a c n) where
   pub status-asked : Shown m (Closes e) → Shown n (IsEndpoint e)
   status-asked S = shown-for (removed-shown S) (λ s C. C .endpoint)
 
-  module _ {r : ℕ} (F : First n (256 + e) r) where
+  module _ {r : ℕ} (F : First n (endpointQueue e) r) where
     -- Somebody is left.
     pub broken-off :
         {b k : Answer} {o : List ℕ} → (r ≡ 0 → ⊥) → k ≡ counted 2 c → Accepts n k b Chooses o

@@ -8,7 +8,7 @@ use lib.ListN.{length}
 use Rattle.machine.specs.State.{State}
 use Rattle.machine.specs.Endpoints.{wakeFrom}
 use Rattle.machine.specs.Aborts.{Removal, oneMore, removeUpTo}
-use Rattle.layout.specs.Addresses.{tableWords}
+use Rattle.layout.specs.Addresses.{tableWords, endpointQueue}
 use Rattle.layout.specs.Words.{firstOf}
 use Rattle.layout.specs.Shows.{Shows}
 use Rattle.links.specs.Links.{First}
@@ -51,7 +51,7 @@ unfolding oneMore
 more-count r = omega arith
 
 -- What the first link tells.
-module _ (e : ℕ) {m : List ℕ} {r : ℕ} (F : First m (256 + e) r) (s : State) (M : Shows m s) where
+module _ (e : ℕ) {m : List ℕ} {r : ℕ} (F : First m (endpointQueue e) r) (s : State) (M : Shows m s) where
   pub nobody : r ≡ 0 → s .endpoints e .waiters ≡ []
   nobody z = first-zero (s .endpoints e .waiters) (sym (first-waiter e F s M) ∙ z)
 
@@ -88,7 +88,7 @@ removing-none S =
     }
 
 module _ {m₀ m : List ℕ} {e a left : ℕ} (R : Removing m₀ m e a left) where
-  pub first-asked : (length m ≡ tableWords) × (256 + e ≤ 319)
+  pub first-asked : (length m ≡ tableWords) × (endpointQueue e ≤ 319)
   first-asked = (R .there .shows .size, omega (arith, R .there .holds .endpoint))
 
   -- Nothing is left to do.
@@ -110,7 +110,7 @@ module _ {m₀ m : List ℕ} {e a left : ℕ} (R : Removing m₀ m e a left) whe
   pub removed-all : left ≤ 0 → Removes m₀ e a a m
   removed-all h = removed (omega arith) (λ s M. remove-none left e s (omega arith))
 
-  module _ {r : ℕ} (F : First m (256 + e) r) where
+  module _ {r : ℕ} (F : First m (endpointQueue e) r) where
     pub removed-some : r ≡ 0 → Removes m₀ e a (a - left) m
     removed-some z =
         removed (omega (arith, R .within))

@@ -12,7 +12,7 @@ use Rattle.machine.specs.Sound.{Sound}
 use Rattle.layout.specs.declared.Part.{Part}
 use Rattle.layout.specs.declared.Slot.{Slot}
 use Rattle.layout.specs.declared.Link.{Link}
-use Rattle.layout.specs.Addresses.{at, linkAt, word}
+use Rattle.layout.specs.Addresses.{at, linkAt, word, endpointQueue}
 use Rattle.layout.specs.Words.{queuesOf, endpointWord, image}
 use Rattle.layout.specs.Shows.{Shows}
 use Rattle.layout.specs.Decode.{queueFrom, linked, lineBy, threadFrom, endpointFrom, decode}
@@ -55,10 +55,11 @@ decode-neat m =
           pick-at 255 (threadFrom (λ f. word m (at (Slot.Thread f t)))) absentThread (NeatThread t) t
           (thread-neat t (λ f. word m (at (Slot.Thread f t)))) (absent-neat t);
       endpoints = λ e.
-          pick-at 63 (endpointFrom (λ p. word m (at (Slot.Endpoint p e))) (queueFrom m (256 + e))) missingEndpoint
+          pick-at 63 (endpointFrom (λ p. word m (at (Slot.Endpoint p e))) (queueFrom m (endpointQueue e)))
+          missingEndpoint
           NeatEndpoint e
-          (λ _. endpoint-neat (λ p. word m (at (Slot.Endpoint p e))) (queueFrom m (256 + e))
-          (walk-small m 256 (word m (linkAt (Link.Head (256 + e)))))) missing-neat;
+          (λ _. endpoint-neat (λ p. word m (at (Slot.Endpoint p e))) (queueFrom m (endpointQueue e))
+          (walk-small m 256 (word m (linkAt (Link.Head (endpointQueue e)))))) missing-neat;
       unused-endpoint = λ e h. pick-beyond 63 _ missingEndpoint e h;
       unused-line = λ l h. pick-beyond 31 _ quiet l h;
       unused-level = λ p h. pick-beyond 255 _ [] p h;
@@ -112,18 +113,21 @@ module _ (m : List ℕ) (s : State) (S : Sound s) (M : Shows m s) where
           (λ h. queue-back p (omega arith) ∙ queues-level s p h) (λ h. sym (N .unused-level p h))
 
       endpoint-here : (e : ℕ) → e ≤ 63
-          → endpointFrom (λ p. word m (at (Slot.Endpoint p e))) (queueFrom m (256 + e)) ≡ s .endpoints e
+          → endpointFrom (λ p. word m (at (Slot.Endpoint p e))) (queueFrom m (endpointQueue e)) ≡ s .endpoints e
       endpoint-here e h =
-          ap (λ (w : Part → ℕ). endpointFrom w (queueFrom m (256 + e))) (fun-ext (λ p. M .slots (Slot.Endpoint p e) h))
-          ∙ ap (endpointFrom (endpointWord (s .endpoints e))) (queue-back (256 + e) (omega arith) ∙ queues-endpoint s e)
+          ap (λ (w : Part → ℕ). endpointFrom w (queueFrom m (endpointQueue e)))
+          (fun-ext (λ p. M .slots (Slot.Endpoint p e) h))
+          ∙ ap (endpointFrom (endpointWord (s .endpoints e)))
+          (queue-back (endpointQueue e) (omega arith) ∙ queues-endpoint s e)
           ∙ endpoint-back (s .endpoints e) (N .endpoints e) (S .queues .queued-once e)
 
       endpoints : (e : ℕ)
-          → pick (leb e 63) (endpointFrom (λ p. word m (at (Slot.Endpoint p e))) (queueFrom m (256 + e)))
+          → pick (leb e 63) (endpointFrom (λ p. word m (at (Slot.Endpoint p e))) (queueFrom m (endpointQueue e)))
           missingEndpoint
           ≡ s .endpoints e
       endpoints e =
-          pick-is 63 (endpointFrom (λ p. word m (at (Slot.Endpoint p e))) (queueFrom m (256 + e))) missingEndpoint e
+          pick-is 63 (endpointFrom (λ p. word m (at (Slot.Endpoint p e))) (queueFrom m (endpointQueue e)))
+          missingEndpoint e
           (s .endpoints e) (endpoint-here e) (λ h. sym (N .unused-endpoint e h))
 
       lines : (l : ℕ) → pick (leb l 31) (lineBy (word m (at (Slot.Line l)))) quiet ≡ s .lines l

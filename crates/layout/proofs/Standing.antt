@@ -8,6 +8,7 @@ use borrow.Author.Tests.{lt-ltb, le-ltb}
 use Rattle.machine.specs.Lists.{Mem, Distinct}
 use Rattle.machine.specs.State.{State, Place, absent, able, sending, receiving, waiting}
 use Rattle.machine.specs.Sound.{Present, Queued, Ranges, Queues}
+use Rattle.layout.specs.Addresses.{endpointQueue}
 use Rattle.layout.specs.Words.{queuesOf, queueAt, queueOf}
 use Rattle.layout.proofs.Addresses.{below?}
 use Rattle.layout.proofs.RoundTrip.{not-absent}
@@ -18,16 +19,16 @@ pub queues-level : (s : State) (p : ℕ) → p ≤ 255 → queuesOf s p ≡ s .l
 unfolding queuesOf
 queues-level s p h = rw (lt-ltb p 256 (omega arith))
 
-pub queues-endpoint : (s : State) (e : ℕ) → queuesOf s (256 + e) ≡ s .endpoints e .waiters
+pub queues-endpoint : (s : State) (e : ℕ) → queuesOf s (endpointQueue e) ≡ s .endpoints e .waiters
 unfolding queuesOf
 queues-endpoint s e =
-    let d : 256 + e - 256 ≡ e = omega arith in
-    rw (le-ltb (256 + e) 256 (omega arith), d)
+    let d : endpointQueue e - 256 ≡ e = omega arith in
+    rw (le-ltb (endpointQueue e) 256 (omega arith), d)
 
 -- Each queue is that of a level or of an endpoint.
 pub data Queue (q : ℕ) : Type 0 where
   level : q ≤ 255 → Queue q
-  endpoint : (e : ℕ) → e ≤ 63 → q ≡ 256 + e → Queue q
+  endpoint : (e : ℕ) → e ≤ 63 → q ≡ endpointQueue e → Queue q
 
 pub queue? : (q : ℕ) → q ≤ 319 → Queue q
 queue? q h = go (below? q 256)
@@ -50,8 +51,8 @@ each-queue s P f g q h = go (queue? q h)
 abbrev number : Place → ℕ → ℕ
 number absent p = 320
 number able p = p
-number (sending e) p = 256 + e
-number (receiving e) p = 256 + e
+number (sending e) p = endpointQueue e
+number (receiving e) p = endpointQueue e
 number (waiting l) p = 320
 
 -- The queue in which a thread stands.
@@ -111,7 +112,7 @@ module _ (s : State) (R : Ranges s) (Q : Queues s) where
       at-endpoint : (e : ℕ) → Mem t (s .endpoints e .waiters) → s .endpoints e .waiters ≡ queueOf s t → StandsIn s t
       at-endpoint e k i =
           record {
-            queue = 256 + e;
+            queue = endpointQueue e;
             small = omega (arith, endpoint-small t e k);
             here = queues-endpoint s e ∙ i;
           }
@@ -133,7 +134,7 @@ module _ (s : State) (R : Ranges s) (Q : Queues s) where
   stands-number : (t q : ℕ) → q ≤ 319 → Mem t (queuesOf s q) → number (s .threads t .place) (s .threads t .priority) ≡ q
   stands-number t q h m = go (queue? q h)
     where
-      by-place : (e : ℕ) → Queued s t e → number (s .threads t .place) (s .threads t .priority) ≡ 256 + e
+      by-place : (e : ℕ) → Queued s t e → number (s .threads t .place) (s .threads t .priority) ≡ endpointQueue e
       by-place e (inl i) = rw i
       by-place e (inr i) = rw i
 

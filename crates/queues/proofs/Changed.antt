@@ -13,7 +13,7 @@ use Rattle.machine.specs.Scheduling.{occupied}
 use Rattle.machine.proofs.Lists.{Same, same, other, same?, put-same, put-other}
 use Rattle.layout.specs.declared.Part.{Part}
 use Rattle.layout.specs.declared.Slot.{Slot}
-use Rattle.layout.specs.Addresses.{ValidSlot, at, word}
+use Rattle.layout.specs.Addresses.{ValidSlot, at, word, endpointQueue}
 use Rattle.layout.specs.Words.{endpointWord, content, queuesOf, occupiedIn}
 use Rattle.layout.specs.Shows.{Linked, Shows}
 use Rattle.layout.proofs.Stores.{linked-keep, linked-same}
@@ -34,21 +34,21 @@ queues-level s p l h q = go (same? q p)
 
 pub queues-endpoint :
     (s : State) (e : ℕ) (x : Endpoint) → e ≤ 63 → (q : ℕ)
-    → queuesOf (setEndpoint e x s) q ≡ put (queuesOf s) (256 + e) (x .waiters) q
+    → queuesOf (setEndpoint e x s) q ≡ put (queuesOf s) (endpointQueue e) (x .waiters) q
 unfolding queuesOf
 queues-endpoint s e x h q = go (ltb q 256) refl (same? (q - 256) e)
   where
     go : (b : Bool) → ltb q 256 ≡ b → Same (q - 256) e
-        → queuesOf (setEndpoint e x s) q ≡ put (queuesOf s) (256 + e) (x .waiters) q
+        → queuesOf (setEndpoint e x s) q ≡ put (queuesOf s) (endpointQueue e) (x .waiters) q
     go true k _ =
-        let d : q ≡ 256 + e → ⊥ = λ j. omega (arith, ltb-true q 256 k) in
-        rw (put-other (queuesOf s) (256 + e) q (x .waiters) d, k)
+        let d : q ≡ endpointQueue e → ⊥ = λ j. omega (arith, ltb-true q 256 k) in
+        rw (put-other (queuesOf s) (endpointQueue e) q (x .waiters) d, k)
     go false k (same j _) =
-        let i : q ≡ 256 + e = omega (arith, ltb-false q 256 k) in
-        rw (k, j, put-same (s .endpoints) e x) (sym (rw (i) (put-same (queuesOf s) (256 + e) (x .waiters))))
+        let i : q ≡ endpointQueue e = omega (arith, ltb-false q 256 k) in
+        rw (k, j, put-same (s .endpoints) e x) (sym (rw (i) (put-same (queuesOf s) (endpointQueue e) (x .waiters))))
     go false k (other d _) =
-        let n : q ≡ 256 + e → ⊥ = λ i. d (omega (arith, i)) in
-        rw (put-other (queuesOf s) (256 + e) q (x .waiters) n, k, put-other (s .endpoints) e (q - 256) x d)
+        let n : q ≡ endpointQueue e → ⊥ = λ i. d (omega (arith, i)) in
+        rw (put-other (queuesOf s) (endpointQueue e) q (x .waiters) n, k, put-other (s .endpoints) e (q - 256) x d)
 
 pub occupied-level :
     (s : State) (p : ℕ) (l : List ℕ) → put (occupiedIn s) p (occupied l) ≡ occupiedIn (setLevel p l s)
@@ -153,13 +153,13 @@ module _ (s : State) (e : ℕ) (l : List ℕ) where
   waited-content (Slot.Unused i) = refl
 
   pub waiters-linked :
-      {m n : List ℕ} → e ≤ 63 → Shows m s → OnlyLinks m n → Linked n (put (queuesOf s) (256 + e) l)
+      {m n : List ℕ} → e ≤ 63 → Shows m s → OnlyLinks m n → Linked n (put (queuesOf s) (endpointQueue e) l)
       → Shows n (waited e l s)
   waiters-linked {n = n} h M K L =
       record {
         size = K .size ∙ M .size;
         links =
-            linked-same n (put (queuesOf s) (256 + e) l) (queuesOf (waited e l s))
+            linked-same n (put (queuesOf s) (endpointQueue e) l) (queuesOf (waited e l s))
             (λ q _. queues-endpoint s e _ h q) L;
         slots = λ a v. K .slots a v ∙ M .slots a v ∙ sym (waited-content a);
       }

@@ -11,7 +11,7 @@ use Rattle.machine.specs.State.{State, Place, able, setRuns}
 use Rattle.machine.specs.Scheduling.{enqueue, standDown, wake, block, occupied}
 use Rattle.machine.specs.Endpoints.{joinEndpoint}
 use Rattle.machine.proofs.Lists.{put-same}
-use Rattle.layout.specs.Addresses.{tableWords}
+use Rattle.layout.specs.Addresses.{tableWords, endpointQueue}
 use Rattle.layout.specs.declared.Field.{Field}
 use Rattle.layout.specs.Words.{queuesOf}
 use Rattle.layout.specs.Shows.{Linked, Shows}
@@ -134,7 +134,7 @@ module _ {t : ℕ} {m n : List ℕ} (R : SetsRunning m 0 n) where
 
 -- Joining an endpoint's queue.
 module _ {m : List ℕ} {t e : ℕ} where
-  pub joinable-endpoint : Shown m (ToEndpoint t e) → Joinable m (256 + e) t
+  pub joinable-endpoint : Shown m (ToEndpoint t e) → Joinable m (endpointQueue e) t
   joinable-endpoint S =
       record {
         size = S .shows .size;
@@ -145,13 +145,13 @@ module _ {m : List ℕ} {t e : ℕ} where
         free = S .holds .free;
       }
 
-  pub joined : {n : List ℕ} → JoinsQueue m (256 + e) t n → Does m n (ToEndpoint t e) (joinEndpoint t e)
+  pub joined : {n : List ℕ} → JoinsQueue m (endpointQueue e) t n → Does m n (ToEndpoint t e) (joinEndpoint t e)
   unfolding joinEndpoint
   joined {n} J = record { shows = λ s M h. go s M h }
     where
       go : (s : State) → Shows m s → ToEndpoint t e s → Shows n (joinEndpoint t e s)
       go s M h =
-          let L : Linked n (put (queuesOf s) (256 + e) (queuesOf s (256 + e) ++ (t ∷ []))) =
+          let L : Linked n (put (queuesOf s) (endpointQueue e) (queuesOf s (endpointQueue e) ++ (t ∷ []))) =
           J .links (queuesOf s) (M .links) (h .free) in
           waiters-linked s e (s .endpoints e .waiters ++ (t ∷ [])) (h .endpoint) M (J .kept)
           (rw (queues-endpoint s e) at L)

@@ -9,6 +9,7 @@ use Rattle.machine.specs.State.{State, Endpoint, setEndpoint}
 use Rattle.machine.specs.Scheduling.{unqueue, wake, occupied}
 use Rattle.machine.specs.Endpoints.{leaveEndpoint, wakeFrom}
 use Rattle.machine.proofs.Lists.{Same, same, other, same?, put-same, put-other}
+use Rattle.layout.specs.Addresses.{endpointQueue}
 use Rattle.layout.specs.declared.Field.{Field}
 use Rattle.layout.specs.Words.{firstOf, queuesOf}
 use Rattle.layout.specs.Shows.{Linked, Shows}
@@ -113,10 +114,10 @@ set-twice e x y s =
     (put-twice (s .endpoints) e x y)
 
 module _ {m n : List ℕ} {t e : ℕ} (P : Does m n (InEndpoint t e) (passingAt t e)) where
-  still-stands : (s : State) → InEndpoint t e s → Mem t (queuesOf (passingAt t e s) (256 + e))
+  still-stands : (s : State) → InEndpoint t e s → Mem t (queuesOf (passingAt t e s) (endpointQueue e))
   still-stands s h = rw (endpoint-queue (passingAt t e s) e, put-same (s .endpoints) e) (h .stands)
 
-  pub leavable-endpoint : Shown m (InEndpoint t e) → Leavable n (256 + e) t
+  pub leavable-endpoint : Shown m (InEndpoint t e) → Leavable n (endpointQueue e) t
   leavable-endpoint S =
       let M = P .shows (S .state) (S .shows) (S .holds) in
       record {
@@ -127,7 +128,7 @@ module _ {m n : List ℕ} {t e : ℕ} (P : Does m n (InEndpoint t e) (passingAt 
         stands = still-stands (S .state) (S .holds);
       }
 
-  pub left : {o : List ℕ} → LeavesQueue n (256 + e) t o → Does m o (InEndpoint t e) (leaveEndpoint t e)
+  pub left : {o : List ℕ} → LeavesQueue n (endpointQueue e) t o → Does m o (InEndpoint t e) (leaveEndpoint t e)
   unfolding leaveEndpoint
   left {o} U = record { shows = λ s M h. go s M h }
     where
@@ -135,7 +136,7 @@ module _ {m n : List ℕ} {t e : ℕ} (P : Does m n (InEndpoint t e) (passingAt 
       go s M h =
           let z = passingAt t e s in
           let N : Shows n z = P .shows s M h in
-          let L : Linked o (put (queuesOf z) (256 + e) (without t (queuesOf z (256 + e)))) =
+          let L : Linked o (put (queuesOf z) (endpointQueue e) (without t (queuesOf z (endpointQueue e)))) =
           U .links (queuesOf z) (N .links) (still-stands s h) in
           let K : Shows o (waited e (without t (z .endpoints e .waiters)) z) =
           waiters-linked z e (without t (z .endpoints e .waiters)) (h .endpoint) N (U .kept)
@@ -151,7 +152,7 @@ left-loose {m} {t} {e} s M h =
       thread = h .thread;
       level = h .level;
       free = λ q g k.
-          free-leave (256 + e) t (linked-neat (M .links)) (omega (arith, h .endpoint))
+          free-leave (endpointQueue e) t (linked-neat (M .links)) (omega (arith, h .endpoint))
           (rw (endpoint-queue s e) (h .stands)) q g
           (rw (endpoint-queue s e) (rw (queues-endpoint s e _ (h .endpoint) q) at k));
     }

@@ -8,7 +8,7 @@ use Rattle.machine.specs.Lists.{without, Distinct}
 use Rattle.machine.specs.State.{State, Abort}
 use Rattle.machine.proofs.Lists.{distinct-left, distinct-right}
 use Rattle.layout.specs.declared.Part.{Part}
-use Rattle.layout.specs.Addresses.{at}
+use Rattle.layout.specs.Addresses.{at, endpointQueue}
 use Rattle.layout.specs.Words.{firstOf, lastOf, queuesOf}
 use Rattle.layout.specs.Shows.{Shows}
 use Rattle.layout.proofs.Standing.{queues-endpoint}
@@ -26,26 +26,26 @@ module _ {m : List ℕ} {t e : ℕ} (s : State) (M : Shows m s) (h : InEndpoint 
   part-once : Distinct (a .pending)
   part-once =
       let p = h .part a z in
-      let d : Distinct (queuesOf s (256 + e)) = M .links .once (256 + e) (omega (arith, h .endpoint)) in
+      let d : Distinct (queuesOf s (endpointQueue e)) = M .links .once (endpointQueue e) (omega (arith, h .endpoint)) in
       distinct-left (a .pending) (p .1)
       (distinct-right (p .0) (a .pending ++ p .1) (rw (queues-endpoint s e, p .2) at d))
 
   -- The whole queue around a waiter that is to look at.
   around :
       (x y : List ℕ) → a .pending ≡ x ++ (t ∷ y)
-      → queuesOf s (256 + e) ≡ (h .part a z .0 ++ x) ++ (t ∷ (y ++ h .part a z .1))
+      → queuesOf s (endpointQueue e) ≡ (h .part a z .0 ++ x) ++ (t ∷ (y ++ h .part a z .1))
   around x y k =
       let p = h .part a z in
       queues-endpoint s e ∙ p .2 ∙ ap (λ (l : List ℕ). p .0 ++ (l ++ p .1)) k ∙ simp append-assoc
 
   behind-is : {r : ℕ} → Next m t r → (x y : List ℕ) → a .pending ≡ x ++ (t ∷ y) → r ≡ firstOf (y ++ h .part a z .1)
   behind-is N x y k =
-      N .next (queuesOf s) (M .links) (256 + e) (h .part a z .0 ++ x) (y ++ h .part a z .1)
+      N .next (queuesOf s) (M .links) (endpointQueue e) (h .part a z .0 ++ x) (y ++ h .part a z .1)
       (omega (arith, h .endpoint)) (around x y k)
 
   before-is : {r : ℕ} → Prev m t r → (x y : List ℕ) → a .pending ≡ x ++ (t ∷ y) → r ≡ lastOf 0 (h .part a z .0 ++ x)
   before-is N x y k =
-      N .prev (queuesOf s) (M .links) (256 + e) (h .part a z .0 ++ x) (y ++ h .part a z .1)
+      N .prev (queuesOf s) (M .links) (endpointQueue e) (h .part a z .0 ++ x) (y ++ h .part a z .1)
       (omega (arith, h .endpoint)) (around x y k)
 
 -- The abort at e passes t by: marks x and y are stored that are the first and the last of those left, or none is.

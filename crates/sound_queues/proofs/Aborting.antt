@@ -11,7 +11,7 @@ use Rattle.machine.specs.State.{owns}
 use Rattle.layout.specs.declared.Field.{Field}
 use Rattle.layout.specs.declared.Part.{Part}
 use Rattle.layout.specs.declared.Link.{Link}
-use Rattle.layout.specs.Addresses.{linkAt, word}
+use Rattle.layout.specs.Addresses.{linkAt, word, endpointQueue}
 use Rattle.layout.specs.Words.{debtCode}
 use Rattle.layout.specs.Tests.{same}
 use Rattle.soundness.specs.Checks.{threadAt, endpointAt, kindOf, bannedOf, ownerTest, abortTest, statusTest}
@@ -26,7 +26,7 @@ module _ (m : List ℕ) (e : ℕ) where
   -- Status s, where an abort stands if a is not 0.
   module _ (s : ℕ) {a : ℕ} (aborts : a ≡ endpointAt m Part.Aborting e) where
     pub status-absent :
-        {h : ℕ} → s ≡ 0 → h ≡ word m (linkAt (Link.Head (256 + e))) → (eqb h 0 && eqb a 0) ≡ statusTest s m e
+        {h : ℕ} → s ≡ 0 → h ≡ word m (linkAt (Link.Head (endpointQueue e))) → (eqb h 0 && eqb a 0) ≡ statusTest s m e
     unfolding statusTest
     status-absent z f = rw (z, f, aborts)
 

@@ -11,7 +11,7 @@ use borrow.Author.Tests.{eq-eqb, ne-eqb, le-leb, lt-leb}
 use Rattle.layout.specs.declared.Field.{Field}
 use Rattle.layout.specs.declared.Part.{Part}
 use Rattle.layout.specs.declared.Link.{Link}
-use Rattle.layout.specs.Addresses.{word, linkAt}
+use Rattle.layout.specs.Addresses.{word, linkAt, endpointQueue}
 use Rattle.soundness.specs.declared.Phase.{Phase}
 use Rattle.soundness.specs.Checks.{phaseAt, phaseBehind, allowed, complete, threadAt, endpointAt}
 use Rattle.soundness.specs.Checks.{kindOf, bannedOf, waitersFrom, waitersTest, statusTest, abortTest, endpointTest}
@@ -44,8 +44,8 @@ leave-not f d y e h = rw (e, ne-eqb y d h)
 pub record WaitersAt (m : List ℕ) (e k c d b : ℕ) (before after : List ℕ) (f : Phase) (x y left : ℕ) : Type 0 where
   pub few : left ≤ 257
   pub kept : length after ≡ 256
-  pub same : waitersAs m e k ≡ waitersFrom left y f m (256 + e) k c d b x
-  pub passed : MetSoFar before after (metFrom 257 (word m (linkAt (Link.Head (256 + e)))) m) (metFrom left y m)
+  pub same : waitersAs m e k ≡ waitersFrom left y f m (endpointQueue e) k c d b x
+  pub passed : MetSoFar before after (metFrom 257 (word m (linkAt (Link.Head (endpointQueue e)))) m) (metFrom left y m)
 
 -- Thread t is met behind link x, in phase f, as it should be.
 abbrev met-well : List ℕ → ℕ → ℕ → ℕ → Phase → ℕ → ℕ → Bool
@@ -118,49 +118,51 @@ module _ (m : List ℕ) (q k c d b : ℕ) where
 module _ (m : List ℕ) (e k : ℕ) where
   pub waiters-holds :
       (s : List ℕ) {c d b y : ℕ} → length s ≡ 256 → c ≡ endpointAt m Part.Cursor e → d ≡ endpointAt m Part.End e
-      → b ≡ bannedOf m e k → y ≡ word m (linkAt (Link.Head (256 + e))) → WaitersAt m e k c d b s s Phase.Ahead 0 y 257
+      → b ≡ bannedOf m e k → y ≡ word m (linkAt (Link.Head (endpointQueue e)))
+      → WaitersAt m e k c d b s s Phase.Ahead 0 y 257
   waiters-holds s {c} {d} {b} {y} h i j l o =
       rw (i, j, l, o) (record { few = omega arith; kept = h; same = refl; passed = passed-none _ _ })
 
-  waiters-met : waitersAs m e k ≡ true → metFrom 257 (word m (linkAt (Link.Head (256 + e)))) m ≡ met m (256 + e)
+  waiters-met :
+      waitersAs m e k ≡ true → metFrom 257 (word m (linkAt (Link.Head (endpointQueue e)))) m ≡ met m (endpointQueue e)
   unfolding met
   waiters-met h =
-      waiters-short m (256 + e) k (endpointAt m Part.Cursor e) (endpointAt m Part.End e) (bannedOf m e k) 256
-      (word m (linkAt (Link.Head (256 + e)))) Phase.Ahead 0 h
+      waiters-short m (endpointQueue e) k (endpointAt m Part.Cursor e) (endpointAt m Part.End e) (bannedOf m e k) 256
+      (word m (linkAt (Link.Head (endpointQueue e)))) Phase.Ahead 0 h
 
   module _
       {c d b : ℕ} {before after : List ℕ} {f : Phase} {x y left : ℕ}
       (at : WaitersAt m e k c d b before after f x y left) (turn : 0 < left)
     where
       pub waiters-walked :
-          {w : ℕ} {r : Bool} → y ≡ 0 → w ≡ word m (linkAt (Link.Tail (256 + e))) → r ≡ complete f c
-          → Follows before after (met m (256 + e)) (waitersAs m e k) (eqb w x && r)
+          {w : ℕ} {r : Bool} → y ≡ 0 → w ≡ word m (linkAt (Link.Tail (endpointQueue e))) → r ≡ complete f c
+          → Follows before after (met m (endpointQueue e)) (waitersAs m e k) (eqb w x && r)
       waiters-walked {w} {r} z g h =
           let i : (eqb w x && r) ≡ waitersAs m e k =
-          waiters-end m (256 + e) k c d b left y f x turn z g h ∙ sym (at .same) in
+          waiters-end m (endpointQueue e) k c d b left y f x turn z g h ∙ sym (at .same) in
           record {
             is = i;
             meets = λ v. passed-all (rw (waiters-met (sym i ∙ v), met-done m left y z) at (at .passed));
           }
 
       pub waiters-out : 256 < y → false ≡ waitersAs m e k
-      waiters-out z = waiters-far m (256 + e) k c d b left y f x turn z ∙ sym (at .same)
+      waiters-out z = waiters-far m (endpointQueue e) k c d b left y f x turn z ∙ sym (at .same)
 
       pub waiters-bad :
           {h : Phase} {r : Bool} → (y ≡ 0 → ⊥) → y ≤ 256 → h ≡ phaseAt f c y
-          → WaiterStands m (256 + e) k c d b h x y r → r ≡ false → false ≡ waitersAs m e k
-      waiters-bad n z i s v = waiters-not m (256 + e) k c d b left y f x turn n z i s v ∙ sym (at .same)
+          → WaiterStands m (endpointQueue e) k c d b h x y r → r ≡ false → false ≡ waitersAs m e k
+      waiters-bad n z i s v = waiters-not m (endpointQueue e) k c d b left y f x turn n z i s v ∙ sym (at .same)
 
       pub waiters-again :
           {h g : Phase} {r : Bool} {u : ℕ} {marked : List ℕ} → (y ≡ 0 → ⊥) → y ≤ 256 → h ≡ phaseAt f c y
-          → WaiterStands m (256 + e) k c d b h x y r → r ≡ true → g ≡ phaseBehind h d y
+          → WaiterStands m (endpointQueue e) k c d b h x y r → r ≡ true → g ≡ phaseBehind h d y
           → Meets after marked (y - 1) → length marked ≡ length after → u ≡ word m (linkAt (Link.Next (y - 1)))
           → WaitersAt m e k c d b before marked g y u (left - 1)
       waiters-again {u = u} n z i s v a t l w =
           record {
             few = let o = at .few in omega arith;
             kept = l ∙ at .kept;
-            same = at .same ∙ waiters-next m (256 + e) k c d b left y f x turn n z i s v a w;
+            same = at .same ∙ waiters-next m (endpointQueue e) k c d b left y f x turn n z i s v a w;
             passed = passed-more (y - 1) (rw (met-more m left y {z = u} turn n w) at (at .passed)) t;
           }
 
@@ -170,7 +172,7 @@ module _ (m : List ℕ) (e k : ℕ) where
   unfolding waitersFrom
   waiters-long {c} {d} {b} {f = f} {x} {y} {left} at h =
       let z : left ≡ 0 = omega arith in
-      sym (at .same ∙ ap (λ (n : ℕ). waitersFrom n y f m (256 + e) k c d b x) z)
+      sym (at .same ∙ ap (λ (n : ℕ). waitersFrom n y f m (endpointQueue e) k c d b x) z)
 
 -- The whole endpoint
 
@@ -178,7 +180,7 @@ and-assoc : (a b c : Bool) → (a && (b && c)) ≡ ((a && b) && c)
 and-assoc true b c = refl
 and-assoc false b c = refl
 
-module _ (m : List ℕ) (e : ℕ) {k : ℕ} (kind : k ≡ kindOf (word m (linkAt (Link.Head (256 + e)))) m e) where
+module _ (m : List ℕ) (e : ℕ) {k : ℕ} (kind : k ≡ kindOf (word m (linkAt (Link.Head (endpointQueue e)))) m e) where
   -- What is tried before the walk.
   abbrev pub first-tests : Bool
   first-tests =
@@ -227,8 +229,8 @@ walks-all m q n {a} e h t =
     record { is = t; meets = λ _. subst (λ (i : ℕ). a ≡ metIn (metBelow i m)) h e }
 
 pub endpoint-more :
-    (m : List ℕ) (e : ℕ) {b a : List ℕ} {test r : Bool} → Follows b a (met m (256 + e)) test r → r ≡ true
-    → b ≡ metIn (metBelow (256 + e) m) → a ≡ metIn (metBelow (256 + (e + 1)) m)
+    (m : List ℕ) (e : ℕ) {b a : List ℕ} {test r : Bool} → Follows b a (met m (endpointQueue e)) test r → r ≡ true
+    → b ≡ metIn (metBelow (endpointQueue e) m) → a ≡ metIn (metBelow (256 + (e + 1)) m)
 endpoint-more m e {a = a} w h s =
-    let q : 256 + e + 1 ≡ 256 + (e + 1) = omega arith in
-    subst (λ (i : ℕ). a ≡ metIn (metBelow i m)) q (walked-more m (256 + e) w h s)
+    let q : endpointQueue e + 1 ≡ 256 + (e + 1) = omega arith in
+    subst (λ (i : ℕ). a ≡ metIn (metBelow i m)) q (walked-more m (endpointQueue e) w h s)

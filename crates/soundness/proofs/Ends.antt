@@ -14,7 +14,7 @@ use Rattle.layout.specs.declared.Field.{Field}
 use Rattle.layout.specs.declared.Part.{Part}
 use Rattle.layout.specs.declared.Slot.{Slot}
 use Rattle.layout.specs.declared.Link.{Link}
-use Rattle.layout.specs.Addresses.{linkAt, word}
+use Rattle.layout.specs.Addresses.{linkAt, word, endpointQueue}
 use Rattle.layout.specs.Words.{linkOf, firstOf, lastOf, debtCode, statusCode, abortCode, badgeCode, endpointWord}
 use Rattle.layout.specs.Shows.{Chain}
 use Rattle.layout.specs.Decode.{linked, between, abortBy, endpointBy, endpointFrom}
@@ -45,7 +45,7 @@ Aborting m e (suc zero) =
 Aborting m e (suc (suc n)) = ⊥
 
 abbrev Standing : List ℕ → ℕ → ℕ → Type 0
-Standing m e zero = (word m (linkAt (Link.Head (256 + e))) ≡ 0) × (endpointAt m Part.Aborting e ≡ 0)
+Standing m e zero = (word m (linkAt (Link.Head (endpointQueue e))) ≡ 0) × (endpointAt m Part.Aborting e ≡ 0)
 Standing m e (suc zero) = Unit {0}
 Standing m e (suc (suc zero)) = endpointAt m Part.Aborting e ≡ 0
 Standing m e (suc (suc (suc n))) = ⊥
@@ -160,10 +160,10 @@ module _ (m : List ℕ) (e : ℕ) where
 
     end-at :
         (n : ℕ) → endpointAt m Part.Status e ≡ n → Standing m e n → Aborting m e (endpointAt m Part.Aborting e)
-        → Chain m (256 + e) 0 l 0 → Same-end (λ p. endpointAt m p e) l (endpointBy n (λ p. endpointAt m p e) l)
+        → Chain m (endpointQueue e) 0 l 0 → Same-end (λ p. endpointAt m p e) l (endpointBy n (λ p. endpointAt m p e) l)
     end-at zero z t a c =
         end-read missingEndpoint (sym z) (no-abort (t .1) a)
-        (sym (first-zero l (sym (chain-first m (256 + e) 0 l c) ∙ t .0)))
+        (sym (first-zero l (sym (chain-first m (endpointQueue e) 0 l c) ∙ t .0)))
     end-at (suc zero) z t a c =
         end-read (endpointBy 1 (λ p. endpointAt m p e) l) (sym z) (some-abort (endpointAt m Part.Aborting e) refl a)
         refl
@@ -174,7 +174,7 @@ module _ (m : List ℕ) (e : ℕ) where
     -- Where the tests pass, the words are those of the endpoint read off them, and its queue is the one walked.
     pub end-words :
         statusTest (endpointAt m Part.Status e) m e ≡ true → abortTest (endpointAt m Part.Aborting e) m e ≡ true
-        → Chain m (256 + e) 0 l 0
+        → Chain m (endpointQueue e) 0 l 0
         → Same-end (λ p. endpointAt m p e) l (endpointFrom (λ p. endpointAt m p e) l)
     unfolding endpointFrom
     end-words st a =
@@ -202,7 +202,7 @@ module _ (m : List ℕ) (s : State) (R : Reads m s) (e : ℕ) (h : e ≤ 63) whe
 
       go : (z : Status) → s .endpoints e .status ≡ z → Standing m e (statusCode z)
       go missing i = (
-        chain-first m (256 + e) 0 (s .endpoints e .waiters) (end-joined m s R e h) ∙ ap firstOf (X .empty i),
+        chain-first m (endpointQueue e) 0 (s .endpoints e .waiters) (end-joined m s R e h) ∙ ap firstOf (X .empty i),
         no-abort-there (λ j. omega (arith, ap statusCode (sym i ∙ j))),
       )
       go live i = tt

@@ -15,7 +15,7 @@ use Rattle.summary.proofs.Masks.{bits-agree}
 use Rattle.layout.specs.declared.Field.{Field}
 use Rattle.layout.specs.declared.Slot.{Slot}
 use Rattle.layout.specs.declared.Link.{Link}
-use Rattle.layout.specs.Addresses.{ValidSlot, at, linkAt, word}
+use Rattle.layout.specs.Addresses.{ValidSlot, at, linkAt, word, endpointQueue}
 use Rattle.layout.specs.Words.{placeCode, firstOf, occupiedIn, content, queuesOf}
 use Rattle.layout.specs.Shows.{Chain}
 use Rattle.layout.proofs.Chains.{chain-first}
@@ -59,8 +59,8 @@ module _ (m : List ℕ) (s : State) (R : Reads m s) where
   pub level-joined : (p : ℕ) → p ≤ 255 → Chain m p 0 (s .levels p) 0
   level-joined p h = level-chain m s p h (R .chains p (omega arith))
 
-  pub end-joined : (e : ℕ) → e ≤ 63 → Chain m (256 + e) 0 (s .endpoints e .waiters) 0
-  end-joined e h = rw (queues-endpoint s e) at (R .chains (256 + e) (omega arith))
+  pub end-joined : (e : ℕ) → e ≤ 63 → Chain m (endpointQueue e) 0 (s .endpoints e .waiters) 0
+  end-joined e h = rw (queues-endpoint s e) at (R .chains (endpointQueue e) (omega arith))
 
   -- Places, the running thread, the ready ones.
 

@@ -8,7 +8,7 @@ use native.Mathlib.Omega.{arith}
 use borrow.Author.Tests.{le-leb}
 use Rattle.machine.specs.State.{Thread}
 use Rattle.layout.specs.declared.Slot.{Slot}
-use Rattle.layout.specs.Addresses.{ValidSlot, at, word, afterAt}
+use Rattle.layout.specs.Addresses.{ValidSlot, at, word, afterAt, endpointQueue}
 use Rattle.layout.specs.Words.{threadWord, lineCode, content, queuesOf}
 use Rattle.layout.specs.Shows.{Chain}
 use Rattle.layout.specs.Decode.{threadFrom, endpointFrom, lineBy, queueFrom, decode}
@@ -36,7 +36,7 @@ module _ (m : List ℕ) where
   level-at p h = rw (le-leb p 255 h)
 
   end-at : (e : ℕ) → e ≤ 63
-      → decode m .endpoints e ≡ endpointFrom (λ p. endpointAt m p e) (queueFrom m (256 + e))
+      → decode m .endpoints e ≡ endpointFrom (λ p. endpointAt m p e) (queueFrom m (endpointQueue e))
   unfolding decode
   end-at e h = rw (le-leb e 63 h)
 
@@ -54,13 +54,13 @@ module _ (m : List ℕ) (T : Tried m) where
           (sym (level-split m p 257 (word m (afterAt p 0)) 0) ∙ (unfold levelTest in i)) .0
 
   end-same : (e : ℕ) → e ≤ 63
-      → Same-end (λ p. endpointAt m p e) (queueFrom m (256 + e)) (decode m .endpoints e)
+      → Same-end (λ p. endpointAt m p e) (queueFrom m (endpointQueue e)) (decode m .endpoints e)
   end-same e h =
       let r = T .ends e (omega arith) in
       let f = end-found m e (r .1) in
-      rw (end-at m e h) (end-words m e (queueFrom m (256 + e)) _ _ (f .1) (r .0 .0) (r .0 .1) (f .0))
+      rw (end-at m e h) (end-words m e (queueFrom m (endpointQueue e)) _ _ (f .1) (r .0 .0) (r .0 .1) (f .0))
 
-  end-joined : (e : ℕ) → e ≤ 63 → Chain m (256 + e) 0 (decode m .endpoints e .waiters) 0
+  end-joined : (e : ℕ) → e ≤ 63 → Chain m (endpointQueue e) 0 (decode m .endpoints e .waiters) 0
   end-joined e h = rw (end-same e h .queue) (end-found m e (T .ends e (omega arith) .1) .0)
 
   chains : (q : ℕ) → q ≤ 319 → Chain m q 0 (queuesOf (decode m) q) 0

@@ -10,6 +10,7 @@ use Rattle.machine.specs.Lists.{Mem, Distinct}
 use Rattle.machine.specs.State.{State, Thread, Place, able, sending, receiving, owns, Abort, Endpoint, awaited}
 use Rattle.machine.specs.Endpoints.{ownerOf, pendingOf}
 use Rattle.machine.specs.Sound.{Ready, Queued, Queues, Chosen, Marks, Sound}
+use Rattle.layout.specs.Addresses.{endpointQueue}
 use Rattle.layout.specs.Words.{placeCode, debtCode, lineCode, badgeCode, queuesOf}
 use Rattle.layout.specs.Shows.{Linked}
 use Rattle.layout.proofs.Addresses.{below?}
@@ -122,7 +123,7 @@ module _ (m : List ℕ) (s : State) (R : Reads m s) (L : Untried m s) where
 
   end-once : (e : ℕ) → Distinct (s .endpoints e .waiters)
   end-once e =
-      ⊎-elim (λ h. chain-distinct m (256 + e) (s .endpoints e .waiters) (end-joined m s R e (omega arith)))
+      ⊎-elim (λ h. chain-distinct m (endpointQueue e) (s .endpoints e .waiters) (end-joined m s R e (omega arith)))
       (λ h. rw (N .unused-endpoint e h) tt) (below? e 64)
 
   queues : Queues s
@@ -264,7 +265,7 @@ module _ (m : List ℕ) (s : State) (R : Reads m s) (S : Sound s) (K : Linked m 
 
       queued : (e : ℕ) × Queued s t e → InQueue s t
       queued (e, r) = (
-        256 + e,
+        endpointQueue e,
         omega (arith, queued-in m s R t e r .1),
         rw (queues-endpoint s e) (S .queues .queued t e .1 r),
       )

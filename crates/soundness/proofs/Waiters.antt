@@ -16,7 +16,7 @@ use Rattle.layout.specs.declared.Field.{Field}
 use Rattle.layout.specs.declared.Part.{Part}
 use Rattle.layout.specs.declared.Slot.{Slot}
 use Rattle.layout.specs.declared.Link.{Link}
-use Rattle.layout.specs.Addresses.{linkAt, word, afterAt}
+use Rattle.layout.specs.Addresses.{linkAt, word, afterAt, endpointQueue}
 use Rattle.layout.specs.Words.{firstOf, lastOf, placeCode, abortCode, badgeCode}
 use Rattle.layout.specs.Shows.{Chain}
 use Rattle.layout.specs.Decode.{between, queueFrom}
@@ -33,7 +33,7 @@ use Rattle.soundness.proofs.Reading.{Reads, end-joined, tells-seat}
 -- The place that all in the queue must have, and the badge that may not stand outside the marks.
 
 abbrev kindIn : List ℕ → ℕ → ℕ
-kindIn m e = kindOf (word m (linkAt (Link.Head (256 + e)))) m e
+kindIn m e = kindOf (word m (linkAt (Link.Head (endpointQueue e)))) m e
 
 abbrev bannedIn : List ℕ → ℕ → ℕ
 bannedIn m e = bannedOf m e (kindIn m e)
@@ -67,7 +67,7 @@ module _ (m : List ℕ) (e : ℕ) where
       Decides
       (waitersTest m e)
       (Kind m e
-      × (waitersFrom 257 (word m (afterAt (256 + e) 0)) Phase.Ahead m (256 + e) (kindIn m e)
+      × (waitersFrom 257 (word m (afterAt (endpointQueue e) 0)) Phase.Ahead m (endpointQueue e) (kindIn m e)
       (endpointAt m Part.Cursor e)
       (endpointAt m Part.End e) (bannedIn m e) 0 ≡ true))
   unfolding waitersTest
@@ -78,14 +78,14 @@ module _ (m : List ℕ) (e : ℕ) where
   -- The test finds the queue, with its marks.
   pub end-found :
       waitersTest m e ≡ true
-      → Chain m (256 + e) 0 (queueFrom m (256 + e)) 0 × Marks-in m e (queueFrom m (256 + e))
+      → Chain m (endpointQueue e) 0 (queueFrom m (endpointQueue e)) 0 × Marks-in m e (queueFrom m (endpointQueue e))
   end-found h =
-      let r = walk-found m (256 + e) (threadsTest m e)
-      (sym (waiters-split m (256 + e) (kindIn m e) (endpointAt m Part.Cursor e) (endpointAt m Part.End e)
+      let r = walk-found m (endpointQueue e) (threadsTest m e)
+      (sym (waiters-split m (endpointQueue e) (kindIn m e) (endpointAt m Part.Cursor e) (endpointAt m Part.End e)
       (bannedIn m e) 257
-      (word m (afterAt (256 + e) 0)) Phase.Ahead 0) ∙ tells-kind .holds h .1) in
-      let apart = chain-distinct m (256 + e) (queueFrom m (256 + e)) (r .0) in
-      (r .0, tells-threads (queueFrom m (256 + e)) apart .holds (r .1) .1)
+      (word m (afterAt (endpointQueue e) 0)) Phase.Ahead 0) ∙ tells-kind .holds h .1) in
+      let apart = chain-distinct m (endpointQueue e) (queueFrom m (endpointQueue e)) (r .0) in
+      (r .0, tells-threads (queueFrom m (endpointQueue e)) apart .holds (r .1) .1)
 
 -- What the test tells of the state
 
@@ -143,7 +143,7 @@ module _ (m : List ℕ) (s : State) (R : Reads m s) (e : ℕ) (h : e ≤ 63) whe
   small = R .neat .endpoints e .small
 
   apart : Distinct l
-  apart = chain-distinct m (256 + e) l (end-joined m s R e h)
+  apart = chain-distinct m (endpointQueue e) l (end-joined m s R e h)
 
   pending-there : between (endpointAt m Part.Cursor e) (endpointAt m Part.End e) l ≡ pend
   pending-there =
@@ -155,14 +155,14 @@ module _ (m : List ℕ) (s : State) (R : Reads m s) (e : ℕ) (h : e ≤ 63) whe
       tells-map (λ r. (r .0, tells-threads m e l apart .holds (sym walked ∙ r .1)))
       (λ r. (r .0, walked ∙ tells-threads m e l apart .back (r .1))) (tells-kind m e)
     where
-      walked : waitersFrom 257 (word m (afterAt (256 + e) 0)) Phase.Ahead m (256 + e) (kindIn m e)
+      walked : waitersFrom 257 (word m (afterAt (endpointQueue e) 0)) Phase.Ahead m (endpointQueue e) (kindIn m e)
           (endpointAt m Part.Cursor e)
           (endpointAt m Part.End e) (bannedIn m e) 0 ≡ threadsTest m e l
       walked =
-          waiters-split m (256 + e) (kindIn m e) (endpointAt m Part.Cursor e) (endpointAt m Part.End e)
+          waiters-split m (endpointQueue e) (kindIn m e) (endpointAt m Part.Cursor e) (endpointAt m Part.End e)
           (bannedIn m e) 257
-          (word m (afterAt (256 + e) 0)) Phase.Ahead 0
-          ∙ walk-along m (256 + e) l (end-joined m s R e h) small (threadsTest m e)
+          (word m (afterAt (endpointQueue e) 0)) Phase.Ahead 0
+          ∙ walk-along m (endpointQueue e) l (end-joined m s R e h) small (threadsTest m e)
 
   at-place : (t : ℕ) (q : Place) → t ≤ 255 → s .threads t .place ≡ q → threadAt m Field.Place t ≡ placeCode q
   at-place t q k i = R .slots (Slot.Thread Field.Place t) k ∙ ap placeCode i
@@ -197,7 +197,8 @@ module _ (m : List ℕ) (s : State) (R : Reads m s) (e : ℕ) (h : e ≤ 63) whe
   kind-of : (code : ℕ) → ((t : ℕ) → Mem t l → threadAt m Field.Place t ≡ code) → (l ≡ [] → 2 + e ≡ code)
       → kindIn m e ≡ code
   kind-of code f g =
-      rw (chain-first m (256 + e) 0 l (end-joined m s R e h)) (kind-first m e code l (λ t i. (small t i, f t i)) g)
+      rw (chain-first m (endpointQueue e) 0 l (end-joined m s R e h))
+      (kind-first m e code l (λ t i. (small t i, f t i)) g)
 
   to-kind : AllAlike s e → Kind m e × AllOf m e l
   to-kind (inl f) =

@@ -94,4 +94,3 @@ pub word-agree :
     (f g : ℕ → Bool) (w : ℕ) → ((k : ℕ) → k < 32 → f (32 * w + k) ≡ g (32 * w + k)) → wordOf f w ≡ wordOf g w
 unfolding wordOf
 word-agree f g w h = bits-agree 32 (λ k. f (32 * w + k)) (λ k. g (32 * w + k)) h
-

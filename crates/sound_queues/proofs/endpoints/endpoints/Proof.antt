@@ -4,6 +4,7 @@ use mathlib.Core.Bool.{true}
 use mathlib.Core.Path.{_≡_, sym, _∙_}
 use native.Mathlib.Omega.{arith}
 use lib.ListN.{length}
+use Rattle.layout.specs.Addresses.{endpointQueue}
 use borrow.Author.Count.{below-none, below-more}
 use borrow.Author.Needs.{needs}
 use borrow.Author.Tests.{not-true, not-false}
@@ -16,7 +17,7 @@ use Rattle.sound_queues.proofs.endpoints.endpoints.Tie as tie
 
 abbrev Inv-loop : tie.InvT-loop
 Inv-loop tables scratch₀ e₀ scratch e =
-    (e ≤ 64) × (length scratch ≡ 256) × (scratch ≡ metIn (metBelow (256 + e) tables))
+    (e ≤ 64) × (length scratch ≡ 256) × (scratch ≡ metIn (metBelow (endpointQueue e) tables))
     × ((k : ℕ) → k < e → endpointTest tables k ≡ true)
 
 abbrev μ-loop : tie.MeasureT-loop
