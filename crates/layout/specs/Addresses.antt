@@ -117,10 +117,16 @@ word m i = getD m i 0
 
 -- The link from link x of queue q to what comes after it, and to what comes before it. Link 0 is the queue itself, link
 -- t + 1 is thread t.
+abbrev pub afterLink : ℕ → ℕ → Link
+afterLink q zero = Link.Head q
+afterLink q (suc t) = Link.Next t
+
+abbrev pub beforeLink : ℕ → ℕ → Link
+beforeLink q zero = Link.Tail q
+beforeLink q (suc t) = Link.Prev t
+
 abbrev pub afterAt : ℕ → ℕ → ℕ
-afterAt q zero = linkAt (Link.Head q)
-afterAt q (suc t) = linkAt (Link.Next t)
+afterAt q x = linkAt (afterLink q x)
 
 abbrev pub beforeAt : ℕ → ℕ → ℕ
-beforeAt q zero = linkAt (Link.Tail q)
-beforeAt q (suc t) = linkAt (Link.Prev t)
+beforeAt q x = linkAt (beforeLink q x)

@@ -6,11 +6,11 @@ use mathlib.Core.List.{List, [], _∷_, _++_, append-nil}
 use native.Mathlib.Omega.{arith}
 use Rattle.machine.specs.Lists.{Mem, Distinct}
 use Rattle.layout.specs.declared.Link.{Link}
-use Rattle.layout.specs.Addresses.{ValidLink, linkAt, word, afterAt, beforeAt}
+use Rattle.layout.specs.Addresses.{ValidLink, linkAt, word, afterAt, beforeAt, afterLink, beforeLink}
 use Rattle.layout.specs.Words.{firstOf, lastOf}
 use Rattle.layout.specs.Shows.{Joined, Chain}
 use Rattle.layout.proofs.Following.{last-in}
-use Rattle.links.proofs.Names.{afterLink, beforeLink, next-prev, prev-head, prev-tail}
+use Rattle.links.proofs.Names.{next-prev, prev-head, prev-tail}
 use Rattle.links.proofs.Names.{next-head, next-tail, next-after, prev-after, head-after, tail-after, next-before}
 use Rattle.links.proofs.Names.{prev-before, head-before, tail-before}
 use Rattle.links.proofs.Splits.{Outside}

@@ -5,9 +5,9 @@ use mathlib.Core.List.{List}
 use native.Mathlib.Numerals.{add-one}
 use lib.ListN.{set}
 use Rattle.layout.specs.declared.Link.{Link}
-use Rattle.layout.specs.Addresses.{linkAt, word, afterAt}
+use Rattle.layout.specs.Addresses.{linkAt, word, afterLink, afterAt}
 use Rattle.links.specs.Links.{Joinable, JoinsQueue}
-use Rattle.links.proofs.Names.{afterLink, after-link, after-valid, after-before, next-after}
+use Rattle.links.proofs.Names.{after-valid, after-before, next-after}
 use Rattle.links.proofs.Names.{next-prev, next-tail, prev-tail}
 use Rattle.links.proofs.Splits.{of-mem}
 use Rattle.links.proofs.Readings.{tail-of, link-small}
@@ -15,6 +15,7 @@ use Rattle.links.proofs.Chains.{Around}
 use Rattle.links.proofs.Relinks.{linked-join}
 use Rattle.links.proofs.Writes.{WroteLink, wrote, kept-one, kept-more}
 
+-- The last of the queue, which the stores ask for, is a link.
 pub tail-small : {m : List ℕ} {q t p : ℕ} → Joinable m q t → p ≡ word m (linkAt (Link.Tail q)) → p ≤ 256
 tail-small {m} {q} {t} {p} J e =
     let L = J .linked in rw e (link-small L q (J .queue) (word m (linkAt (Link.Tail q))) (tail-of L q (J .queue)))
@@ -28,7 +29,7 @@ module _ {m n₁ n₂ n : List ℕ} {q t p : ℕ} (J : Joinable m q t) (last : p
   after-last : word n (afterAt q p) ≡ suc t
   after-last =
       let h = after-valid q p (J .queue) (tail-small J last) in
-      ap (word n) (after-link q p) ∙ W₃ .others (afterLink q p) h (after-before q p q 0)
+      W₃ .others (afterLink q p) h (after-before q p q 0)
       ∙ W₂ .others (afterLink q p) h (after-before q p q (suc t)) ∙ W₁ .here
 
   before-t : word n (linkAt (Link.Prev t)) ≡ p
@@ -58,7 +59,7 @@ pub pushed :
     → n ≡ set n₂ (linkAt (Link.Tail q)) (t + 1) → JoinsQueue m q t n
 pushed {m} {n₁} {n₂} {n} {q} {t} {p} J e f₁ f₂ f₃ =
     let h = after-valid q p (J .queue) (tail-small J e) in
-    let W₁ = wrote (afterLink q p) (J .size) h (rw (after-link, add-one) at f₁) in
+    let W₁ = wrote (afterLink q p) (J .size) h (rw add-one at f₁) in
     let W₂ = wrote (Link.Prev t) (W₁ .size) (J .thread) f₂ in
     let W₃ = wrote (Link.Tail q) (W₂ .size) (J .queue) (rw add-one at f₃) in
     joined J e W₁ W₂ W₃

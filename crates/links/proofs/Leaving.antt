@@ -5,9 +5,9 @@ use mathlib.Core.List.{List, _∷_, _++_}
 use lib.ListN.{set}
 use Rattle.machine.specs.Lists.{Distinct}
 use Rattle.layout.specs.declared.Link.{Link}
-use Rattle.layout.specs.Addresses.{linkAt, word, afterAt, beforeAt}
+use Rattle.layout.specs.Addresses.{linkAt, word, afterLink, beforeLink, afterAt, beforeAt}
 use Rattle.links.specs.Links.{Leavable, LeavesQueue}
-use Rattle.links.proofs.Names.{afterLink, beforeLink, after-link, before-link, after-valid, before-valid}
+use Rattle.links.proofs.Names.{after-valid, before-valid}
 use Rattle.links.proofs.Names.{after-before, next-after, prev-before, next-prev}
 use Rattle.links.proofs.Splits.{of-mem, split, not-before, not-behind}
 use Rattle.links.proofs.Readings.{next-small, prev-small, next-of, prev-of}
@@ -60,15 +60,14 @@ module _ {m n₁ n₂ n₃ n : List ℕ} {q t p w : ℕ} (G : Leavable m q t) (B
   after-p : word n (afterAt q p) ≡ w
   after-p =
       let h = after-valid q p (G .queue) (B .before-small) in
-      ap (word n) (after-link q p) ∙ W₄ .others (afterLink q p) h (after-before q p q (suc t))
+      W₄ .others (afterLink q p) h (after-before q p q (suc t))
       ∙ W₃ .others (afterLink q p) h (λ e. B .before-other (next-after t q p (sym e)))
       ∙ W₂ .others (afterLink q p) h (after-before q p q w) ∙ W₁ .here
 
   before-w : word n (beforeAt q w) ≡ p
   before-w =
       let h = before-valid q w (G .queue) (B .after-small) in
-      ap (word n) (before-link q w)
-      ∙ W₄ .others (beforeLink q w) h (λ e. B .after-other (prev-before t q w (sym e)))
+      W₄ .others (beforeLink q w) h (λ e. B .after-other (prev-before t q w (sym e)))
       ∙ W₃ .others (beforeLink q w) h (λ e. after-before q (suc t) q w (sym e)) ∙ W₂ .here
 
   bare : (word n (linkAt (Link.Next t)) ≡ 0) × (word n (linkAt (Link.Prev t)) ≡ 0)
@@ -91,8 +90,8 @@ pub unlinked :
 unlinked {m} {n₁} {n₂} {n₃} {n} {q} {t} {p} {w} G B f₁ f₂ f₃ f₄ =
     let hp = after-valid q p (G .queue) (B .before-small) in
     let hw = before-valid q w (G .queue) (B .after-small) in
-    let W₁ = wrote (afterLink q p) (G .size) hp (rw after-link at f₁) in
-    let W₂ = wrote (beforeLink q w) (W₁ .size) hw (rw before-link at f₂) in
+    let W₁ = wrote (afterLink q p) (G .size) hp f₁ in
+    let W₂ = wrote (beforeLink q w) (W₁ .size) hw f₂ in
     let W₃ = wrote (Link.Next t) (W₂ .size) (B .thread) f₃ in
     let W₄ = wrote (Link.Prev t) (W₃ .size) (B .thread) f₄ in
     left G B W₁ W₂ W₃ W₄

@@ -1,25 +1,9 @@
--- The links around a link by name: the link after x and the link before x of a queue, and which other links they are.
+-- The link after x and the link before x of a queue: in range, and which other links they are.
 use Prim.Native.Nat.{ℕ, zero, suc, _≤_}
 use mathlib.Core.Path.{_≡_, refl, sym}
 use native.Mathlib.Omega.{arith}
 use Rattle.layout.specs.declared.Link.{Link}
-use Rattle.layout.specs.Addresses.{ValidLink, linkAt, afterAt, beforeAt}
-
-abbrev pub afterLink : ℕ → ℕ → Link
-afterLink q zero = Link.Head q
-afterLink q (suc t) = Link.Next t
-
-abbrev pub beforeLink : ℕ → ℕ → Link
-beforeLink q zero = Link.Tail q
-beforeLink q (suc t) = Link.Prev t
-
-pub after-link : (q x : ℕ) → afterAt q x ≡ linkAt (afterLink q x)
-after-link q zero = refl
-after-link q (suc t) = refl
-
-pub before-link : (q x : ℕ) → beforeAt q x ≡ linkAt (beforeLink q x)
-before-link q zero = refl
-before-link q (suc t) = refl
+use Rattle.layout.specs.Addresses.{ValidLink, afterLink, beforeLink}
 
 pub after-valid : (q x : ℕ) → q ≤ 319 → x ≤ 256 → ValidLink (afterLink q x)
 after-valid q zero h g = h

@@ -1,6 +1,6 @@
 -- An endpoint's words: where its tests pass they are those of the endpoint read off them; and what is left of the tests
 -- once they are a neat endpoint's: that the owner of its abort owes it.
-use Prim.Native.Nat.{ℕ, zero, suc, _+_, _-_, _^_, _≤_, _<_}
+use Prim.Native.Nat.{ℕ, zero, suc, _-_, _^_, _≤_, _<_}
 use mathlib.Core.Path.{_≡_, refl, sym, _∙_, ap, subst}
 use mathlib.Core.Logic.{_↔_, ⊎-elim}
 use mathlib.Core.Bool.{true}

@@ -1,5 +1,5 @@
 -- A memory whose words are those of a neat state and whose links join its queues: what words and walks tell of it.
-use Prim.Native.Nat.{ℕ, suc, _+_, _≤_}
+use Prim.Native.Nat.{ℕ, suc, _≤_}
 use mathlib.Core.Path.{_≡_, refl, ap}
 use mathlib.Core.Bool.{not}
 use mathlib.Core.Option.{some}

@@ -1,6 +1,6 @@
 -- From the tests to a state: where they pass, the words are those of the state decoded from them, and the links join
 -- its queues.
-use Prim.Native.Nat.{ℕ, _+_, _≤_}
+use Prim.Native.Nat.{ℕ, _≤_}
 use mathlib.Core.Path.{_≡_, sym, _∙_, ap}
 use mathlib.Core.Bool.{true}
 use mathlib.Core.List.{List}

@@ -3,7 +3,8 @@ use Prim.Native.Nat.{ℕ}
 use mathlib.Core.Path.{_≡_, refl, _∙_, ap, subst}
 use mathlib.Core.List.{List}
 use Rattle.machine.specs.Lists.{put}
-use Rattle.machine.specs.State.{State, Thread, Place, Debt, nothing, setThread, withPlace, withPriority, withTicks, withDebt}
+use Rattle.machine.specs.State.{State, Thread, Place, Debt, nothing, setThread, withPlace, withPriority, withTicks}
+use Rattle.machine.specs.State.{withDebt}
 use Rattle.machine.proofs.Lists.{Same, same, other, same?, put-same, put-other}
 use Rattle.layout.specs.Shows.{Shows}
 use Rattle.store.specs.Steps.{Shown, Does}
