@@ -206,7 +206,8 @@ fn store_level(tables: &mut [u32], sm: Summary, p: u32)
     ensures { λ _. ⌜ WritesLevel (now (tables .entry)) sm p (now (tables .exit)) ⌝ }
 {
     let w = (p / 32) as usize;
-    let word = sm.words[w];
+    let row = sm.words;
+    let word = row[w];
     words::put(tables, Slot::Summary(w), word);
     words::put(tables, Slot::Top, sm.top);
 }

@@ -27,29 +27,36 @@ impl Summary {
         }
     }
 
-    // The summary with level p occupied. Its word is then not 0, so the word's bit is set too.
-    pub fn occupied(mut self, p: u32) -> Self
+    // The summary with level p occupied. Its word is then not 0, so the word's bit is set too. The words stand in an
+    // array of their own while one is changed, so that the top word need not.
+    pub fn occupied(self, p: u32) -> Self
         requires { ⌜ p < 256 ⌝ }
         ensures { λ r. ⌜ SetsBit self p true r ⌝ }
     {
         let w = (p / 32) as usize;
-        self.words[w] |= 1u32 << (p % 32);
-        self.top |= 1u32 << (p / 32);
-        self
+        let mut words = self.words;
+        words[w] |= 1u32 << (p % 32);
+        let top = self.top | 1u32 << (p / 32);
+        Summary { words, top }
     }
 
     // The summary with level p empty. The word's bit goes with the last level of the word.
-    pub fn emptied(mut self, p: u32) -> Self
+    pub fn emptied(self, p: u32) -> Self
         requires { ⌜ p < 256 ⌝ }
         ensures { λ r. ⌜ SetsBit self p false r ⌝ }
     {
         let w = (p / 32) as usize;
-        let word = self.words[w] & !(1u32 << (p % 32));
-        self.words[w] = word;
+        let mut words = self.words;
+        let word = words[w] & !(1u32 << (p % 32));
+        words[w] = word;
         if word == 0 {
-            self.top &= !(1u32 << (p / 32));
+            let top = self.top & !(1u32 << (p / 32));
+            return Summary { words, top };
         }
-        self
+        Summary {
+            words,
+            top: self.top,
+        }
     }
 
     // The highest occupied level, by the leading zeros of the top word and then of the word that it names.

@@ -10,8 +10,8 @@ cast-w c = search needs
 mul-word : tie.Need-mul-word
 mul-word c = search needs
 
-element-copy-out-word : tie.Need-element-copy-out-word
-element-copy-out-word c = search needs
+array-read-word : tie.Need-array-read-word
+array-read-word c = search needs
 
 put-requires : tie.Need-put-requires
 put-requires c κs = search needs
@@ -35,7 +35,7 @@ store-level-spec =
     (tie.spec
     cast-w
     mul-word
-    element-copy-out-word
+    array-read-word
     put-requires
     put-requires-2
     same-length

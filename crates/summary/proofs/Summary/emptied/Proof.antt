@@ -10,30 +10,33 @@ cast-w c = search needs
 mul-word : tie.Need-mul-word
 mul-word c = search needs
 
-element-copy-out-word : tie.Need-element-copy-out-word
-element-copy-out-word c = search needs
+array-read-word : tie.Need-array-read-word
+array-read-word c = search needs
 
 shl-word : tie.Need-shl-word
 shl-word c = search needs
 
-mul-self : tie.Need-mul-self
-mul-self c = search needs
+mul-words : tie.Need-mul-words
+mul-words c = search needs
 
-element-write-self : tie.Need-element-write-self
-element-write-self c = search needs
+array-write-words : tie.Need-array-write-words
+array-write-words c = search needs
 
-shl-self : tie.Need-shl-self
-shl-self c = search needs
+shl-top : tie.Need-shl-top
+shl-top c = search needs
 
 returns : tie.Need-returns
 returns c =
-    marks-emptied (c .before .before .args .t1) (c .before .before .args .p) (c .before .before .pre) (c .if1 .taken)
+    let at-if1 = c .before in
+    let at-start = at-if1 .before .before in
+    marks-emptied (at-start .args .self) (at-start .args .p) (at-start .pre) (at-if1 .if1 .taken)
 
 returns-2 : tie.Need-returns-2
 returns-2 c =
-    marks-kept (c .before .before .args .t1) (c .before .before .args .p) (c .before .before .pre) (c .if1 .left)
+    let at-start = c .before .before in
+    marks-kept (at-start .args .self) (at-start .args .p) (at-start .pre) (c .if1 .left)
 
 pub emptied-spec : {M : Type 1} → statement M
 emptied-spec =
     tie.close
-    (tie.spec cast-w mul-word element-copy-out-word shl-word mul-self element-write-self shl-self returns returns-2)
+    (tie.spec cast-w mul-word array-read-word shl-word mul-words array-write-words shl-top returns returns-2)

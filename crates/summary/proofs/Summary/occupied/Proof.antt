@@ -7,25 +7,27 @@ use Rattle.summary.proofs.Summary.occupied.Tie as tie
 cast-w : tie.Need-cast-w
 cast-w c = search needs
 
-shl-self : tie.Need-shl-self
-shl-self c = search needs
+shl-words : tie.Need-shl-words
+shl-words c = search needs
 
-mul-self : tie.Need-mul-self
-mul-self c = search needs
+mul-words : tie.Need-mul-words
+mul-words c = search needs
 
-element-copy-out-self : tie.Need-element-copy-out-self
-element-copy-out-self c = search needs
+array-read-words : tie.Need-array-read-words
+array-read-words c = search needs
 
-element-write-self : tie.Need-element-write-self
-element-write-self c = search needs
+array-write-words : tie.Need-array-write-words
+array-write-words c = search needs
 
-shl-self-2 : tie.Need-shl-self-2
-shl-self-2 c = search needs
+shl-top : tie.Need-shl-top
+shl-top c = search needs
 
 returns : tie.Need-returns
-returns c = marks-occupied (c .before .args .t1) (c .before .args .p) (c .before .pre)
+returns c =
+    let at-start = c .before .before in
+    marks-occupied (at-start .args .self) (at-start .args .p) (at-start .pre)
 
 pub occupied-spec : {M : Type 1} → statement M
 occupied-spec =
     tie.close
-    (tie.spec cast-w shl-self mul-self element-copy-out-self element-write-self shl-self-2 returns)
+    (tie.spec cast-w shl-words mul-words array-read-words array-write-words shl-top returns)
