@@ -1,5 +1,5 @@
 -- Each arm is given its name, and with it the bound of its number.
-use mathlib.Core.Path.{subst}
+use mathlib.Core.Path.{refl, subst}
 use native.Mathlib.Omega.{arith}
 use Rattle.layout.specs.Addresses.{ValidSlot, at}
 use borrow.Author.Needs.{needs}
@@ -91,11 +91,11 @@ returns-4 c =
 
 returns-5 : tie.Need-returns-5
 unfolding at
-returns-5 c = search needs
+returns-5 c = rw (c .enum-told .given .1) (record { is = refl; small = omega arith })
 
 returns-6 : tie.Need-returns-6
 unfolding at
-returns-6 c = search needs
+returns-6 c = rw (c .enum-told2 .given .1) (record { is = refl; small = omega arith })
 
 returns-7 : tie.Need-returns-7
 unfolding at
