@@ -1,7 +1,6 @@
 #!/bin/sh
 # documents.sh: every listing that a document shows is what the program writes. A listing is a block that begins with
-# the listing's header; what stands last in backquotes before the block is
-# the journal's file, or its words. The last
+# the listing's header; what stands last in backquotes before the block is the journal's file, or its words. The last
 # line is 'documents: N passed, M failed'; the exit status is 0 only where nothing failed.
 set -u
 cd "$(dirname "$0")/.." || exit 2

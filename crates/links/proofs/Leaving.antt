@@ -1,6 +1,6 @@
 -- The four stores of unlink: what they ask of the words and what the links are after them.
 use Prim.Native.Nat.{ℕ, suc, _≤_}
-use mathlib.Core.Path.{_≡_, sym, _∙_, ap}
+use mathlib.Core.Path.{_≡_, sym, _∙_}
 use mathlib.Core.List.{List, _∷_, _++_}
 use lib.ListN.{set}
 use Rattle.machine.specs.Lists.{Distinct}

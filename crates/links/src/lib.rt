@@ -1,5 +1,5 @@
 // Doubly linked queues in the lent words. The queue itself is link 0, so the first and the next, the last and the one
-// before are one thing, and no operation branches.
+// before are one thing, and each operation is the same stores wherever a thread stands.
 ghost use mathlib.Core.Path.{_≡_};
 ghost use Prim.Native.Nat.{_≤_};
 ghost use lib.ListN.{length};

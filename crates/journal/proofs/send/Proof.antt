@@ -13,9 +13,7 @@ use Rattle.journal.proofs.send.Statement.{statement}
 use Rattle.journal.proofs.send.Tie as tie
 
 abbrev start : tie.After-badge → tie.Start
-start c =
-    let at-start = c .before .before .before .before in
-    at-start
+start c = c .before .before .before .before
 
 -- the badge that was found
 badge-is : (c : tie.After-badge) → numberIn 2 (start c .args .rest .now) ≡ some (c .badge .given .0 .0)

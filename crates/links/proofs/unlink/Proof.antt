@@ -8,9 +8,7 @@ use Rattle.links.proofs.unlink.Tie as tie
 -- What is known when both links of t are read: the contract's premise, and the neighbours.
 
 abbrev start : tie.After-get-link2 → tie.Start
-start c =
-    let at-start = c .before .before .before .before .before in
-    at-start
+start c = c .before .before .before .before .before
 
 pre : (c : tie.After-get-link2) → Leavable (start c .args .tables .now) (start c .args .q) (start c .args .t)
 pre c = start c .pre

@@ -13,14 +13,10 @@ use Rattle.lister.proofs.byte.Statement.{statement}
 use Rattle.lister.proofs.byte.Tie as tie
 
 abbrev start : tie.After-hold → tie.Start
-start c =
-    let at-start = c .before .before .before .before .before .before in
-    at-start
+start c = c .before .before .before .before .before .before
 
 abbrev held : tie.Else2 → tie.After-hold
-held c =
-    let at-hold = c .before .before .before .before in
-    at-hold
+held c = c .before .before .before .before
 
 -- one byte more is held
 one : (c : tie.After-hold) → c .hold .result .held ≡ start c .args .from .held + 1

@@ -9,19 +9,13 @@ use Rattle.listing.proofs.fields.Statement.{statement}
 use Rattle.listing.proofs.fields.Tie as tie
 
 abbrev start : tie.After-field → tie.Start
-start c =
-    let at-start = c .before .before .before .before in
-    at-start
+start c = c .before .before .before .before
 
 abbrev first : tie.After-field2 → tie.After-field
-first c =
-    let at-field = c .before .before .before .before .before in
-    at-field
+first c = c .before .before .before .before .before
 
 abbrev second : tie.After-field3 → tie.After-field2
-second c =
-    let at-field2 = c .before .before .before .before .before in
-    at-field2
+second c = c .before .before .before .before .before
 
 -- Room for the numbers that follow each.
 

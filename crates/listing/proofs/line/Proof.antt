@@ -59,9 +59,7 @@ room₁ c =
     (c .field .ensures)
 
 abbrev second : tie.After-field2 → tie.After-field
-second c =
-    let at-field = c .before .before .before .before .before in
-    at-field
+second c = c .before .before .before .before .before
 
 room₂ : (c : tie.After-field2) → Room (c .field2 .last .0) (c .field2 .result) (fromAnswer (row (first (second c))))
 room₂ c =
@@ -69,9 +67,7 @@ room₂ c =
     rest-room (spaced (the-row .call)) (fromAnswer the-row) (room₁ (second c)) (c .field2 .ensures)
 
 abbrev third : tie.After-fields → tie.After-field2
-third c =
-    let at-field2 = c .before .before .before .before in
-    at-field2
+third c = c .before .before .before .before
 
 room₃ :
     (c : tie.After-fields)
@@ -81,9 +77,7 @@ room₃ c =
     rest-room (answerText (the-row .answer)) (fromRunning the-row) (room₂ (third c)) (c .fields .ensures)
 
 abbrev fourth : tie.After-who → tie.After-fields
-fourth c =
-    let at-fields = c .before .before .before .before in
-    at-fields
+fourth c = c .before .before .before .before
 
 room₄ : (c : tie.After-who) → Room (c .who .last .0) (c .who .result) newline
 room₄ c =
