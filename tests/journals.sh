@@ -1,7 +1,8 @@
 #!/bin/sh
 # journals.sh PROGRAM: runs the program `trace` on every journal of tests/journals and compares its listings with those
-# there. Each journal comes once as a file and once byte by byte, so that words arrive in pieces. The last line is
-# 'journals: N passed, M failed'; the exit status is 0 only where nothing failed.
+# there. Each journal comes once as a file and once byte by byte, so that words arrive in pieces. The listings of the
+# journals in which nobody is displaced are besides held to release 6. The last line is 'journals: N passed, M failed';
+# the exit status is 0 only where nothing failed.
 set -u
 if [ $# -ne 1 ] || [ ! -x "$1" ]; then
     echo "usage: journals.sh PROGRAM, the path of the program trace" >&2
@@ -27,5 +28,11 @@ for journal in "$folder"/*.words; do
         failed=$((failed + 1))
     fi
 done
+if (cd "$folder" && sha256sum --check --status release-6.sums); then
+    passed=$((passed + 1))
+else
+    echo "failed: a listing without displacement is not that of release 6"
+    failed=$((failed + 1))
+fi
 echo "journals: $passed passed, $failed failed"
 [ "$failed" -eq 0 ] && [ "$passed" -gt 0 ]

@@ -35,14 +35,14 @@ lines =
     ∷ line 1 1 0 0 0 0 1
     ∷ line 2 1 0 0 0 0 3
     ∷ line 3 4 0 0 0 0 3
-    ∷ line 4 7 1 0 0 0 2
-    ∷ line 5 7 1 0 0 0 1
+    ∷ line 4 7 1 0 0 0 1
+    ∷ line 5 7 1 0 0 0 2
     ∷ line 6 12 2 1 0 0 3
     ∷ line 7 7 26 0 0 0 3
     ∷ line 8 8 0 0 8 200 3
     ∷ line 9 12 0 0 0 0 3
-    ∷ line 10 2 0 0 0 0 1
-    ∷ line 11 12 0 0 0 0 1
+    ∷ line 10 2 0 0 0 0 2
+    ∷ line 11 12 0 0 0 0 2
     ∷ []
 
 -- "The twelve lines above are proved of the machine."

@@ -12,7 +12,7 @@ use Rattle.machine.specs.State.{State, Status, missing, live, closing, Endpoint
 use Rattle.machine.specs.Results.{plain}
 use Rattle.machine.specs.Machine.{createAt, createEndpoint, perform, performIf, step, tick}
 use Rattle.machine.specs.Sound.{Sound}
-use Rattle.machine.proofs.Calls.Running.{choose-keeps}
+use Rattle.machine.proofs.Running.{choose-keeps}
 use Rattle.machine.proofs.Preserved.Steps.{step-sound, fresh-sound}
 use Rattle.layout.specs.Addresses.{scratchWords}
 use Rattle.layout.specs.Words.{image}

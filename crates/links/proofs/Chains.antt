@@ -2,18 +2,19 @@
 use Prim.Native.Nat.{ℕ, zero, suc, _≤_}
 use mathlib.Core.Path.{_≡_, refl, sym, _∙_, ap, subst}
 use mathlib.Core.Logic.{inl, inr}
-use mathlib.Core.List.{List, [], _∷_, _++_, append-nil}
+use mathlib.Core.List.{List, [], _∷_, _++_}
 use native.Mathlib.Omega.{arith}
 use Rattle.machine.specs.Lists.{Mem, Distinct}
+use Rattle.machine.proofs.Lists.{mem-left, mem-right, distinct-left, distinct-right, distinct-apart}
 use Rattle.layout.specs.declared.Link.{Link}
-use Rattle.layout.specs.Addresses.{ValidLink, linkAt, word, afterAt, beforeAt, afterLink, beforeLink}
+use Rattle.layout.specs.Addresses.{ValidLink, linkAt, word, afterAt, afterLink, beforeLink}
 use Rattle.layout.specs.Words.{firstOf, lastOf}
 use Rattle.layout.specs.Shows.{Joined, Chain}
 use Rattle.layout.proofs.Following.{last-in}
 use Rattle.links.proofs.Names.{next-prev, prev-head, prev-tail}
 use Rattle.links.proofs.Names.{next-head, next-tail, next-after, prev-after, head-after, tail-after, next-before}
 use Rattle.links.proofs.Names.{prev-before, head-before, tail-before}
-use Rattle.links.proofs.Splits.{Outside}
+use Rattle.links.proofs.Splits.{Of, Outside, of-mem, first-of, last-of, not-before, not-behind}
 
 -- A chain whose words are the same.
 pub chain-frame :
@@ -90,36 +91,55 @@ module _ {m n : List ℕ} {q p w t : ℕ} (A : Around m n q p w t) where
             (λ b j. k b (inr j)) f (c .1),
       )
 
-  -- t joins a chain at its end.
-  pub chain-join :
-      (l : List ℕ) → q ≤ 319 → w ≡ 0 → lastOf 0 l ≡ p → Distinct l → ((u : ℕ) → Mem u l → (u ≤ 255) × (u ≡ t → ⊥))
-      → word n (afterAt q p) ≡ suc t → word n (linkAt (Link.Prev t)) ≡ p → word n (linkAt (Link.Next t)) ≡ 0
-      → word n (linkAt (Link.Tail q)) ≡ suc t → Chain m q 0 l 0 → Chain n q 0 (l ++ (t ∷ [])) 0
-  chain-join l h z e d k fa fb fn ft c =
-      prefix 0 l [] (t ∷ []) h (omega arith) (λ y. omega arith) (λ u y. absurd (omega arith)) e d
-      (λ u j. (k u j .0, k u j .1, λ y. omega arith))
-      (λ _. (record { after = fa; before = fb }, record { after = fn; before = ft })) (rw append-nil c)
-
-  -- t leaves a chain.
-  pub chain-leave :
-      (a b : List ℕ) → q ≤ 319 → lastOf 0 a ≡ p → firstOf b ≡ w → Distinct a → Distinct b
-      → ((u : ℕ) → Mem u a → (u ≤ 255) × (u ≡ t → ⊥) × (suc u ≡ w → ⊥))
+  -- The part of a chain from link w on stays as it is, behind another link.
+  suffix :
+      (x y : ℕ) (b : List ℕ) → q ≤ 319 → firstOf b ≡ w → Distinct b
       → ((u : ℕ) → Mem u b → (u ≤ 255) × (u ≡ t → ⊥) × (suc u ≡ p → ⊥))
-      → word n (afterAt q p) ≡ w → word n (beforeAt q w) ≡ p → Chain m q 0 (a ++ (t ∷ b)) 0 → Chain n q 0 (a ++ b) 0
-  chain-leave a b h e f da db ka kb fa fb c =
-      prefix 0 a (t ∷ b) b h (omega arith) (λ y. omega arith) (λ u y. absurd (omega arith)) e da ka
-      (go b f db kb) c
-    where
-      go : (b : List ℕ) → firstOf b ≡ w → Distinct b
-          → ((u : ℕ) → Mem u b → (u ≤ 255) × (u ≡ t → ⊥) × (suc u ≡ p → ⊥)) → Chain m q p (t ∷ b) 0 → Chain n q p b 0
-      go [] f d k c =
-          record { after = fa ∙ sym f; before = subst (λ (z : ℕ). word n (beforeAt q z) ≡ p) (sym f) fb }
-      go (v ∷ b) f d k c =
-          let i = k v (inl refl) in (
-            record { after = fa ∙ sym f; before = subst (λ (z : ℕ). word n (beforeAt q z) ≡ p) (sym f) fb },
-            chain-frame m n q (suc v) b (nexts v (i .0) (i .1) (i .2))
-                (λ u j. nexts u (k u (inr j) .0) (k u (inr j) .1) (k u (inr j) .2))
-                (λ u j. prevs u (k u (inr j) .0) (k u (inr j) .1)
-                (λ z. d .0 (subst (λ (x : ℕ). Mem x b) (let y : u ≡ v = omega arith in y) j)))
-                (tails q h (λ _ z. omega arith)) (c .1 .1),
-          )
+      → Joined n q y w → Chain m q x b 0 → Chain n q y b 0
+  suffix x y [] h f d k j c = subst (λ (z : ℕ). Joined n q y z) (sym f) j
+  suffix x y (v ∷ b) h f d k j c =
+      let i = k v (inl refl) in (
+        subst (λ (z : ℕ). Joined n q y z) (sym f) j,
+        chain-frame m n q (suc v) b (nexts v (i .0) (i .1) (i .2))
+            (λ u j. nexts u (k u (inr j) .0) (k u (inr j) .1) (k u (inr j) .2))
+            (λ u j. prevs u (k u (inr j) .0) (k u (inr j) .1)
+            (λ z. d .0 (subst (λ (x : ℕ). Mem x b) (let y : u ≡ v = omega arith in y) j)))
+            (tails q h (λ _ z. omega arith)) (c .1),
+      )
+
+  -- t between a, which ends at p, and b, which begins at w.
+  module _ (a b : List ℕ) (h : q ≤ 319) (e : lastOf 0 a ≡ p) (f : firstOf b ≡ w) (d : Distinct (a ++ (t ∷ b)))
+      (small : (u : ℕ) → Mem u (a ++ (t ∷ b)) → u ≤ 255) where
+    across : (u : ℕ) → Mem u a → Mem u b → ⊥
+    across u i j = distinct-apart u a (t ∷ b) d i (inr j)
+
+    left : (u : ℕ) → Mem u a → (u ≤ 255) × (u ≡ t → ⊥) × (suc u ≡ w → ⊥)
+    left u i =
+        let w-of : Of b w = subst (λ (x : ℕ). Of b x) f (first-of b b (λ _ k. k)) in (
+          small u (mem-left u a (t ∷ b) i),
+          λ y. not-before t a b d (subst (λ (v : ℕ). Mem v a) y i),
+          λ y. across u i (of-mem b u y w-of),
+        )
+
+    right : (u : ℕ) → Mem u b → (u ≤ 255) × (u ≡ t → ⊥) × (suc u ≡ p → ⊥)
+    right u i =
+        let p-of : Of a p = subst (λ (x : ℕ). Of a x) e (last-of 0 a a tt (λ _ k. k)) in (
+          small u (mem-right u a (t ∷ b) (inr i)),
+          λ y. not-behind t a b d (subst (λ (v : ℕ). Mem v b) y i),
+          λ y. across u (of-mem a u y p-of) i,
+        )
+
+    around-t : (r s : List ℕ) → (Chain m q p r 0 → Chain n q p s 0) → Chain m q 0 (a ++ r) 0 → Chain n q 0 (a ++ s) 0
+    around-t r s =
+        prefix 0 a r s h (omega arith) (λ y. omega arith) (λ u y. absurd (omega arith)) e
+        (distinct-left a (t ∷ b) d) left
+
+    behind-t : (x y : ℕ) → Joined n q y w → Chain m q x b 0 → Chain n q y b 0
+    behind-t x y = suffix x y b h f (distinct-right a (t ∷ b) d .1) right
+
+    pub chain-join :
+        Joined n q p (suc t) → Joined n q (suc t) w → Chain m q 0 (a ++ b) 0 → Chain n q 0 (a ++ (t ∷ b)) 0
+    chain-join into out = around-t b (t ∷ b) (λ c. (into, behind-t p (suc t) out c))
+
+    pub chain-leave : Joined n q p w → Chain m q 0 (a ++ (t ∷ b)) 0 → Chain n q 0 (a ++ b) 0
+    chain-leave j = around-t (t ∷ b) b (λ c. behind-t (suc t) p j (c .1))

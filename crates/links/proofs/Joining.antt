@@ -1,65 +1,90 @@
--- The three stores of push_tail: what they ask of the words and what the links are after them.
+-- Joining a queue at either end by three stores: what they ask of the words, and the links after them.
 use Prim.Native.Nat.{ℕ, suc, _+_, _≤_}
-use mathlib.Core.Path.{_≡_, sym, _∙_}
+use mathlib.Core.Path.{_≡_, refl, sym, _∙_}
 use mathlib.Core.List.{List}
 use native.Mathlib.Numerals.{add-one}
 use lib.ListN.{set}
+use Rattle.machine.proofs.Lists.{at-head, at-tail}
 use Rattle.layout.specs.declared.Link.{Link}
-use Rattle.layout.specs.Addresses.{linkAt, word, afterLink, afterAt}
-use Rattle.links.specs.Links.{Joinable, JoinsQueue}
-use Rattle.links.proofs.Names.{after-valid, after-before, next-after}
-use Rattle.links.proofs.Names.{next-prev, next-tail, prev-tail}
+use Rattle.layout.specs.Addresses.{linkAt, word, afterLink, afterAt, beforeLink, beforeAt}
+use Rattle.layout.specs.Shows.{Linked}
+use Rattle.links.specs.Links.{Free, Joinable, JoinsFirst, JoinsLast}
+use Rattle.links.proofs.Names.{after-valid, before-valid, after-before, next-after, prev-before}
+use Rattle.links.proofs.Names.{next-prev, next-head, next-tail, prev-head, prev-tail}
 use Rattle.links.proofs.Splits.{of-mem}
-use Rattle.links.proofs.Readings.{tail-of, link-small}
-use Rattle.links.proofs.Chains.{Around}
+use Rattle.links.proofs.Readings.{head-word, head-of, tail-word, tail-of, link-small}
 use Rattle.links.proofs.Relinks.{linked-join}
-use Rattle.links.proofs.Writes.{WroteLink, wrote, kept-one, kept-more}
+use Rattle.links.proofs.Writes.{WroteThree, wrote-three}
 
--- The last of the queue, which the stores ask for, is a link.
+-- The link at the end of the queue, which the stores ask for, is in range.
+
 pub tail-small : {m : List ℕ} {q t p : ℕ} → Joinable m q t → p ≡ word m (linkAt (Link.Tail q)) → p ≤ 256
 tail-small {m} {q} {t} {p} J e =
     let L = J .linked in rw e (link-small L q (J .queue) (word m (linkAt (Link.Tail q))) (tail-of L q (J .queue)))
 
-module _ {m n₁ n₂ n : List ℕ} {q t p : ℕ} (J : Joinable m q t) (last : p ≡ word m (linkAt (Link.Tail q)))
-    (W₁ : WroteLink m n₁ (afterLink q p) (suc t)) (W₂ : WroteLink n₁ n₂ (Link.Prev t) p)
-    (W₃ : WroteLink n₂ n (Link.Tail q) (suc t)) where
-  around : Around m n q p 0 t
-  around = record { others = λ k h a b c d. W₃ .others k h b ∙ W₂ .others k h d ∙ W₁ .others k h a }
+pub head-small : {m : List ℕ} {q t w : ℕ} → Joinable m q t → w ≡ word m (linkAt (Link.Head q)) → w ≤ 256
+head-small {m} {q} {t} {w} J e =
+    let L = J .linked in rw e (link-small L q (J .queue) (word m (linkAt (Link.Head q))) (head-of L q (J .queue)))
 
-  after-last : word n (afterAt q p) ≡ suc t
-  after-last =
-      let h = after-valid q p (J .queue) (tail-small J last) in
-      W₃ .others (afterLink q p) h (after-before q p q 0)
-      ∙ W₂ .others (afterLink q p) h (after-before q p q (suc t)) ∙ W₁ .here
+-- t stands behind the last, p: the link back from t is stored, and its link on is 0 as it was.
+joined-last :
+    {m n : List ℕ} {q t p : ℕ} → Joinable m q t → p ≡ word m (linkAt (Link.Tail q))
+    → WroteThree m n (afterLink q p) (Link.Prev t) (Link.Tail q) (suc t) p (suc t) → JoinsLast m q t n
+joined-last {m} {n} {q} {t} {p} J e T =
+    record {
+      kept = T .kept;
+      links = λ queues L free.
+          linked-join queues (record { others = λ k h a b c d. T .others k h a d b }) L free (J .queue) (J .thread)
+          (at-tail t (queues q)) (sym (tail-word L q (J .queue)) ∙ sym e) refl
+          (record { after = T .first; before = T .second })
+          (record { after = on queues L free; before = T .third });
+    }
+  where
+    on : (queues : ℕ → List ℕ) → Linked m queues → Free queues t → word n (linkAt (Link.Next t)) ≡ 0
+    on queues L free =
+        let apart : suc t ≡ p → ⊥ = λ i. free q (J .queue) (of-mem (queues q) t i (rw e (tail-of L q (J .queue)))) in
+        T .others (Link.Next t) (J .thread) (λ i. apart (next-after t q p i)) (next-prev t t) (next-tail t q)
+        ∙ L .bare t (J .thread) free .0
 
-  before-t : word n (linkAt (Link.Prev t)) ≡ p
-  before-t = W₃ .others (Link.Prev t) (J .thread) (prev-tail t q) ∙ W₂ .here
-
-  after-t : (suc t ≡ p → ⊥) → word n (linkAt (Link.Next t)) ≡ word m (linkAt (Link.Next t))
-  after-t d =
-      W₃ .others (Link.Next t) (J .thread) (next-tail t q) ∙ W₂ .others (Link.Next t) (J .thread) (next-prev t t)
-      ∙ W₁ .others (Link.Next t) (J .thread) (λ e. d (next-after t q p e))
-
-  joined : JoinsQueue m q t n
-  joined =
-      record {
-        kept = kept-more (kept-more (kept-one (J .size) W₁) W₂ (W₁ .size)) W₃ (W₂ .size);
-        links = λ queues L free.
-            linked-join queues around L free (J .queue) (J .thread) (sym last) after-last before-t
-            (after-t
-            (λ e. free q (J .queue)
-            (of-mem (queues q) t e (rw last (tail-of L q (J .queue))))))
-            (W₃ .here);
-      }
+-- t stands before the first, w: the link on from t is stored, and its link back is 0 as it was.
+joined-first :
+    {m n : List ℕ} {q t w : ℕ} → Joinable m q t → w ≡ word m (linkAt (Link.Head q))
+    → WroteThree m n (beforeLink q w) (Link.Next t) (Link.Head q) (suc t) w (suc t) → JoinsFirst m q t n
+joined-first {m} {n} {q} {t} {w} J e T =
+    record {
+      kept = T .kept;
+      links = λ queues L free.
+          linked-join queues (record { others = λ k h a b c d. T .others k h b c a }) L free (J .queue) (J .thread)
+          (at-head t (queues q)) refl (sym (head-word L q (J .queue)) ∙ sym e)
+          (record { after = T .third; before = back queues L free })
+          (record { after = T .second; before = T .first });
+    }
+  where
+    back : (queues : ℕ → List ℕ) → Linked m queues → Free queues t → word n (linkAt (Link.Prev t)) ≡ 0
+    back queues L free =
+        let apart : suc t ≡ w → ⊥ = λ i. free q (J .queue) (of-mem (queues q) t i (rw e (head-of L q (J .queue)))) in
+        T .others (Link.Prev t) (J .thread) (λ i. apart (prev-before t q w i)) (λ i. next-prev t t (sym i))
+        (prev-head t q)
+        ∙ L .bare t (J .thread) free .1
 
 -- The stores as the code makes them.
-pub pushed :
+
+pub pushed-tail :
     {m n₁ n₂ n : List ℕ} {q t p : ℕ} → Joinable m q t → p ≡ word m (linkAt (Link.Tail q))
     → n₁ ≡ set m (afterAt q p) (t + 1) → n₂ ≡ set n₁ (linkAt (Link.Prev t)) p
-    → n ≡ set n₂ (linkAt (Link.Tail q)) (t + 1) → JoinsQueue m q t n
-pushed {m} {n₁} {n₂} {n} {q} {t} {p} J e f₁ f₂ f₃ =
-    let h = after-valid q p (J .queue) (tail-small J e) in
-    let W₁ = wrote (afterLink q p) (J .size) h (rw add-one at f₁) in
-    let W₂ = wrote (Link.Prev t) (W₁ .size) (J .thread) f₂ in
-    let W₃ = wrote (Link.Tail q) (W₂ .size) (J .queue) (rw add-one at f₃) in
-    joined J e W₁ W₂ W₃
+    → n ≡ set n₂ (linkAt (Link.Tail q)) (t + 1) → JoinsLast m q t n
+pushed-tail {m} {n₁} {n₂} {n} {q} {t} {p} J e f₁ f₂ f₃ =
+    joined-last J e
+    (wrote-three (afterLink q p) (Link.Prev t) (Link.Tail q) (J .size)
+    (after-valid q p (J .queue) (tail-small J e)) (J .thread) (J .queue) (after-before q p q (suc t))
+    (after-before q p q 0) (prev-tail t q) (rw add-one at f₁) f₂ (rw add-one at f₃))
+
+pub pushed-head :
+    {m n₁ n₂ n : List ℕ} {q t w : ℕ} → Joinable m q t → w ≡ word m (linkAt (Link.Head q))
+    → n₁ ≡ set m (beforeAt q w) (t + 1) → n₂ ≡ set n₁ (linkAt (Link.Next t)) w
+    → n ≡ set n₂ (linkAt (Link.Head q)) (t + 1) → JoinsFirst m q t n
+pushed-head {m} {n₁} {n₂} {n} {q} {t} {w} J e f₁ f₂ f₃ =
+    joined-first J e
+    (wrote-three (beforeLink q w) (Link.Next t) (Link.Head q) (J .size)
+    (before-valid q w (J .queue) (head-small J e)) (J .thread) (J .queue) (λ i. after-before q (suc t) q w (sym i))
+    (λ i. after-before q 0 q w (sym i)) (next-head t q) (rw add-one at f₁) f₂ (rw add-one at f₃))

@@ -1,4 +1,4 @@
--- The four stores of unlink: what they ask of the words and what the links are after them.
+-- The four stores of unlink and the three of pop_head: what they ask of the words and what the links are after them.
 use Prim.Native.Nat.{ℕ, suc, _≤_}
 use mathlib.Core.Path.{_≡_, sym, _∙_}
 use mathlib.Core.List.{List, _∷_, _++_}
@@ -6,14 +6,14 @@ use lib.ListN.{set}
 use Rattle.machine.specs.Lists.{Distinct}
 use Rattle.layout.specs.declared.Link.{Link}
 use Rattle.layout.specs.Addresses.{linkAt, word, afterLink, beforeLink, afterAt, beforeAt}
-use Rattle.links.specs.Links.{Leavable, LeavesQueue}
+use Rattle.links.specs.Links.{Leavable, Leads, LeavesQueue, PopsFirst}
 use Rattle.links.proofs.Names.{after-valid, before-valid}
-use Rattle.links.proofs.Names.{after-before, next-after, prev-before, next-prev}
+use Rattle.links.proofs.Names.{after-before, next-after, prev-before, next-prev, next-head, prev-head}
 use Rattle.links.proofs.Splits.{of-mem, split, not-before, not-behind}
-use Rattle.links.proofs.Readings.{next-small, prev-small, next-of, prev-of}
+use Rattle.links.proofs.Readings.{next-small, prev-small, next-of, prev-of, first-prev, reads-first}
 use Rattle.links.proofs.Chains.{Around}
 use Rattle.links.proofs.Relinks.{linked-leave}
-use Rattle.links.proofs.Writes.{WroteLink, wrote, kept-one, kept-more}
+use Rattle.links.proofs.Writes.{WroteLink, wrote, kept-one, kept-more, WroteThree, wrote-three}
 
 pub leaver-small : {m : List ℕ} {q t : ℕ} → Leavable m q t → t ≤ 255
 leaver-small {m} {q} {t} G = G .linked .small q t (G .queue) (G .stands)
@@ -95,3 +95,39 @@ unlinked {m} {n₁} {n₂} {n₃} {n} {q} {t} {p} {w} G B f₁ f₂ f₃ f₄ =
     let W₃ = wrote (Link.Next t) (W₂ .size) (B .thread) f₃ in
     let W₄ = wrote (Link.Prev t) (W₃ .size) (B .thread) f₄ in
     left G B W₁ W₂ W₃ W₄
+
+-- The first has the queue itself before it.
+pub first-neighbours :
+    {m : List ℕ} {q t w : ℕ} → Leads m q t → w ≡ word m (linkAt (Link.Next t)) → Neighbours m t 0 w
+first-neighbours {m} {q} {t} J f =
+    let G = J .leavable in neighbours G f (sym (first-prev (G .linked) q (G .queue) t (J .first)))
+
+left-first :
+    {m n : List ℕ} {q t w : ℕ} → Leads m q t → Neighbours m t 0 w
+    → WroteThree m n (beforeLink q w) (Link.Head q) (Link.Next t) 0 w 0 → PopsFirst m q t w n
+left-first {m} {n} {q} {t} {w} J B T = (
+  record {
+    kept = T .kept;
+    links = λ queues L k.
+        linked-leave queues (record { others = λ i h a b c d. T .others i h b a c }) L k (J .leavable .queue)
+        (B .before) (B .after) (T .second) (T .first) (T .third, back);
+  },
+  reads-first (J .leavable .queue) (sym (T .second)),
+)
+  where
+    back : word n (linkAt (Link.Prev t)) ≡ 0
+    back =
+        T .others (Link.Prev t) (B .thread) (λ i. B .after-other (prev-before t q w i)) (prev-head t q)
+        (λ i. next-prev t t (sym i))
+        ∙ B .before
+
+pub popped :
+    {m n₁ n₂ n : List ℕ} {q t w : ℕ} → Leads m q t → w ≡ word m (linkAt (Link.Next t))
+    → n₁ ≡ set m (beforeAt q w) 0 → n₂ ≡ set n₁ (linkAt (Link.Head q)) w → n ≡ set n₂ (linkAt (Link.Next t)) 0
+    → PopsFirst m q t w n
+popped {m} {n₁} {n₂} {n} {q} {t} {w} J e f₁ f₂ f₃ =
+    let B = first-neighbours J e in
+    left-first J B
+    (wrote-three (beforeLink q w) (Link.Head q) (Link.Next t) (J .leavable .size)
+    (before-valid q w (J .leavable .queue) (B .after-small)) (J .leavable .queue) (B .thread)
+    (λ i. after-before q 0 q w (sym i)) (λ i. after-before q (suc t) q w (sym i)) (λ i. next-head t q (sym i)) f₁ f₂ f₃)

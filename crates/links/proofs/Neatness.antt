@@ -2,9 +2,9 @@
 use Prim.Native.Nat.{ℕ, _≤_}
 use mathlib.Core.Path.{_≡_, refl, sym, subst}
 use mathlib.Core.Logic.{_⊎_, inl, inr}
-use mathlib.Core.List.{List, [], _∷_, _++_}
+use mathlib.Core.List.{List}
 use Rattle.machine.specs.Lists.{Mem, Distinct, put, without}
-use Rattle.machine.proofs.Lists.{put-all, mem-snoc, mem-without, distinct-snoc, distinct-without}
+use Rattle.machine.proofs.Lists.{put-all, Inserted, inserted-only, inserted-once, mem-without, distinct-without}
 use Rattle.layout.specs.Shows.{Linked}
 use Rattle.links.specs.Links.{Free}
 
@@ -45,10 +45,10 @@ module _ {queues : ℕ → List ℕ} (q : ℕ) (l : List ℕ) (N : NeatQueues qu
       }
 
 module _ {queues : ℕ → List ℕ} (q t : ℕ) (N : NeatQueues queues) where
-  pub neat-join : Free queues t → t ≤ 255 → NeatQueues (put queues q (queues q ++ (t ∷ [])))
-  neat-join free small =
-      neat-put q (queues q ++ (t ∷ [])) N (λ h. distinct-snoc t (queues q) (N .once q h) (free q h))
-      (λ h u k. in-range h u (mem-snoc u t (queues q) k)) (λ h r u g k n. in-one h r u g n (mem-snoc u t (queues q) k))
+  pub neat-join : {l : List ℕ} → Inserted t (queues q) l → Free queues t → t ≤ 255 → NeatQueues (put queues q l)
+  neat-join {l} I free small =
+      neat-put q l N (λ h. inserted-once I (N .once q h) (free q h))
+      (λ h u k. in-range h u (inserted-only I u k)) (λ h r u g k n. in-one h r u g n (inserted-only I u k))
     where
       in-range : q ≤ 319 → (u : ℕ) → Mem u (queues q) ⊎ (u ≡ t) → u ≤ 255
       in-range h u (inl k) = N .small q u h k

@@ -2,7 +2,8 @@
 use Prim.Native.Nat.{ℕ, suc, _≤_}
 use mathlib.Core.Path.{_≡_, sym, _∙_, subst}
 use mathlib.Core.Logic.{inr}
-use mathlib.Core.List.{List, _∷_, _++_}
+use mathlib.Core.List.{List, [], _∷_, _++_}
+use native.Mathlib.Omega.{arith}
 use Rattle.machine.proofs.Lists.{mem-left, mem-right}
 use Rattle.layout.specs.declared.Link.{Link}
 use Rattle.layout.specs.Addresses.{linkAt, word}
@@ -24,6 +25,17 @@ module _ {m : List ℕ} {queues : ℕ → List ℕ} (L : Linked m queues) (q : �
 
   pub tail-of : Of (queues q) (word m (linkAt (Link.Tail q)))
   tail-of = subst (λ (x : ℕ). Of (queues q) x) (sym tail-word) (last-of 0 (queues q) (queues q) tt (λ _ k. k))
+
+  pub head-of : Of (queues q) (word m (linkAt (Link.Head q)))
+  head-of = subst (λ (x : ℕ). Of (queues q) x) (sym head-word) (first-of (queues q) (queues q) (λ _ k. k))
+
+  -- Nobody comes before the first.
+  pub first-prev : (t : ℕ) → firstOf (queues q) ≡ suc t → word m (linkAt (Link.Prev t)) ≡ 0
+  first-prev t = go (queues q) (L .chains q h)
+    where
+      go : (l : List ℕ) → Chain m q 0 l 0 → firstOf l ≡ suc t → word m (linkAt (Link.Prev t)) ≡ 0
+      go [] c e = absurd (omega arith)
+      go (u ∷ l) c e = let i : u ≡ t = omega arith in rw i at (c .0 .before)
 
   -- The link of a thread of the queue, or 0, is at most 256.
   pub link-small : (x : ℕ) → Of (queues q) x → x ≤ 256

@@ -1,21 +1,20 @@
 -- The links of a table of queues after a thread has joined a queue or left it.
 use Prim.Native.Nat.{ℕ, suc, _≤_}
-use mathlib.Core.Path.{_≡_, refl, sym, _∙_, ap, subst}
-use mathlib.Core.Logic.{inr}
-use mathlib.Core.List.{List, [], _∷_, _++_}
+use mathlib.Core.Path.{_≡_, sym, _∙_, ap, subst}
+use mathlib.Core.Logic.{inr, ⊎-elim}
+use mathlib.Core.List.{List, _∷_, _++_}
 use Rattle.machine.specs.Lists.{Mem, Distinct, put, without}
-use Rattle.machine.proofs.Lists.{Same, same, other, same?, put-same, put-all, put-other, mem-left, mem-right, mem-last}
-use Rattle.machine.proofs.Lists.{mem-keep, distinct-left, distinct-right, distinct-apart}
+use Rattle.machine.proofs.Lists.{Same, same, other, same?, put-same, put-all, put-other, mem-left, mem-right, mem-keep}
+use Rattle.machine.proofs.Lists.{Inserted, inserted-mem, inserted-kept, inserted-only, inserted-once}
 use Rattle.layout.specs.declared.Link.{Link}
 use Rattle.layout.specs.Addresses.{linkAt, word, afterAt, beforeAt}
 use Rattle.layout.specs.Words.{firstOf, lastOf}
-use Rattle.layout.specs.Shows.{Chain, Linked}
+use Rattle.layout.specs.Shows.{Joined, Chain, Linked}
 use Rattle.links.specs.Links.{Free}
-use Rattle.links.proofs.Splits.{Of, of-mem, first-of, last-of, Split, split, not-before, not-behind}
-use Rattle.links.proofs.Splits.{without-split}
+use Rattle.links.proofs.Splits.{Of, of-mem, first-of, last-of, Split, split, without-split}
 use Rattle.links.proofs.Neatness.{NeatQueues, linked-neat, neat-join, neat-leave}
 use Rattle.links.proofs.Chains.{Around, nexts, prevs, heads, tails, chain-frame, chain-join, chain-leave}
-use Rattle.links.proofs.Readings.{chained, tail-word, tail-of, next-split, prev-split}
+use Rattle.links.proofs.Readings.{chained, next-split, prev-split}
 
 -- Queue q becomes l, where p and w are links of q and t stands in no other queue.
 module _ {m n : List ℕ} {q p w t : ℕ} {queues : ℕ → List ℕ} (A : Around m n q p w t) (L : Linked m queues)
@@ -67,21 +66,24 @@ module _ {m n : List ℕ} {q p w t : ℕ} {queues : ℕ → List ℕ} (A : Aroun
             prevs A u g d (λ e. f q h (of-mem (queues q) u e ofw)) ∙ z .1,
           )
 
--- t joins the tail of queue q: the link after the last one, the link back from t and the tail are stored.
+-- t joins queue q, which becomes l, between links p and w: it is joined to both.
 pub linked-join :
-    {m n : List ℕ} {q p t : ℕ} (queues : ℕ → List ℕ) → Around m n q p 0 t → Linked m queues
-    → Free queues t → q ≤ 319 → t ≤ 255 → word m (linkAt (Link.Tail q)) ≡ p → word n (afterAt q p) ≡ suc t
-    → word n (linkAt (Link.Prev t)) ≡ p → word n (linkAt (Link.Next t)) ≡ word m (linkAt (Link.Next t))
-    → word n (linkAt (Link.Tail q)) ≡ suc t → Linked n (put queues q (queues q ++ (t ∷ [])))
-linked-join {m} {n} {q} {p} {t} queues A L free h g e fa fb fn ft =
-    let l = queues q in
-    let z : lastOf 0 l ≡ p = sym (tail-word L q h) ∙ e in
-    relinked A L h (subst (λ (x : ℕ). Of l x) e (tail-of L q h)) tt (λ r i _. free r i)
-    (l ++ (t ∷ [])) (neat-join q t (linked-neat L) free g)
-    (chain-join A l h refl z (L .once q h)
-    (λ u k. (L .small q u h k, λ y. free q h (subst (λ (v : ℕ). Mem v l) y k))) fa fb
-    (fn ∙ L .bare t g free .0) ft (L .chains q h))
-    (λ u _ k. mem-left u l (t ∷ []) k) (λ k. absurd (k (mem-last t l)))
+    {m n : List ℕ} {q p w t : ℕ} {l : List ℕ} (queues : ℕ → List ℕ) → Around m n q p w t → Linked m queues
+    → Free queues t → q ≤ 319 → t ≤ 255 → (I : Inserted t (queues q) l) → lastOf 0 (I .before) ≡ p
+    → firstOf (I .behind) ≡ w → Joined n q p (suc t) → Joined n q (suc t) w → Linked n (put queues q l)
+linked-join {m} {n} {q} {p} {w} {t} {l} queues A L free h g I zp zw into out =
+    let a = I .before in
+    let b = I .behind in
+    let left : (u : ℕ) → Mem u a → Mem u (queues q) = λ u i. rw (I .old) (mem-left u a b i) in
+    let right : (u : ℕ) → Mem u b → Mem u (queues q) = λ u i. rw (I .old) (mem-right u a b i) in
+    let d : Distinct (a ++ (t ∷ b)) = rw (I .new) at (inserted-once I (L .once q h) (free q h)) in
+    let small : (u : ℕ) → Mem u l → u ≤ 255 =
+    λ u i. ⊎-elim (L .small q u h) (λ e. rw e g) (inserted-only I u i) in
+    relinked A L h (subst (λ (x : ℕ). Of (queues q) x) zp (last-of 0 a (queues q) tt left))
+    (subst (λ (x : ℕ). Of (queues q) x) zw (first-of b (queues q) right))
+    (λ r i _. free r i) l (neat-join q t (linked-neat L) I free g)
+    (rw (I .new) (chain-join A a b h zp zw d (rw (I .new) at small) into out (rw (I .old) at (L .chains q h))))
+    (λ u _. inserted-kept I u) (λ k. absurd (k (inserted-mem I)))
 
 -- t leaves queue q: its neighbours are joined, and its own links are 0.
 pub linked-leave :
@@ -102,23 +104,11 @@ linked-leave {m} {n} {q} {p} {w} {t} queues A L k h ep ew fa fb bare-t = go (spl
         let zw : firstOf b ≡ w = sym (next-split L q h t a b e) ∙ ew in
         let left : (u : ℕ) → Mem u a → Mem u (queues q) = λ u i. rw e (mem-left u a (t ∷ b) i) in
         let right : (u : ℕ) → Mem u b → Mem u (queues q) = λ u i. rw e (mem-right u a (t ∷ b) (inr i)) in
-        let op : Of a p = subst (λ (x : ℕ). Of a x) zp (last-of 0 a a tt (λ _ i. i)) in
-        let ow : Of b w = subst (λ (x : ℕ). Of b x) zw (first-of b b (λ _ i. i)) in
-        let across : (u : ℕ) → Mem u a → Mem u b → ⊥ = λ u i j. distinct-apart u a (t ∷ b) d i (inr j) in
         let gone : without t (queues q) ≡ a ++ b = ap (without t) e ∙ without-split t a b d in
         relinked A L h (subst (λ (x : ℕ). Of (queues q) x) zp (last-of 0 a (queues q) tt left))
         (subst (λ (x : ℕ). Of (queues q) x) zw (first-of b (queues q) right))
         (λ r g o i. o (L .apart r q t g h i k)) (without t (queues q)) (neat-leave q t (linked-neat L))
         (rw gone
-        (chain-leave A a b h zp zw (distinct-left a (t ∷ b) d) (distinct-right a (t ∷ b) d .1)
-        (λ u i. (
-          L .small q u h (left u i),
-          λ y. not-before t a b d (subst (λ (v : ℕ). Mem v a) y i),
-          λ y. across u i (of-mem b u y ow),
-        ))
-        (λ u i. (
-          L .small q u h (right u i),
-          λ y. not-behind t a b d (subst (λ (v : ℕ). Mem v b) y i),
-          λ y. across u (of-mem a u y op) i,
-        )) fa fb (chained L q h t a b e)))
+        (chain-leave A a b h zp zw d (λ u i. L .small q u h (rw e i)) (record { after = fa; before = fb })
+        (chained L q h t a b e)))
         (λ u o i. mem-keep t u (queues q) i o) (λ _. bare-t)

@@ -32,7 +32,7 @@ pub last-of : (x : ℕ) (l k : List ℕ) → Of k x → ((t : ℕ) → Mem t l �
 last-of x [] k o s = o
 last-of x (t ∷ l) k o s = last-of (suc t) l k (s t (inl refl)) (λ u m. s u (inr m))
 
--- An empty list is one whose first link is 0.
+-- The last of a list is the one put at its end.
 pub last-snoc : (x t : ℕ) (l : List ℕ) → lastOf x (l ++ (t ∷ [])) ≡ suc t
 last-snoc x t [] = refl
 last-snoc x t (u ∷ l) = last-snoc (suc u) t l

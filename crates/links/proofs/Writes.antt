@@ -34,3 +34,28 @@ pub kept-more :
     {m n r : List ℕ} {k : Link} {v : ℕ} → OnlyLinks m n → WroteLink n r k v → length n ≡ tableWords → OnlyLinks m r
 kept-more K W size =
     record { size = W .size ∙ sym size ∙ K .size; slots = λ a h. W .slots a h ∙ K .slots a h }
+
+-- Links i, j and k hold x, y and z in n, and all else is as in m.
+pub record WroteThree (m n : List ℕ) (i j k : Link) (x y z : ℕ) : Type 0 where
+  pub kept : OnlyLinks m n
+  pub first : word n (linkAt i) ≡ x
+  pub second : word n (linkAt j) ≡ y
+  pub third : word n (linkAt k) ≡ z
+  pub others :
+      (l : Link) → ValidLink l → (l ≡ i → ⊥) → (l ≡ j → ⊥) → (l ≡ k → ⊥) → word n (linkAt l) ≡ word m (linkAt l)
+
+pub wrote-three :
+    {m n₁ n₂ n : List ℕ} {x y z : ℕ} (i j k : Link) → length m ≡ tableWords → ValidLink i → ValidLink j → ValidLink k
+    → (i ≡ j → ⊥) → (i ≡ k → ⊥) → (j ≡ k → ⊥)
+    → n₁ ≡ set m (linkAt i) x → n₂ ≡ set n₁ (linkAt j) y → n ≡ set n₂ (linkAt k) z → WroteThree m n i j k x y z
+wrote-three i j k size hi hj hk ij ik jk f₁ f₂ f₃ =
+    let W₁ = wrote i size hi f₁ in
+    let W₂ = wrote j (W₁ .size) hj f₂ in
+    let W₃ = wrote k (W₂ .size) hk f₃ in
+    record {
+      kept = kept-more (kept-more (kept-one size W₁) W₂ (W₁ .size)) W₃ (W₂ .size);
+      first = W₃ .others i hi ik ∙ W₂ .others i hi ij ∙ W₁ .here;
+      second = W₃ .others j hj jk ∙ W₂ .here;
+      third = W₃ .here;
+      others = λ l h a b c. W₃ .others l h c ∙ W₂ .others l h b ∙ W₁ .others l h a;
+    }

@@ -1,6 +1,6 @@
 -- What the operations on links ask and give, over the words before and after: for every table of queues that the links
 -- join.
-use Prim.Native.Nat.{ℕ, _≤_}
+use Prim.Native.Nat.{ℕ, suc, _≤_}
 use mathlib.Core.Path.{_≡_}
 use mathlib.Core.List.{List, [], _∷_, _++_}
 use lib.ListN.{length}
@@ -28,12 +28,19 @@ pub record Joinable (m : List ℕ) (q t : ℕ) : Type 0 where
   pub linked : Linked m queues
   pub free : Free queues t
 
--- t has joined the tail of queue q.
-pub record JoinsQueue (m : List ℕ) (q t : ℕ) (m′ : List ℕ) : Type 0 where
+-- t has joined queue q, which is now what place makes of it.
+pub record JoinsQueue (place : List ℕ → List ℕ) (m : List ℕ) (q t : ℕ) (m′ : List ℕ) : Type 0 where
   pub kept : OnlyLinks m m′
   pub links :
-      (queues : ℕ → List ℕ) → Linked m queues → Free queues t
-      → Linked m′ (put queues q (queues q ++ (t ∷ [])))
+      (queues : ℕ → List ℕ) → Linked m queues → Free queues t → Linked m′ (put queues q (place (queues q)))
+
+-- t has joined the tail of queue q.
+abbrev pub JoinsLast : List ℕ → ℕ → ℕ → List ℕ → Type 0
+JoinsLast m q t m′ = JoinsQueue (λ l. l ++ (t ∷ [])) m q t m′
+
+-- t has joined the head of queue q.
+abbrev pub JoinsFirst : List ℕ → ℕ → ℕ → List ℕ → Type 0
+JoinsFirst m q t m′ = JoinsQueue (λ l. t ∷ l) m q t m′
 
 -- A queue in which thread t stands.
 pub record Leavable (m : List ℕ) (q t : ℕ) : Type 0 where
@@ -42,6 +49,11 @@ pub record Leavable (m : List ℕ) (q t : ℕ) : Type 0 where
   pub queues : ℕ → List ℕ
   pub linked : Linked m queues
   pub stands : Mem t (queues q)
+
+-- A queue of which thread t is the first.
+pub record Leads (m : List ℕ) (q t : ℕ) : Type 0 where
+  pub leavable : Leavable m q t
+  pub first : firstOf (leavable .queues q) ≡ suc t
 
 -- t has left queue q, wherever it stood in it.
 pub record LeavesQueue (m : List ℕ) (q t : ℕ) (m′ : List ℕ) : Type 0 where
@@ -69,3 +81,7 @@ pub record Prev (m : List ℕ) (t r : ℕ) : Type 0 where
   pub prev :
       (queues : ℕ → List ℕ) → Linked m queues → (q : ℕ) (before behind : List ℕ) → q ≤ 319
       → queues q ≡ before ++ (t ∷ behind) → r ≡ lastOf 0 before
+
+-- The first, t, has left queue q, and r is the link to the first of those that are left.
+abbrev pub PopsFirst : List ℕ → ℕ → ℕ → ℕ → List ℕ → Type 0
+PopsFirst m q t r m′ = LeavesQueue m q t m′ × First m′ q r

@@ -1,10 +1,11 @@
 // Doubly linked queues in the lent words. The queue itself is link 0, so the first and the next, the last and the one
-// before are one thing, and each operation is the same stores wherever a thread stands.
+// before are one thing, and each operation is the same stores wherever a thread stands, without a branch.
 ghost use mathlib.Core.Path.{_≡_};
 ghost use Prim.Native.Nat.{_≤_};
 ghost use lib.ListN.{length};
 ghost use Rattle.layout.specs.Addresses.{tableWords};
-ghost use Rattle.links.specs.Links.{Joinable, JoinsQueue, Leavable, LeavesQueue, First, Last, Next, Prev};
+ghost use Rattle.links.specs.Links.{Joinable, JoinsFirst, JoinsLast, Leavable, Leads, LeavesQueue};
+ghost use Rattle.links.specs.Links.{PopsFirst, First, Last, Next, Prev};
 use layout::Link;
 use layout::codes::NOBODY;
 use layout::wide;
@@ -12,13 +13,25 @@ use layout::wide;
 // Thread t joins the tail of queue q.
 pub fn push_tail(tables: &mut [u32], q: usize, t: usize)
     requires { ⌜ Joinable (now tables) q t ⌝ }
-    ensures { λ _. ⌜ JoinsQueue (now (tables .entry)) q t (now (tables .exit)) ⌝ }
+    ensures { λ _. ⌜ JoinsLast (now (tables .entry)) q t (now (tables .exit)) ⌝ }
 {
     let last = words::get_link(tables, Link::Tail(q));
     let link = (t + wide::LINK) as u32;
     words::put_after(tables, q, last as usize, link);
     words::put_link(tables, Link::Prev(t), last);
     words::put_link(tables, Link::Tail(q), link);
+}
+
+// Thread t joins the head of queue q.
+pub fn push_head(tables: &mut [u32], q: usize, t: usize)
+    requires { ⌜ Joinable (now tables) q t ⌝ }
+    ensures { λ _. ⌜ JoinsFirst (now (tables .entry)) q t (now (tables .exit)) ⌝ }
+{
+    let first = words::get_link(tables, Link::Head(q));
+    let link = (t + wide::LINK) as u32;
+    words::put_before(tables, q, first as usize, link);
+    words::put_link(tables, Link::Next(t), first);
+    words::put_link(tables, Link::Head(q), link);
 }
 
 // Thread t leaves queue q, in which it stands.
@@ -32,6 +45,18 @@ pub fn unlink(tables: &mut [u32], q: usize, t: usize)
     words::put_before(tables, q, next as usize, prev);
     words::put_link(tables, Link::Next(t), NOBODY);
     words::put_link(tables, Link::Prev(t), NOBODY);
+}
+
+// Thread t, the first of queue q, leaves it; the link to the first of those that are left.
+pub fn pop_head(tables: &mut [u32], q: usize, t: usize) -> u32
+    requires { ⌜ Leads (now tables) q t ⌝ }
+    ensures { λ r. ⌜ PopsFirst (now (tables .entry)) q t r (now (tables .exit)) ⌝ }
+{
+    let next = words::get_link(tables, Link::Next(t));
+    words::put_before(tables, q, next as usize, NOBODY);
+    words::put_link(tables, Link::Head(q), next);
+    words::put_link(tables, Link::Next(t), NOBODY);
+    next
 }
 
 // The link to the first of queue q: thread t is t + 1, and none is 0.

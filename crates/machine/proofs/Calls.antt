@@ -1,5 +1,4 @@
 -- What a reader asks of single calls.
-pub mod Running
 pub mod Ticks
 pub mod Marks
 pub mod Loops

@@ -1,6 +1,9 @@
 -- Facts about lists, of threads and of names.
 pub mod Lists
 pub mod Sublists
+-- The chooser, and who goes to the tail of its level, in every state.
+pub mod Running
+pub mod Tails
 -- What holds in the middle of a call, and that every call keeps the tables sound.
 pub mod Preserved
 -- What a reader asks of single calls.

@@ -3,7 +3,7 @@ use Prim.Native.Nat.{ℕ}
 use mathlib.Core.Path.{_≡_, refl, sym, _∙_, ap, subst}
 use mathlib.Core.Logic.{_⊎_, inl, inr, ⊎-elim}
 use mathlib.Core.Bool.{Bool, true, false}
-use mathlib.Core.List.{List, [], _∷_, _++_}
+use mathlib.Core.List.{List, [], _∷_, _++_, append-nil}
 use native.Mathlib.Omega.{arith}
 use lib.Dec.{eqb}
 use borrow.Author.Tests.{eq-eqb, ne-eqb, eqb-true, eqb-false}
@@ -61,18 +61,6 @@ mem-split t [] r m = inr m
 mem-split t (x ∷ l) r (inl e) = inl (inl e)
 mem-split t (x ∷ l) r (inr m) = ⊎-elim (λ h. inl (inr h)) inr (mem-split t l r m)
 
-pub mem-last : (t : ℕ) (l : List ℕ) → Mem t (l ++ (t ∷ []))
-mem-last t l = mem-right t l (t ∷ []) (inl refl)
-
--- What stands in l with one more at its end.
-pub mem-snoc : (t x : ℕ) (l : List ℕ) → Mem t (l ++ (x ∷ [])) → Mem t l ⊎ (t ≡ x)
-mem-snoc t x l m = go (mem-split t l (x ∷ []) m)
-  where
-    go : Mem t l ⊎ Mem t (x ∷ []) → Mem t l ⊎ (t ≡ x)
-    go (inl h) = inl h
-    go (inr (inl e)) = inr e
-    go (inr (inr z)) = absurd z
-
 pub mem? : (t : ℕ) (l : List ℕ) → Mem t l ⊎ (Mem t l → ⊥)
 mem? t [] = inr (λ z. z)
 mem? t (x ∷ l) = go (same? t x) (mem? t l)
@@ -105,10 +93,48 @@ distinct-append (x ∷ l) r dl dr apart = (
   distinct-append l r (dl .1) dr (λ t m. apart t (inr m)),
 )
 
-pub distinct-snoc : (t : ℕ) (l : List ℕ) → Distinct l → (Mem t l → ⊥) → Distinct (l ++ (t ∷ []))
-distinct-snoc t l d n =
-    distinct-append l (t ∷ []) d ((λ z. z), tt)
-    (λ u m. ⊎-elim (λ e. n (subst (λ (y : ℕ). Mem y l) e m)) (λ z. z))
+-- A list with one more in it
+
+-- l′ is l with t at one place more.
+pub record Inserted (t : ℕ) (l l′ : List ℕ) : Type 0 where
+  pub before : List ℕ
+  pub behind : List ℕ
+  pub old : l ≡ before ++ behind
+  pub new : l′ ≡ before ++ (t ∷ behind)
+
+abbrev pub at-head : (t : ℕ) (l : List ℕ) → Inserted t l (t ∷ l)
+at-head t l = record { before = []; behind = l; old = refl; new = refl }
+
+abbrev pub at-tail : (t : ℕ) (l : List ℕ) → Inserted t l (l ++ (t ∷ []))
+at-tail t l = record { before = l; behind = []; old = sym (append-nil l); new = refl }
+
+module _ {t : ℕ} {l l′ : List ℕ} (I : Inserted t l l′) where
+  pub inserted-mem : Mem t l′
+  inserted-mem = rw (I .new) (mem-right t (I .before) (t ∷ I .behind) (inl refl))
+
+  pub inserted-kept : (u : ℕ) → Mem u l → Mem u l′
+  inserted-kept u m =
+      rw (I .new)
+      (⊎-elim (mem-left u (I .before) (t ∷ I .behind)) (λ k. mem-right u (I .before) (t ∷ I .behind) (inr k))
+      (mem-split u (I .before) (I .behind) (rw (I .old) at m)))
+
+  pub inserted-only : (u : ℕ) → Mem u l′ → Mem u l ⊎ (u ≡ t)
+  inserted-only u m = go (mem-split u (I .before) (t ∷ I .behind) (rw (I .new) at m))
+    where
+      go : Mem u (I .before) ⊎ Mem u (t ∷ I .behind) → Mem u l ⊎ (u ≡ t)
+      go (inl k) = inl (rw (I .old) (mem-left u (I .before) (I .behind) k))
+      go (inr (inl e)) = inr e
+      go (inr (inr k)) = inl (rw (I .old) (mem-right u (I .before) (I .behind) k))
+
+  pub inserted-once : Distinct l → (Mem t l → ⊥) → Distinct l′
+  inserted-once d n =
+      let a = I .before in
+      let b = I .behind in
+      let e : Distinct (a ++ b) = rw (I .old) at d in
+      let out : Mem t (a ++ b) → ⊥ = rw (I .old) at n in
+      rw (I .new)
+      (distinct-append a (t ∷ b) (distinct-left a b e) ((λ m. out (mem-right t a b m)), distinct-right a b e)
+      (λ u m. ⊎-elim (λ i. out (mem-left t a b (subst (λ (y : ℕ). Mem y a) i m))) (distinct-apart u a b e m)))
 
 -- without
 

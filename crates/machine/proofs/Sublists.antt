@@ -12,7 +12,7 @@ use Rattle.machine.specs.Lists.{pick, without, only, Mem, Distinct, Risi
 use Rattle.machine.specs.History.{isIn}
 use Rattle.machine.specs.Claim.{less}
 use Rattle.machine.proofs.Lists.{Same, same, other, same?, clash, without-hit, without-miss, only-hit}
-use Rattle.machine.proofs.Lists.{only-miss, mem-snoc}
+use Rattle.machine.proofs.Lists.{only-miss, at-tail, inserted-only}
 
 -- The first list is what is left of the second when some are struck out.
 pub data Sub : List ℕ → List ℕ → Type 0 where
@@ -93,7 +93,7 @@ pub rising-snoc :
     (l : List ℕ) (n : ℕ) → Rising l → ((w : ℕ) → Mem w l → w < n) → Rising (l ++ (n ∷ []))
 rising-snoc [] n r h = ((λ w m. absurd m), tt)
 rising-snoc (x ∷ l) n r h =
-    (λ w m. go w (mem-snoc w n l m), rising-snoc l n (r .1) (λ w m. h w (inr m)))
+    (λ w m. go w (inserted-only (at-tail n l) w m), rising-snoc l n (r .1) (λ w m. h w (inr m)))
   where
     go : (w : ℕ) → Mem w l ⊎ (w ≡ n) → x < w
     go w (inl m) = r .0 w m

@@ -11,6 +11,10 @@ use Rattle.machine.specs.State.{State, Place, able, setThread, setRuns, 
 unfoldable pub enqueue : ℕ → State → State
 enqueue t s = setLevel (s .threads t .priority) (s .levels (s .threads t .priority) ++ (t ∷ [])) s
 
+-- t joins the head of its level's queue.
+unfoldable pub enqueueFirst : ℕ → State → State
+enqueueFirst t s = setLevel (s .threads t .priority) (t ∷ s .levels (s .threads t .priority)) s
+
 -- t leaves its level's queue.
 unfoldable pub unqueue : ℕ → State → State
 unqueue t s = setLevel (s .threads t .priority) (without t (s .levels (s .threads t .priority))) s
@@ -18,6 +22,10 @@ unqueue t s = setLevel (s .threads t .priority) (without t (s .levels (s .thread
 -- The running thread t goes to its tail, and nobody runs.
 unfoldable pub standDown : ℕ → State → State
 standDown t s = enqueue t (setRuns none s)
+
+-- The running thread t is displaced: it goes to its head, and nobody runs.
+unfoldable pub standBack : ℕ → State → State
+standBack t s = enqueueFirst t (setRuns none s)
 
 -- A blocked thread t is woken with an outcome, and with badge and message where it received them; it joins its tail.
 unfoldable pub wake : ℕ → ℕ → ℕ → ℕ → State → State
@@ -57,9 +65,9 @@ abbrev pub above : ℕ → Option ℕ → Bool
 above p none = false
 above p (some q) = ltb p q
 
--- A displaced thread goes to its level's tail.
+-- A displaced thread goes to its level's head.
 unfoldable pub displace : Bool → ℕ → State → State
-displace true t s = dispatch (standDown t s)
+displace true t s = dispatch (standBack t s)
 displace false t s = s
 
 -- If nobody runs, or a level above the running thread's is occupied, the head of the highest queue runs.

@@ -1,8 +1,9 @@
--- Words of the paper that the theorems about the machine use: the abort's two marks, and the work that a call leaves.
+-- Words of the paper that the theorems about the machine use: the abort's two marks, the work that a call leaves, and
+-- who goes to the tail of its level.
 use Prim.Native.Nat.{ℕ, _≤_}
 use mathlib.Core.Path.{_≡_}
 use mathlib.Core.Option.{Option, none, some}
-use mathlib.Core.List.{List, [], _∷_}
+use mathlib.Core.List.{List, [], _∷_, _++_}
 use lib.ListN.{length}
 use Rattle.machine.specs.declared.Call.{Call}
 use Rattle.machine.specs.declared.Call.the-variants.{CreateThread, DestroyThread, SetPriority, CreateEndpoint}
@@ -10,7 +11,9 @@ use Rattle.machine.specs.declared.Call.the-variants.{Interrupt, Tick, Se
 use Rattle.machine.specs.Lists.{Mem, first}
 use Rattle.machine.specs.State as State
 use Rattle.machine.specs.State.{State}
+use Rattle.machine.specs.Scheduling.{choose}
 use Rattle.machine.specs.Aborts.{pendingAt}
+use Rattle.machine.specs.Machine.{step}
 
 -- The last of the list, if it has one.
 abbrev pub last : List ℕ → Option ℕ
@@ -50,3 +53,9 @@ pub data WorkLeft (s r : State) : Call → Type 0 where
   not-begun :
       {e a b : ℕ} (x : State.Abort) → s .endpoints e .abort ≡ some x → (x .badge ≡ b → ⊥)
       → a ≤ length (x .pending) → WorkLeft s r (Abort e a b)
+
+-- The call, made in state s, hands the chooser a state in which t stands last of level p, behind all who stood there.
+pub record GoesLast (s : State) (c : Call) (t p : ℕ) : Type 0 where
+  pub handed : State
+  pub chosen : step s c .state ≡ choose handed
+  pub last-of : handed .levels p ≡ s .levels p ++ (t ∷ [])

@@ -7,8 +7,8 @@ use mathlib.Core.List.{List, [], _∷_, _++_}
 use native.Mathlib.Omega.{arith}
 use lib.ListN.{length}
 use Rattle.machine.specs.Lists.{put}
-use Rattle.machine.specs.State.{State, Place, able, setRuns}
-use Rattle.machine.specs.Scheduling.{enqueue, standDown, wake, block, occupied}
+use Rattle.machine.specs.State.{State, Place, able, setRuns, setLevel}
+use Rattle.machine.specs.Scheduling.{enqueue, enqueueFirst, standDown, standBack, wake, block, occupied}
 use Rattle.machine.specs.Endpoints.{joinEndpoint}
 use Rattle.machine.proofs.Lists.{put-same}
 use Rattle.layout.specs.Addresses.{tableWords, endpointQueue}
@@ -16,7 +16,7 @@ use Rattle.layout.specs.declared.Field.{Field}
 use Rattle.layout.specs.Words.{queuesOf}
 use Rattle.layout.specs.Shows.{Linked, Shows}
 use Rattle.layout.proofs.Standing.{queues-level, queues-endpoint}
-use Rattle.links.specs.Links.{Joinable, JoinsQueue}
+use Rattle.links.specs.Links.{Joinable, JoinsQueue, JoinsFirst, JoinsLast}
 use Rattle.store.specs.Steps.{Shown, Does, Tells}
 use Rattle.store.specs.Store.{IsThread, placing, SetsPlace, SetsRunning}
 use Rattle.store.specs.Readings.{threadIn}
@@ -56,26 +56,38 @@ module _ {m : List ℕ} {t p : ℕ} (R : Tells m (IsThread t) p (threadIn Field.
         free = S .holds .free;
       }
 
-  pub markable : {n : List ℕ} → Shown m (Loose t) → JoinsQueue m p t n → (length n ≡ tableWords) × (p < 256)
-  markable S J =
-      (J .kept .size ∙ S .shows .size, omega (arith, level-of (S .state) (S .shows) (S .holds), S .holds .level))
+  module _ {place : List ℕ → List ℕ} {n : List ℕ} (J : JoinsQueue place m p t n) where
+    pub markable : Shown m (Loose t) → (length n ≡ tableWords) × (p < 256)
+    markable S =
+        (J .kept .size ∙ S .shows .size, omega (arith, level-of (S .state) (S .shows) (S .holds), S .holds .level))
 
-  pub enqueued : {n o : List ℕ} → JoinsQueue m p t n → SetsLevel n p true o → Does m o (Loose t) (enqueue t)
+    -- At whichever end it joins.
+    joined-level :
+        {o : List ℕ} → ((l : List ℕ) → true ≡ occupied (place l)) → SetsLevel n p true o → (s : State) → Shows m s
+        → Loose t s → Shows o (setLevel (s .threads t .priority) (place (s .levels (s .threads t .priority))) s)
+    joined-level {o} filled D s M h = go (level-of s M h)
+      where
+        go : p ≡ s .threads t .priority
+            → Shows o (setLevel (s .threads t .priority) (place (s .levels (s .threads t .priority))) s)
+        go e =
+            let k : p ≤ 255 = omega (arith, h .level) in
+            let L : Linked n (put (queuesOf s) p (place (queuesOf s p))) =
+            J .links (queuesOf s) (M .links) (h .free) in
+            rw (← e)
+            (level-marked p (place (s .levels p)) k M (J .kept) (rw (queues-level s p k) at L) D
+            (filled (s .levels p)))
+
+  pub enqueued : {n o : List ℕ} → JoinsLast m p t n → SetsLevel n p true o → Does m o (Loose t) (enqueue t)
   unfolding enqueue
-  enqueued {n} {o} J D = record { shows = λ s M h. go s M h (level-of s M h) }
+  enqueued J D = record { shows = joined-level J filled D }
     where
       filled : (l : List ℕ) → true ≡ occupied (l ++ (t ∷ []))
       filled [] = refl
       filled (u ∷ l) = refl
 
-      go : (s : State) → Shows m s → Loose t s → p ≡ s .threads t .priority → Shows o (enqueue t s)
-      go s M h e =
-          let k : p ≤ 255 = omega (arith, h .level) in
-          let L : Linked n (put (queuesOf s) p (queuesOf s p ++ (t ∷ []))) =
-          J .links (queuesOf s) (M .links) (h .free) in
-          rw (← e)
-          (level-marked p (s .levels p ++ (t ∷ [])) k M (J .kept) (rw (queues-level s p k) at L) D
-          (filled (s .levels p)))
+  pub enqueued-first : {n o : List ℕ} → JoinsFirst m p t n → SetsLevel n p true o → Does m o (Loose t) (enqueueFirst t)
+  unfolding enqueueFirst
+  enqueued-first J D = record { shows = joined-level J (λ l. refl) D }
 
 -- A thread in no queue is in none after a step on its words.
 
@@ -101,6 +113,11 @@ module _ {t : ℕ} {m n : List ℕ} where
   pub stood-down : {o : List ℕ} → SetsRunning m 0 n → Does n o (Loose t) (enqueue t) → Does m o (Loose t) (standDown t)
   unfolding standDown
   stood-down R E = and-then (stopped R) (λ s _ h. loose-runs none s h) E
+
+  pub stood-back :
+      {o : List ℕ} → SetsRunning m 0 n → Does n o (Loose t) (enqueueFirst t) → Does m o (Loose t) (standBack t)
+  unfolding standBack
+  stood-back R E = and-then (stopped R) (λ s _ h. loose-runs none s h) E
 
 module _ {t : ℕ} {m n : List ℕ} (o b x : ℕ) where
   roused : SetsPlace m t 1 o b x n → Does m n (Loose t) (placing t able o b x)
@@ -145,7 +162,7 @@ module _ {m : List ℕ} {t e : ℕ} where
         free = S .holds .free;
       }
 
-  pub joined : {n : List ℕ} → JoinsQueue m (endpointQueue e) t n → Does m n (ToEndpoint t e) (joinEndpoint t e)
+  pub joined : {n : List ℕ} → JoinsLast m (endpointQueue e) t n → Does m n (ToEndpoint t e) (joinEndpoint t e)
   unfolding joinEndpoint
   joined {n} J = record { shows = λ s M h. go s M h }
     where

@@ -1,6 +1,7 @@
 -- Leaving a level's queue and an endpoint's: what it asks, and what it does.
-use Prim.Native.Nat.{ℕ}
+use Prim.Native.Nat.{ℕ, suc}
 use mathlib.Core.Path.{_≡_, refl, sym, _∙_, ap, subst}
+use mathlib.Core.Logic.{inl}
 use mathlib.Core.Bool.{true, false}
 use mathlib.Core.List.{List, [], _∷_}
 use native.Mathlib.Omega.{arith}
@@ -14,14 +15,14 @@ use Rattle.layout.specs.declared.Field.{Field}
 use Rattle.layout.specs.Words.{firstOf, queuesOf}
 use Rattle.layout.specs.Shows.{Linked, Shows}
 use Rattle.layout.proofs.Standing.{queues-level, queues-endpoint as endpoint-queue}
-use Rattle.links.specs.Links.{Leavable, LeavesQueue, First}
+use Rattle.links.specs.Links.{Leavable, Leads, LeavesQueue, First}
 use Rattle.links.proofs.Neatness.{linked-neat, free-leave}
 use Rattle.layout.proofs.Chains.{first-zero}
 use Rattle.store.specs.Steps.{Shown, Does, Tells}
 use Rattle.store.specs.Store.{IsThread}
 use Rattle.store.specs.Readings.{threadIn}
 use Rattle.store.specs.Levels.{SetsLevel}
-use Rattle.queues.specs.Queues.{Loose, InLevel, InLevelAt, InEndpoint, leaveLevel, passingAt}
+use Rattle.queues.specs.Queues.{Loose, InLevel, InLevelAt, HeadAt, InEndpoint, leaveLevel, passingAt}
 use Rattle.queues.proofs.Changed.{queues-endpoint, level-marked, level-unmarked, waited, waiters-linked}
 use Rattle.queues.proofs.Joining.{shown-next, and-then}
 
@@ -35,8 +36,12 @@ occupied-first : (l : List ℕ) → (firstOf l ≡ 0 → ⊥) → occupied l ≡
 occupied-first [] n = absurd (n refl)
 occupied-first (u ∷ l) n = refl
 
+stands-first : (t : ℕ) (l : List ℕ) → firstOf l ≡ suc t → Mem t l
+stands-first t [] e = absurd (omega arith)
+stands-first t (u ∷ l) e = let i : t ≡ u = omega arith in inl i
+
 module _ {m : List ℕ} {p t : ℕ} where
-  pub leavable-level : Shown m (InLevelAt p t) → Leavable m p t
+  abbrev pub leavable-level : Shown m (InLevelAt p t) → Leavable m p t
   leavable-level S =
       record {
         size = S .shows .size;
@@ -44,6 +49,21 @@ module _ {m : List ℕ} {p t : ℕ} where
         queues = queuesOf (S .state);
         linked = S .shows .links;
         stands = rw (queues-level (S .state) p (S .holds .level)) (S .holds .stands);
+      }
+
+  pub leading-level : Shown m (HeadAt p t) → Leads m p t
+  leading-level S =
+      let s = S .state in
+      let e = queues-level s p (S .holds .level) in
+      record {
+        leavable =
+            leavable-level
+            (record {
+              state = s;
+              shows = S .shows;
+              holds = record { level = S .holds .level; stands = stands-first t (s .levels p) (S .holds .first) };
+            });
+        first = rw e (S .holds .first);
       }
 
   module _ {n : List ℕ} (U : LeavesQueue m p t n) where

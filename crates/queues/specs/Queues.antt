@@ -1,6 +1,6 @@
 -- What joining and leaving a queue asks, and the steps of which the machine's operations are made: where the thread
 -- stands, the level's queue without it, and the marks of an abort that passes it by.
-use Prim.Native.Nat.{ℕ, _≤_}
+use Prim.Native.Nat.{ℕ, suc, _≤_}
 use mathlib.Core.Path.{_≡_}
 use mathlib.Core.Option.{some}
 use mathlib.Core.List.{List, _++_}
@@ -8,7 +8,10 @@ use Rattle.machine.specs.Lists.{without, Mem}
 use Rattle.machine.specs.State.{State, Place, Abort, setLevel}
 use Rattle.machine.specs.Scheduling.{block, highest}
 use Rattle.machine.specs.Endpoints.{passing, setAbort}
-use Rattle.layout.specs.Words.{placeCode, linkOf, queuesOf}
+use Rattle.summary.specs.declared.Level.{Level}
+use Rattle.summary.specs.Levels.{levelOf}
+use Rattle.layout.specs.Words.{placeCode, firstOf, queuesOf}
+use Rattle.layout.specs.Shows.{Shows}
 use Rattle.links.specs.Links.{Free}
 use Rattle.store.specs.Steps.{Does}
 use Rattle.store.specs.Store.{IsThread}
@@ -29,6 +32,11 @@ pub record InLevel (t : ℕ) (s : State) : Type 0 where
 pub record InLevelAt (p t : ℕ) (s : State) : Type 0 where
   pub level : p ≤ 255
   pub stands : Mem t (s .levels p)
+
+-- t is the first in the queue of level p.
+pub record HeadAt (p t : ℕ) (s : State) : Type 0 where
+  pub level : p ≤ 255
+  pub first : firstOf (s .levels p) ≡ suc t
 
 -- Whoever runs stands in no queue.
 pub record Chooses (s : State) : Type 0 where
@@ -58,9 +66,9 @@ pub record BlocksAt (m : List ℕ) (t code badge message : ℕ) (m′ : List ℕ
 abbrev pub leaveLevel : ℕ → ℕ → State → State
 leaveLevel p t s = setLevel p (without t (s .levels p)) s
 
--- The highest occupied level as a link: level p is p + 1, and none is 0.
-abbrev pub highestLink : State → ℕ
-highestLink s = linkOf (highest (s .levels))
+-- l is the highest occupied level of whatever state the memory shows.
+pub record FindsLevel (m : List ℕ) (l : Level) : Type 0 where
+  pub found : (s : State) → Shows m s → levelOf l ≡ highest (s .levels)
 
 -- The abort at endpoint e has not to look at t any more.
 abbrev pub passingAt : ℕ → ℕ → State → State

@@ -1,17 +1,17 @@
 // Joining and leaving the ready queues and the endpoint queues, with the summary and the marks of aborts.
 // Each is a few steps without a loop, and does to whatever state the words show what the machine's operation does.
 ghost use mathlib.Core.Option.{some};
-ghost use Rattle.machine.specs.Scheduling.{enqueue as enqueueing, unqueue as unqueueing, standDown, wake as waking};
-ghost use Rattle.machine.specs.Scheduling.{dispatch as dispatching, chooseFor, choose as choosing};
+ghost use Rattle.machine.specs.Scheduling.{enqueue as enqueueing, enqueueFirst, unqueue as unqueueing, standDown};
+ghost use Rattle.machine.specs.Scheduling.{standBack, wake as waking, dispatch as dispatching, chooseFor};
+ghost use Rattle.machine.specs.Scheduling.{choose as choosing};
 ghost use Rattle.machine.specs.Endpoints.{joinEndpoint, leaveEndpoint, wakeFrom as rousing};
-ghost use Rattle.store.specs.Steps.{Shown, Does, Tells};
-ghost use Rattle.store.specs.Store.{IsThread, IsEndpoint, Any};
-ghost use Rattle.queues.specs.Queues.{Loose, InLevel, InLevelAt, Chooses, ToEndpoint, InEndpoint, BlocksAt};
-ghost use Rattle.queues.specs.Queues.{leaveLevel, passingAt, highestLink};
+ghost use Rattle.store.specs.Steps.{Shown, Does};
+ghost use Rattle.store.specs.Store.{IsThread, Any};
+ghost use Rattle.queues.specs.Queues.{Loose, InLevel, InLevelAt, HeadAt, Chooses, ToEndpoint, InEndpoint};
+ghost use Rattle.queues.specs.Queues.{BlocksAt, FindsLevel, leaveLevel, passingAt};
 use layout::Field;
 use layout::Part;
 use layout::codes;
-use layout::codes::LINK;
 use layout::codes::NOBODY;
 use layout::wide;
 use summary::Level;
@@ -26,6 +26,16 @@ pub fn enqueue(tables: &mut [u32], t: usize)
     store::set_occupied(tables, p);
 }
 
+// Thread t, in no queue, joins the head of its level's.
+fn enqueue_first(tables: &mut [u32], t: usize)
+    requires { ⌜ Shown (now tables) (Loose t) ⌝ }
+    ensures { λ _. ⌜ Does (now (tables .entry)) (now (tables .exit)) (Loose t) (enqueueFirst t) ⌝ }
+{
+    let p = store::thread(tables, Field::Priority, t);
+    links::push_head(tables, p as usize, t);
+    store::set_occupied(tables, p);
+}
+
 // Thread t leaves the queue of level p, which is empty in the summary if nobody is left there.
 fn leave_level(tables: &mut [u32], p: u32, t: usize)
     requires { ⌜ Shown (now tables) (InLevelAt p t) ⌝ }
@@ -34,6 +44,17 @@ fn leave_level(tables: &mut [u32], p: u32, t: usize)
     links::unlink(tables, p as usize, t);
     let first = links::first(tables, p as usize);
     if first == NOBODY {
+        store::set_empty(tables, p);
+    }
+}
+
+// Thread t, the first of level p, leaves its queue, which is empty in the summary if nobody is left there.
+fn leave_head(tables: &mut [u32], p: u32, t: usize)
+    requires { ⌜ Shown (now tables) (HeadAt p t) ⌝ }
+    ensures { λ _. ⌜ Does (now (tables .entry)) (now (tables .exit)) (InLevelAt p t) (leaveLevel p t) ⌝ }
+{
+    let next = links::pop_head(tables, p as usize, t);
+    if next == NOBODY {
         store::set_empty(tables, p);
     }
 }
@@ -56,6 +77,15 @@ pub fn stand_down(tables: &mut [u32], t: usize)
     enqueue(tables, t);
 }
 
+// The running thread t is displaced: it goes to its level's head, and nobody runs.
+fn stand_back(tables: &mut [u32], t: usize)
+    requires { ⌜ Shown (now tables) (Loose t) ⌝ }
+    ensures { λ _. ⌜ Does (now (tables .entry)) (now (tables .exit)) (Loose t) (standBack t) ⌝ }
+{
+    store::set_running(tables, NOBODY);
+    enqueue_first(tables, t);
+}
+
 // Thread t, in no queue, is woken with an outcome, and joins its level's tail.
 pub fn wake(tables: &mut [u32], t: usize, outcome: u32, badge: u32, message: u32)
     requires { ⌜ Shown (now tables) (Loose t) ⌝ }
@@ -74,17 +104,13 @@ pub fn block(tables: &mut [u32], t: usize, place: u32, badge: u32, message: u32)
     store::set_place(tables, t, place, machine::codes::NO_OUTCOME, badge, message);
 }
 
-// The link to the highest occupied level: level p is p + 1, and none is 0.
-fn highest_level(tables: &[u32]) -> u32
+// The highest occupied level, if there is one.
+fn highest_level(tables: &[u32]) -> Level
     requires { ⌜ Shown (now tables) Any ⌝ }
-    ensures { λ r. ⌜ Tells (now (tables .entry)) Any r highestLink ⌝ }
+    ensures { λ r. ⌜ FindsLevel (now (tables .entry)) r ⌝ }
 {
     let summary = store::load_summary(tables);
-    let level = summary.highest();
-    let Level::At(p) = level else {
-        return 0;
-    };
-    p + 1
+    summary.highest()
 }
 
 // The head of the highest queue, if anybody is ready, runs.
@@ -93,12 +119,11 @@ pub fn dispatch(tables: &mut [u32])
     ensures { λ _. ⌜ Does (now (tables .entry)) (now (tables .exit)) Any dispatching ⌝ }
 {
     let level = highest_level(tables);
-    if level == 0 {
+    let Level::At(p) = level else {
         return;
-    }
-    let p = level - 1;
+    };
     let link = links::first(tables, p as usize);
-    leave_level(tables, p, (link - LINK) as usize);
+    leave_head(tables, p, link as usize - wide::LINK);
     store::set_running(tables, link);
 }
 
@@ -109,8 +134,11 @@ fn displace(tables: &mut [u32], t: usize)
 {
     let p = store::thread(tables, Field::Priority, t);
     let level = highest_level(tables);
-    if p + 1 < level {
-        stand_down(tables, t);
+    let Level::At(highest) = level else {
+        return;
+    };
+    if p < highest {
+        stand_back(tables, t);
         dispatch(tables);
     }
 }
@@ -125,7 +153,7 @@ pub fn choose(tables: &mut [u32])
         dispatch(tables);
         return;
     }
-    displace(tables, (link - LINK) as usize);
+    displace(tables, link as usize - wide::LINK);
 }
 
 // Thread t, in no queue, joins the tail of endpoint e's.

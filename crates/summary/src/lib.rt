@@ -59,7 +59,8 @@ impl Summary {
         }
     }
 
-    // The highest occupied level, by the leading zeros of the top word and then of the word that it names.
+    // The highest occupied level, by the leading zeros of the top word and then of the word that it names. Here too the
+    // words have an array of their own.
     pub fn highest(self) -> Level
         requires { ⌜ IsSummary self ⌝ }
         ensures { λ r. ⌜ Finds self r ⌝ }
@@ -70,7 +71,8 @@ impl Summary {
         }
         let w = 31 - u32::leading_zeros(top);
         let i = w as usize;
-        let word = self.words[i];
+        let words = self.words;
+        let word = words[i];
         let bit = 31 - u32::leading_zeros(word);
         let level = 32 * w + bit;
         Level::At(level)

@@ -11,7 +11,7 @@ use Rattle.machine.specs.State.{setThread}
 use Rattle.machine.specs.Scheduling.{enqueue, unqueue, standDown}
 use Rattle.machine.specs.Endpoints.{passing, leaveEndpoint}
 use Rattle.machine.specs.Machine.{isRunning, leaveReady, leave}
-use Rattle.machine.proofs.Lists.{put-all, mem-snoc, mem-without}
+use Rattle.machine.proofs.Lists.{put-all, at-tail, inserted-only, mem-without}
 use Rattle.machine.specs.Mid.{Mid}
 use Rattle.machine.proofs.Preserved.Ready.{none-some}
 use Rattle.machine.proofs.Preserved.Sites.{not-at}
@@ -78,7 +78,8 @@ apart-enqueue {s} t n A u r =
       priority = O .priority;
       level =
           put-all (λ k l. Mem u l → ⊥) (s .levels) p (s .levels p ++ (t ∷ []))
-          (λ m. ⊎-elim (O .level p) (λ e. n (r ∙ ap some e)) (mem-snoc u t (s .levels p) m)) (λ k _. O .level k);
+          (λ m. ⊎-elim (O .level p) (λ e. n (r ∙ ap some e)) (inserted-only (at-tail t (s .levels p)) u m))
+          (λ k _. O .level k);
       waiter = O .waiter;
     }
 

@@ -6,7 +6,7 @@ ghost use lib.ListN.{length, set, replicate};
 ghost use Rattle.layout.specs.declared.Slot.{Slot};
 ghost use Rattle.layout.specs.Addresses.{column, offset, at, linkAt, word, afterAt, beforeAt, ValidSlot, ValidLink};
 ghost use Rattle.layout.specs.Addresses.{tableWords};
-ghost use Rattle.words.specs.Access.{Address};
+ghost use Rattle.words.specs.Access.{Address, Pair};
 use layout::Field;
 use layout::Link;
 use layout::Part;
@@ -72,28 +72,18 @@ fn link_at(k: Link) -> usize
     }
 }
 
-// The address of the link after link x of queue q: link 0 is the queue itself, link t + 1 is thread t.
-fn after_at(q: usize, x: usize) -> usize
+// Which pair of words link x of queue q is, what comes after it and what comes before it: link 0 is the queue itself,
+// link t + 1 is thread t. The queue's own is computed in either case, so that the choice is no branch.
+fn pair_at(q: usize, x: usize) -> usize
     requires { ⌜ (q ≤ 319) × (x ≤ 256) ⌝ }
-    ensures { λ r. ⌜ Address r (afterAt q x) ⌝ }
+    ensures { λ r. ⌜ Pair r q x ⌝ }
 {
+    let own = 1280 + q;
     if x == wide::NOBODY {
-        return link_at(Link::Head(q));
+        return own;
     }
     let t = x - wide::LINK;
-    link_at(Link::Next(t))
-}
-
-// The address of the link before link x of queue q.
-fn before_at(q: usize, x: usize) -> usize
-    requires { ⌜ (q ≤ 319) × (x ≤ 256) ⌝ }
-    ensures { λ r. ⌜ Address r (beforeAt q x) ⌝ }
-{
-    if x == wide::NOBODY {
-        return link_at(Link::Tail(q));
-    }
-    let t = x - wide::LINK;
-    link_at(Link::Prev(t))
+    5 * t + 3
 }
 
 // A word that is no link.
@@ -133,7 +123,7 @@ pub fn put_after(tables: &mut [u32], q: usize, x: usize, v: u32)
     requires { ⌜ (length (now tables) ≡ tableWords) × (q ≤ 319) × (x ≤ 256) ⌝ }
     ensures { λ _. ⌜ now (tables .exit) ≡ set (now (tables .entry)) (afterAt q x) v ⌝ }
 {
-    tables[after_at(q, x)] = v;
+    tables[2 * pair_at(q, x)] = v;
 }
 
 // The link before link x of queue q becomes v.
@@ -141,7 +131,7 @@ pub fn put_before(tables: &mut [u32], q: usize, x: usize, v: u32)
     requires { ⌜ (length (now tables) ≡ tableWords) × (q ≤ 319) × (x ≤ 256) ⌝ }
     ensures { λ _. ⌜ now (tables .exit) ≡ set (now (tables .entry)) (beforeAt q x) v ⌝ }
 {
-    tables[before_at(q, x)] = v;
+    tables[2 * pair_at(q, x) + 1] = v;
 }
 
 // The words at the width at which the check reads, so that code above has no cast.

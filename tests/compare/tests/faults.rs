@@ -3,7 +3,8 @@
 
 use comparison::{compare, report, Core};
 use second::{
-    memory, read, shown, sound_words, word_name, write, Answer, Call, Machine, Read, Written,
+    memory, read, shown, sound_words, word_name, write, Answer, Call, Machine, Read, Situation,
+    Written,
 };
 
 /// A fault, made on the words, the answer or the scratch after a call.
@@ -22,6 +23,7 @@ enum Fault {
     CountOfTheAllowance,
     BadgeNotAnswered,
     RunningKept,
+    DisplacedToTheTail,
     ScratchLeft,
     ScratchReadByTheCheck,
     CheckWrites,
@@ -33,7 +35,7 @@ enum Fault {
 }
 
 /// Every fault that a core may have.
-const FAULTS: [Fault; 20] = [
+const FAULTS: [Fault; 21] = [
     Fault::CursorKept,
     Fault::EndMarkKept,
     Fault::OwnerKept,
@@ -46,6 +48,7 @@ const FAULTS: [Fault; 20] = [
     Fault::CountOfTheAllowance,
     Fault::BadgeNotAnswered,
     Fault::RunningKept,
+    Fault::DisplacedToTheTail,
     Fault::ScratchLeft,
     Fault::ScratchReadByTheCheck,
     Fault::CheckWrites,
@@ -91,6 +94,19 @@ impl Faulty {
             old
         } else {
             new
+        }
+    }
+
+    /// The displaced thread, which ran before the call, loses its turn: its
+    /// priority is changed and changed back.
+    fn lose_turn(&mut self, ran: Option<u8>) {
+        let displaced = self.machine.log().seen.contains(&Situation::Displaced);
+        let Some(t) = ran.filter(|_| displaced) else {
+            return;
+        };
+        let own = u32::from(self.machine.thread(t).priority);
+        for priority in [own + 1, own] {
+            self.machine.call(&Call::SetPriority { thread: t.into(), priority });
         }
     }
 
@@ -140,7 +156,11 @@ impl Core for Faulty {
         if !self.sound {
             return [17, 0, 0, 0];
         }
+        let ran = self.machine.running();
         let answer = self.machine.call(call);
+        if self.fault == Fault::DisplacedToTheTail {
+            self.lose_turn(ran);
+        }
         let mut tables = memory(&self.machine);
         for (at, word) in tables.iter_mut().enumerate() {
             if self.tables[at] != *word {

@@ -244,8 +244,13 @@ impl Machine {
 
     /// Joins the tail of its level.
     pub(crate) fn make_ready(&mut self, t: u8) {
+        self.join_level(t, Links::push);
+    }
+
+    /// Joins its level at one of its ends.
+    fn join_level(&mut self, t: u8, push: fn(&mut Links, &mut Queue, u8)) {
         let level = self.thread(t).priority;
-        self.links.push(&mut self.levels[level as usize], t);
+        push(&mut self.links, &mut self.levels[level as usize], t);
         self.summary = self.summary.occupied(level);
         self.threads[t as usize].place = Place::Ready;
     }
@@ -285,7 +290,8 @@ impl Machine {
     }
 
     /// After each accepted call: the head of the highest queue runs if nobody
-    /// does or if its level is above the running thread's.
+    /// does or if its level is above the running thread's, which then goes to
+    /// the head of its own.
     fn choose(&mut self) {
         let Some(level) = self.summary.highest() else {
             return;
@@ -295,11 +301,11 @@ impl Machine {
             if own >= level {
                 return;
             }
-            let behind = self.levels[own as usize].tail;
-            let woken = behind.is_some_and(|b| self.log.woken.contains(&b));
-            self.log.saw_if(woken, Situation::DisplacedBehind);
+            let last = self.levels[own as usize].tail;
+            let woken = last.is_some_and(|l| self.log.woken.contains(&l));
+            self.log.saw_if(woken, Situation::DisplacedBefore);
             self.log.saw(Situation::Displaced);
-            self.make_ready(t);
+            self.join_level(t, Links::push_first);
         }
         let head = self.levels[level as usize].head.expect("level is occupied");
         self.leave_ready(head);

@@ -37,6 +37,17 @@ impl Links {
         queue.tail = Some(t);
     }
 
+    /// Joins the head.
+    pub fn push_first(&mut self, queue: &mut Queue, t: u8) {
+        self.prev[t as usize] = None;
+        self.next[t as usize] = queue.head;
+        match queue.head {
+            Some(first) => self.prev[first as usize] = Some(t),
+            None => queue.tail = Some(t),
+        }
+        queue.head = Some(t);
+    }
+
     /// Leaves the queue from anywhere in it.
     pub fn unlink(&mut self, queue: &mut Queue, t: u8) {
         let before = self.prev[t as usize].take();

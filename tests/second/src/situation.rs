@@ -72,7 +72,7 @@ situations! {
     ClosingEmptyGone = "closing and empty endpoint deleted",
     ClosingEmptyKept = "24 at a closing and empty endpoint",
     Displaced = "running thread displaced",
-    DisplacedBehind = "caller displaced behind threads it woke at its level",
+    DisplacedBefore = "caller displaced before threads it woke at its level",
     TicksSpent = "ticks spent",
     IdleTick = "tick with nobody running",
     SamePriority = "same priority set",

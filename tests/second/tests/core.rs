@@ -16,14 +16,14 @@ n call code count badge message running
 1 1 0 0 0 0 1
 2 1 0 0 0 0 3
 3 4 0 0 0 0 3
-4 7 1 0 0 0 2
-5 7 1 0 0 0 1
+4 7 1 0 0 0 1
+5 7 1 0 0 0 2
 6 12 2 1 0 0 3
 7 7 26 0 0 0 3
 8 8 0 0 8 200 3
 9 12 0 0 0 0 3
-10 2 0 0 0 0 1
-11 12 0 0 0 0 1
+10 2 0 0 0 0 2
+11 12 0 0 0 0 2
 ";
 
 fn bytes(words: &[u32]) -> Vec<u8> {
@@ -42,12 +42,12 @@ fn stops() {
         assert_eq!(listing(&vec![0; odd]), format!("{HEADER}0 0 18 0 0 0 -\n"));
         let mut input = bytes(&INPUT);
         input.extend(vec![9; odd]);
-        assert_eq!(listing(&input), format!("{OUTPUT}12 0 18 0 0 0 1\n"));
+        assert_eq!(listing(&input), format!("{OUTPUT}12 0 18 0 0 0 2\n"));
     }
     let mut input = bytes(&INPUT);
     input.extend(bytes(&[0x11000100, 0x14000000]));
     input.push(1);
-    assert_eq!(listing(&input), format!("{OUTPUT}12 0 19 0 0 0 1\n"));
+    assert_eq!(listing(&input), format!("{OUTPUT}12 0 19 0 0 0 2\n"));
     assert_eq!(
         listing(&bytes(&[0x16000000, 0x17000000])[..7],),
         format!("{HEADER}0 6 0 0 0 0 -\n1 0 18 0 0 0 -\n")

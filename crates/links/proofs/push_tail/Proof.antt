@@ -1,6 +1,6 @@
 -- Thread t joins the tail of queue q by three stores: what the calls ask, and the links after them.
 use borrow.Author.Needs.{needs}
-use Rattle.links.proofs.Joining.{tail-small, pushed}
+use Rattle.links.proofs.Joining.{tail-small, pushed-tail}
 use Rattle.links.proofs.push_tail.Statement.{statement}
 use Rattle.links.proofs.push_tail.Tie as tie
 
@@ -38,7 +38,7 @@ returns c =
     let at-put-after = at-put-link .before .before .before .before in
     let at-last = at-put-after .before .before in
     let at-start = at-last .before .before .before in
-    pushed (at-start .pre) (at-last .get-link .ensures) (at-put-after .put-after .ensures)
+    pushed-tail (at-start .pre) (at-last .get-link .ensures) (at-put-after .put-after .ensures)
     (at-put-link .put-link .ensures) (at-put-link2 .put-link2 .ensures)
 
 pub push-tail-spec : {M : Type 1} → statement M

@@ -24,7 +24,7 @@ use Rattle.machine.specs.Work.{allowanceOf, WorkLeft, to-remove, to-look
 use Rattle.machine.proofs.Lists.{put-same}
 use Rattle.machine.proofs.Preserved.Mid.{sound-mid}
 use Rattle.machine.proofs.Preserved.AbortSteps.{pending-once}
-use Rattle.machine.proofs.Calls.Running.{goes-on-exactly}
+use Rattle.machine.proofs.Running.{goes-on-exactly}
 use Rattle.machine.proofs.Calls.Shapes.{Shape, refused, plainly, handed, removed, looked, shape}
 
 -- "Number, three zeros", and everything "left as it was": a refusal changes nothing.

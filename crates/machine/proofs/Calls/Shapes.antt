@@ -31,7 +31,7 @@ use Rattle.machine.specs.Machine.{receiveFrom, receiveAt, receive, yield
 use Rattle.machine.specs.Machine.{performIf, step}
 use Rattle.machine.specs.Work.{allowanceOf, WorkLeft, to-remove, to-look, not-begun}
 use Rattle.machine.proofs.Lists.{Same, same, other, same?, clash, put-same, put-all}
-use Rattle.machine.proofs.Calls.Running.{choose-keeps}
+use Rattle.machine.proofs.Running.{choose-keeps}
 use Rattle.machine.proofs.Calls.Loops.{Removed, removes, looks}
 
 -- The call's own abort was begun in it or before: another badge's, if one stood, wanted fewer looks than the allowance.

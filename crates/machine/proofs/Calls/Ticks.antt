@@ -28,7 +28,7 @@ use Rattle.machine.specs.Machine.{receiveFrom, receiveAt, receive, yield
 use Rattle.machine.specs.Machine.{performIf, step}
 use Rattle.machine.specs.Sound.{Present}
 use Rattle.machine.proofs.Lists.{clash, put-same, put-other, put-all}
-use Rattle.machine.proofs.Calls.Running.{choose-keeps}
+use Rattle.machine.proofs.Running.{choose-keeps}
 
 pub is-absent : (p : Place) → isAbsent p ≡ true → p ≡ absent
 is-absent absent e = refl

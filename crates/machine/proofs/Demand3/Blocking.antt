@@ -2,7 +2,7 @@
 use Prim.Native.Nat.{ℕ, suc, _≤_}
 use mathlib.Core.Path.{_≡_, refl, sym, _∙_, ap, subst}
 use mathlib.Core.Logic.{_⊎_}
-use mathlib.Core.Bool.{Bool, true, false}
+use mathlib.Core.Bool.{true, false}
 use mathlib.Core.Option.{Option, none, some}
 use mathlib.Core.List.{List, [], _∷_, _++_}
 use native.Mathlib.Omega.{arith}
@@ -11,14 +11,14 @@ use Rattle.machine.specs.declared.Answer.{Answer}
 use Rattle.machine.specs.declared.Call.{Call}
 use Rattle.machine.specs.Lists.{put, Mem}
 use Rattle.machine.specs.State.{State, Thread, sending, Abort, live, Endpoint}
-use Rattle.machine.specs.Scheduling.{enqueue, standDown, dispatchHead, dispatchAt, dispatch, above, displace}
-use Rattle.machine.specs.Scheduling.{chooseFor, choose, highest}
+use Rattle.machine.specs.Scheduling.{choose}
 use Rattle.machine.specs.Results.{Result, plain}
 use Rattle.machine.specs.Sorts.{sortOf}
 use Rattle.machine.specs.History.{Aborting, Ended, queues?}
 use Rattle.machine.specs.Claim.{isOld}
 use Rattle.machine.proofs.Lists.{Same, same, other, same?, put-all, put-same, put-other}
 use Rattle.machine.proofs.Sublists.{Sub, map-agree, entry-below, entry-last}
+use Rattle.machine.proofs.Running.{choose-keeps}
 use Rattle.machine.proofs.Demand3.Standing.{Stage, naming, grown, callMade, Made, Stood, Both, Over, Core}
 use Rattle.machine.proofs.Demand3.Standing.{not-old}
 use Rattle.machine.proofs.Demand3.Standing.{made-grow, both-grow, over-grow}
@@ -31,31 +31,10 @@ pub record Stays (s r : State) : Type 0 where
   pub endpoints : r .endpoints ≡ s .endpoints
   pub lines : r .lines ≡ s .lines
 
-stays-head : (l : List ℕ) (p : ℕ) (s : State) → Stays s (dispatchHead l p s)
-unfolding dispatchHead
-stays-head [] p s = record { threads = refl; endpoints = refl; lines = refl }
-stays-head (t ∷ q) p s = record { threads = refl; endpoints = refl; lines = refl }
-
-stays-at : (o : Option ℕ) (s : State) → Stays s (dispatchAt o s)
-unfolding dispatchAt
-stays-at none s = record { threads = refl; endpoints = refl; lines = refl }
-stays-at (some p) s = stays-head (s .levels p) p s
-
-stays-displace : (b : Bool) (t : ℕ) (s : State) → Stays s (displace b t s)
-unfolding displace dispatch standDown enqueue
-stays-displace true t s =
-    let H = stays-at (highest (standDown t s .levels)) (standDown t s) in
-    record { threads = H .threads; endpoints = H .endpoints; lines = H .lines }
-stays-displace false t s = record { threads = refl; endpoints = refl; lines = refl }
-
-stays-for : (o : Option ℕ) (s : State) → Stays s (chooseFor o s)
-unfolding chooseFor dispatch
-stays-for none s = stays-at (highest (s .levels)) s
-stays-for (some t) s = stays-displace (above (s .threads t .priority) (highest (s .levels))) t s
-
 pub stays-choose : (s : State) → Stays s (choose s)
-unfolding choose
-stays-choose s = stays-for (s .runs) s
+stays-choose s =
+    let K = choose-keeps s in
+    record { threads = K .0; endpoints = K .1; lines = K .2 }
 
 pub leaves-choose : (s r : State) → NobodyComes s r → NobodyComes s (choose r)
 leaves-choose s r H = rw (stays-choose r .threads, stays-choose r .endpoints) H

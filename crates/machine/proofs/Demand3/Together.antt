@@ -17,7 +17,8 @@ use Rattle.machine.specs.Walk.{Walk, Course, isNone, leftOf, passes, set
 use Rattle.machine.specs.Claim.{isOld}
 use Rattle.machine.specs.Tied.{Tied}
 use Rattle.machine.proofs.Lists.{Same, same, other, same?, put-all, put-same, put-other, mem-left, mem-right}
-use Rattle.machine.proofs.Lists.{mem-keep, mem-last, only-keep, distinct-apart, without-hit, only-nil, only-hit}
+use Rattle.machine.proofs.Lists.{mem-keep, at-tail, inserted-mem, only-keep, distinct-apart, without-hit}
+use Rattle.machine.proofs.Lists.{only-nil, only-hit}
 use Rattle.machine.proofs.Lists.{only-miss, only-none}
 use Rattle.machine.proofs.Sublists.{Sub, take, sub-trans, sub-mem, sub-distinct, sub-map, sub-after, sub-without}
 use Rattle.machine.proofs.Sublists.{only-append, only-without, isIn-true, mem-isIn, not-isIn, mem-map, map-mem}
@@ -88,7 +89,7 @@ stood-look stage {f} {g} {e} u l {a} {x} places first b old S =
     left t (inr m) = go (same? t u)
       where
         go : Same t u → Mem (stage .since t) (x .looked ++ (stage .since u ∷ [])) ⊎ Mem t (without u (a .pending))
-        go (same i _) = inl (rw i (mem-last (stage .since u) (x .looked)))
+        go (same i _) = inl (rw i (inserted-mem (at-tail (stage .since u) (x .looked))))
         go (other i _) = inr (mem-keep u t (a .pending) m i)
 
     removed :

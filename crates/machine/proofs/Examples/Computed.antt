@@ -1,7 +1,8 @@
 -- One name to open the machine and the history by, where a run of given calls is computed.
 use Rattle.machine.specs.Lists.{put, without, only}
-use Rattle.machine.specs.Scheduling.{enqueue, unqueue, standDown, wake, block, highestBelow, highest}
-use Rattle.machine.specs.Scheduling.{dispatchHead, dispatchAt, dispatch, displace, chooseFor, choose}
+use Rattle.machine.specs.Scheduling.{enqueue, enqueueFirst, unqueue, standDown, standBack, wake, block}
+use Rattle.machine.specs.Scheduling.{highestBelow, highest, dispatchHead, dispatchAt, dispatch, displace}
+use Rattle.machine.specs.Scheduling.{chooseFor, choose}
 use Rattle.machine.specs.Endpoints.{joinEndpoint, leaveEndpoint, wakeFrom, dropped, dropDebt, noteTo, note}
 use Rattle.machine.specs.Endpoints.{endAbort}
 use Rattle.machine.specs.Aborts.{oneMore, removeUpTo, deleted, deleteFrom, deleteAt, delete, hits, lookAt, look}
@@ -19,13 +20,13 @@ use Rattle.machine.specs.Outcomes.{deletes, walks, abortsBy, abortsOf, o
 use Rattle.machine.specs.Recorded.{deliveredIf, delivered, abortCallsOf, recorded, told, runFrom}
 
 unfoldable pub computed : Unit {0}
-unfolding put without only enqueue unqueue standDown wake block highestBelow highest dispatchHead dispatchAt dispatch
-    displace chooseFor choose joinEndpoint leaveEndpoint wakeFrom dropped dropDebt noteTo note endAbort oneMore
-    removeUpTo deleted deleteFrom deleteAt delete hits lookAt look afterLook lookUpTo begin joinAs join ended lookedOwn
-    workOwn beginAfter finished lookedOther workOther underBadge abortFrom dropUnless dropOther abortOpen abortAt
-    abortUnless abort createIf createThread leaveReady leave destroyIf destroyThread moveReady changeUnless priorityIf
-    setPriority createAt createEndpoint fire interrupt leaveTicks tickFor tick sendTo sendUnless sendAt send receiveFrom
-    receiveAt receive yield waitAt wait perform performIf step named leftOf begins ends passes settles settle takes
-    takeLook walk takesUp joinsIn letsGo hears closes close deletes walks abortsBy abortsOf outcomeOf outcomeIf
-    deliveredIf delivered abortCallsOf recorded told runFrom
+unfolding put without only enqueue enqueueFirst unqueue standDown standBack wake block highestBelow highest
+    dispatchHead dispatchAt dispatch displace chooseFor choose joinEndpoint leaveEndpoint wakeFrom dropped dropDebt
+    noteTo note endAbort oneMore removeUpTo deleted deleteFrom deleteAt delete hits lookAt look afterLook lookUpTo
+    begin joinAs join ended lookedOwn workOwn beginAfter finished lookedOther workOther underBadge abortFrom
+    dropUnless dropOther abortOpen abortAt abortUnless abort createIf createThread leaveReady leave destroyIf
+    destroyThread moveReady changeUnless priorityIf setPriority createAt createEndpoint fire interrupt leaveTicks
+    tickFor tick sendTo sendUnless sendAt send receiveFrom receiveAt receive yield waitAt wait perform performIf step
+    named leftOf begins ends passes settles settle takes takeLook walk takesUp joinsIn letsGo hears closes close
+    deletes walks abortsBy abortsOf outcomeOf outcomeIf deliveredIf delivered abortCallsOf recorded told runFrom
 computed = tt

@@ -58,8 +58,8 @@ hands place e b m queue handed =
 reports : ℕ → ℕ → ℕ → Option Reported
 reports e b began = some (record { endpoint = e; badge = b; began = began })
 
--- The example of document 01. Thread 1's abort of badge 7, broken off in call 6, ends in call 9, which thread 3
--- makes; call 11 is answered from thread 1's note.
+-- The example of document 01. Thread 2's abort of badge 7, broken off in call 6, ends in call 9, which thread 3
+-- makes; call 11 is answered from thread 2's note.
 example : List Call
 example =
     CreateThread 1 10 ∷ CreateThread 2 10 ∷ CreateThread 3 20 ∷ CreateEndpoint 0 ∷ Send 0 7 100 ∷ Send 0 8 200

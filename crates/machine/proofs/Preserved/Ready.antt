@@ -3,12 +3,13 @@ use Prim.Native.Nat.{ℕ}
 use mathlib.Core.Path.{_≡_, refl, sym, _∙_, ap, subst}
 use mathlib.Core.Logic.{inl, inr, _↔_, ⊎-elim}
 use mathlib.Core.Option.{Option, none, some}
-use mathlib.Core.List.{List, [], _∷_, _++_}
+use mathlib.Core.List.{List, _∷_}
 use native.Mathlib.Omega.{arith}
 use Rattle.machine.specs.Lists.{put, without, Mem, Distinct}
 use Rattle.machine.specs.State.{Thread, able}
-use Rattle.machine.proofs.Lists.{Same, same, other, same?, put-same, put-other, put-all, mem-last, mem-left}
-use Rattle.machine.proofs.Lists.{mem-snoc, mem-without, mem-keep, distinct-snoc, distinct-without}
+use Rattle.machine.proofs.Lists.{Same, same, other, same?, put-same, put-other, put-all, mem-without, mem-keep}
+use Rattle.machine.proofs.Lists.{Inserted, inserted-mem, inserted-kept, inserted-only, inserted-once}
+use Rattle.machine.proofs.Lists.{distinct-without}
 use Rattle.machine.proofs.Preserved.Parts.{Levels, Idle}
 
 -- The two tables agree but at t.
@@ -86,30 +87,30 @@ module _ (t : ℕ) (f g : ℕ → Thread) (away : Else t f g) where
       (λ u p n. (λ m. m, λ m. m)) (S .once) (λ h. absurd (none-some refl h))
       (λ p. (λ m. absurd (S .ready t p .0 m .0 .1 r), λ k. absurd (unable′ (k .0 .0))))
 
-  -- t becomes able and joins the tail of its level p.
+  -- t becomes able and joins its level p.
   pub levels-join :
-      {runs : Option ℕ} {L : ℕ → List ℕ} (M : ℕ → List ℕ) (p : ℕ) → Levels f runs L
+      {runs : Option ℕ} {L : ℕ → List ℕ} (M : ℕ → List ℕ) (p : ℕ) {l : List ℕ} → Levels f runs L
       → (f t .place ≡ able → ⊥) → g t .place ≡ able → g t .priority ≡ p
-      → M p ≡ L p ++ (t ∷ []) → Else p L M → Levels g runs M
-  levels-join {runs} {L} M p S unable able′ prio tail rest =
+      → Inserted t (L p) l → M p ≡ l → Else p L M → Levels g runs M
+  levels-join {runs} {L} M p {l} S unable able′ prio I new rest =
       levels-change runs runs L M S (λ u n. (λ h. h, λ h. h)) (λ u q n. mem u q n (same? q p)) (λ q. once q (same? q p))
       (λ h. able′) (λ q. stand q (same? q p))
     where
       mem : (u q : ℕ) → (u ≡ t → ⊥) → Same q p → Mem u (L q) ↔ Mem u (M q)
       mem u q n (same e _) =
-          rw (e, tail) (
-            λ m. mem-left u (L p) (t ∷ []) m,
-            λ m. ⊎-elim (λ h. h) (λ h. absurd (n h)) (mem-snoc u t (L p) m),
+          rw (e, new) (
+            inserted-kept I u,
+            λ m. ⊎-elim (λ h. h) (λ h. absurd (n h)) (inserted-only I u m),
           )
       mem u q n (other k _) = rw (rest q k) (λ m. m, λ m. m)
 
       once : (q : ℕ) → Same q p → Distinct (M q)
-      once q (same e _) = rw (e, tail) (distinct-snoc t (L p) (S .once p) (λ m. unable (S .ready t p .0 m .0 .0)))
+      once q (same e _) = rw (e, new) (inserted-once I (S .once p) (λ m. unable (S .ready t p .0 m .0 .0)))
       once q (other k _) = rw (rest q k) (S .once q)
 
       stand : (q : ℕ) → Same q p → Mem t (M q) ↔ (Idle g runs t × (g t .priority ≡ q))
       stand q (same e _) =
-          (λ m. ((able′, λ h. unable (S .running t h)), prio ∙ sym e), λ r. rw (e, tail) (mem-last t (L p)))
+          (λ m. ((able′, λ h. unable (S .running t h)), prio ∙ sym e), λ r. rw (e, new) (inserted-mem I))
       stand q (other k _) = (
         λ m. absurd (unable (S .ready t q .0 (rw (rest q k) at m) .0 .0)),
         λ r. absurd (k (sym (r .1) ∙ prio)),

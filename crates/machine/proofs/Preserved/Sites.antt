@@ -12,8 +12,9 @@ use Rattle.machine.specs.Lists.{without, Mem}
 use Rattle.machine.specs.State.{Thread, Place, absent, able, sending, receiving, waiting, Abort, missing, live}
 use Rattle.machine.specs.State.{Endpoint, Line, quiet, pending, awaited, missingEndpoint}
 use Rattle.machine.specs.Endpoints.{underAbort, ownerOf, passing}
-use Rattle.machine.proofs.Lists.{Same, same, other, same?, clash, mem-last, mem-left, mem-snoc, mem-without}
-use Rattle.machine.proofs.Lists.{mem-keep, distinct-snoc, distinct-without, without-append}
+use Rattle.machine.proofs.Lists.{Same, same, other, same?, clash, mem-left, mem-without, mem-keep}
+use Rattle.machine.proofs.Lists.{at-tail, inserted-mem, inserted-only, inserted-once, distinct-without}
+use Rattle.machine.proofs.Lists.{without-append}
 use Rattle.machine.proofs.Preserved.Parts.{At, AbortFits, Site, LinesFit, Owned}
 use Rattle.machine.proofs.Preserved.Ready.{Else}
 
@@ -166,7 +167,7 @@ module _ (t : ℕ) (f g : ℕ → Thread) (away : Else t f g) (e : ℕ) where
         empty = λ h. absurd (not-missing h);
         no-abort = S .no-abort;
         queued = λ u. queued u (same? u t);
-        once = distinct-snoc t (x .waiters) (S .once) (λ m. out (S .queued t .0 m));
+        once = inserted-once (at-tail t (x .waiters)) (S .once) (λ m. out (S .queued t .0 m));
         one-kind = λ u v h k. one-kind u v h k (same? u t) (same? v t);
         marked = marked (x .abort) clear (S .marked);
       }
@@ -175,10 +176,10 @@ module _ (t : ℕ) (f g : ℕ → Thread) (away : Else t f g) (e : ℕ) where
       not-missing h = let z : _≡_ {A = ℕ} 0 1 = cc in omega arith
 
       queued : (u : ℕ) → Same u t → Mem u (x .waiters ++ (t ∷ [])) ↔ At (g u .place) e
-      queued u (same i _) = rw i (λ m. at, λ h. mem-last t (x .waiters))
+      queued u (same i _) = rw i (λ m. at, λ h. inserted-mem (at-tail t (x .waiters)))
       queued u (other n _) =
           rw (away u n) (
-            λ m. ⊎-elim (S .queued u .0) (λ i. absurd (n i)) (mem-snoc u t (x .waiters) m),
+            λ m. ⊎-elim (S .queued u .0) (λ i. absurd (n i)) (inserted-only (at-tail t (x .waiters)) u m),
             λ h. mem-left u (x .waiters) (t ∷ []) (S .queued u .1 h),
           )
 

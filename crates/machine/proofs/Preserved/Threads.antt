@@ -18,7 +18,7 @@ use Rattle.machine.specs.Machine.{isAbsent, isAble, isRunning, createIf,
 use Rattle.machine.specs.Machine.{destroyIf, destroyThread, moveReady, changeUnless, priorityIf, setPriority}
 use Rattle.machine.specs.Machine.{leaveTicks, tickFor, tick, yield}
 use Rattle.machine.specs.Sound.{Sound}
-use Rattle.machine.proofs.Lists.{clash, put-same, put-other, put-all}
+use Rattle.machine.proofs.Lists.{clash, put-same, put-other, put-all, at-tail}
 use Rattle.machine.specs.Mid.{Mid}
 use Rattle.machine.proofs.Preserved.Mid.{sound-mid}
 use Rattle.machine.proofs.Preserved.Parts.{At, Entry, Levels, Site, LinesFit, parts, whole}
@@ -84,7 +84,7 @@ mid-new s t p M gone ht hp =
       levels =
           levels-join t f g away (put (s .levels) q (s .levels q ++ (t ∷ []))) q (P .levels)
           (λ h. differ gone h refl) now
-          refl (put-same (s .levels) q _) (put-else (s .levels) q _);
+          refl (at-tail t (s .levels q)) (put-same (s .levels) q _) (put-else (s .levels) q _);
       lines = lines-aside t f g away (P .lines) (λ l h. differ gone h refl) (λ l h. differ now h refl);
       owned =
           owned-same f g (s .endpoints) (s .endpoints)
@@ -314,7 +314,7 @@ module _ (s : State) (t p : ℕ) (M : Mid s) (present : s .threads t .place ≡ 
       (levels-join t (gone f t) g (λ u n. put-other f t u x n ∙ sym (put-other f t u absentThread n)) _ (g t .priority)
       (levels-leave t f (gone f t) (put-else f t absentThread) less q (parts M .levels) idle absentee refl
       (put-same (s .levels) q _) (put-else (s .levels) q _))
-      absentee (put-place f t x ∙ was) refl (put-same less (g t .priority) _)
+      absentee (put-place f t x ∙ was) refl (at-tail t (less (g t .priority))) (put-same less (g t .priority) _)
       (put-else less (g t .priority) _))
     where
       absentee : gone (s .threads) t t .place ≡ able → ⊥

@@ -3,16 +3,16 @@ use Prim.Native.Nat.{ℕ, _≤_, _<_, _^_}
 use mathlib.Core.Path.{_≡_, refl, sym, _∙_, ap}
 use mathlib.Core.Logic.{inl, inr}
 use mathlib.Core.Bool.{false}
-use mathlib.Core.Option.{Option, some}
+use mathlib.Core.Option.{Option, none, some}
 use mathlib.Core.List.{List, [], _∷_, _++_}
 use native.Mathlib.Omega.{arith}
 use Rattle.machine.specs.Lists.{put}
 use Rattle.machine.specs.State.{State, Thread, Place, absent, able, sending, receiving, waiting, live, quiet}
-use Rattle.machine.specs.State.{awaited, absentThread, withPlace, setLine}
-use Rattle.machine.specs.Scheduling.{enqueue, standDown, wake, block}
+use Rattle.machine.specs.State.{awaited, absentThread, withPlace, setRuns, setLevel, setLine}
+use Rattle.machine.specs.Scheduling.{enqueue, enqueueFirst, standDown, standBack, wake, block}
 use Rattle.machine.specs.Endpoints.{underAbort, ownerOf, joinEndpoint, leaveEndpoint, wakeFrom}
 use Rattle.machine.specs.Sound.{Queued, Numbers, Stores}
-use Rattle.machine.proofs.Lists.{put-same, put-other, put-all}
+use Rattle.machine.proofs.Lists.{put-same, put-other, put-all, Inserted, at-head, at-tail}
 use Rattle.machine.specs.Mid.{Mid}
 use Rattle.machine.proofs.Preserved.Parts.{At, Entry, Levels, Site, parts, whole}
 use Rattle.machine.proofs.Preserved.Ready.{Else, put-else, put-keeps, put-place, levels-stop, levels-join}
@@ -90,7 +90,7 @@ levels-wake :
 levels-wake f t o b m L S unable =
     let g = moved f t able o b m in
     levels-join t f g (moved-else f t able o b m) _ (g t .priority) S unable (moved-place f t able o b m) refl
-    (put-same L (g t .priority) _) (put-else L (g t .priority) _)
+    (at-tail t (L (g t .priority))) (put-same L (g t .priority) _) (put-else L (g t .priority) _)
 
 -- t is woken from the queue of endpoint e.
 pub mid-wakeFrom :
@@ -141,10 +141,11 @@ mid-wakeLine s l t M waits =
       owned = owned-same f g (s .endpoints) (s .endpoints) (moved-debt f t able 5 0 0) (λ e. refl) (P .owned);
     })
 
--- The running thread t goes to its tail, and nobody runs.
-pub mid-standDown : (s : State) (t : ℕ) → Mid s → s .runs ≡ some t → Mid (standDown t s)
-unfolding standDown enqueue
-mid-standDown s t M r =
+-- The running thread t joins its level's queue, which becomes l, and nobody runs.
+mid-stand :
+    (s : State) (t : ℕ) {l : List ℕ} → Mid s → s .runs ≡ some t → Inserted t (s .levels (s .threads t .priority)) l
+    → Mid (setLevel (s .threads t .priority) l (setRuns none s))
+mid-stand s t {l} M r I =
     let P = parts M in
     let f = s .threads in
     let g = put f t absentThread in
@@ -156,12 +157,22 @@ mid-standDown s t M r =
       entry = P .entry;
       site = P .site;
       levels =
-          levels-join t g f (λ u n. sym (put-other f t u absentThread n)) (put (s .levels) p (s .levels p ++ (t ∷ [])))
-          p (levels-stop t f g (put-else f t absentThread) (P .levels) r gone) gone (P .levels .running t r) refl
-          (put-same (s .levels) p _) (put-else (s .levels) p _);
+          levels-join t g f (λ u n. sym (put-other f t u absentThread n)) (put (s .levels) p l) p
+          (levels-stop t f g (put-else f t absentThread) (P .levels) r gone) gone (P .levels .running t r) refl I
+          (put-same (s .levels) p l) (put-else (s .levels) p l);
       lines = P .lines;
       owned = P .owned;
     })
+
+-- It goes to its tail where it stands down, and to its head where it is displaced.
+
+pub mid-standDown : (s : State) (t : ℕ) → Mid s → s .runs ≡ some t → Mid (standDown t s)
+unfolding standDown enqueue
+mid-standDown s t M r = mid-stand s t M r (at-tail t (s .levels (s .threads t .priority)))
+
+pub mid-standBack : (s : State) (t : ℕ) → Mid s → s .runs ≡ some t → Mid (standBack t s)
+unfolding standBack enqueueFirst
+mid-standBack s t M r = mid-stand s t M r (at-head t (s .levels (s .threads t .priority)))
 
 -- The running thread t blocks at the tail of the queue of endpoint e.
 module _ (s : State) (t e : ℕ) (M : Mid s) (r : s .runs ≡ some t) (up : s .endpoints e .status ≡ live) where

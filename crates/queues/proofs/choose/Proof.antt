@@ -20,11 +20,11 @@ returns c =
     let at-running = at-if1 .before in
     chosen-idle (at-running .running .ensures) (at-if1 .if1 .taken) (at-dispatch .dispatch .ensures)
 
-sub-displace : tie.Need-sub-displace
-sub-displace c = search needs
-
 cast-displace : tie.Need-cast-displace
 cast-displace c = search needs
+
+sub-displace : tie.Need-sub-displace
+sub-displace c = search needs
 
 displace-requires : tie.Need-displace-requires
 displace-requires c κs =
@@ -51,8 +51,8 @@ choose-spec =
     dispatch-requires
     same-length
     returns
-    sub-displace
     cast-displace
+    sub-displace
     displace-requires
     same-length-2
     returns-2)

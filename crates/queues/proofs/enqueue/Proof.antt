@@ -21,7 +21,7 @@ set-occupied-requires c κs =
     let at-push-tail = c .before .before .before in
     let at-thread = at-push-tail .before .before in
     let at-start = at-thread .before .before .before in
-    markable (at-thread .thread .ensures) (at-start .pre) (at-push-tail .push-tail .ensures)
+    markable (at-thread .thread .ensures) (at-push-tail .push-tail .ensures) (at-start .pre)
 
 same-length : tie.Need-same-length
 same-length c = search needs

@@ -3,11 +3,14 @@ use borrow.Author.Needs.{needs}
 use Rattle.words.proofs.put_after.Statement.{statement}
 use Rattle.words.proofs.put_after.Tie as tie
 
-after-at-requires : tie.Need-after-at-requires
-after-at-requires c κs = search needs
+pair-at-requires : tie.Need-pair-at-requires
+pair-at-requires c κs = search needs
 
 mul-tables : tie.Need-mul-tables
 mul-tables c = search needs
+
+mul-tables-2 : tie.Need-mul-tables-2
+mul-tables-2 c = search needs
 
 slice-write-tables : tie.Need-slice-write-tables
 slice-write-tables c = search needs
@@ -20,4 +23,5 @@ returns c = cc
 
 pub put-after-spec : {M : Type 1} → statement M
 put-after-spec =
-    tie.close (tie.spec after-at-requires mul-tables slice-write-tables same-length returns)
+    tie.close
+    (tie.spec pair-at-requires mul-tables mul-tables-2 slice-write-tables same-length returns)

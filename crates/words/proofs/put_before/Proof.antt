@@ -3,11 +3,17 @@ use borrow.Author.Needs.{needs}
 use Rattle.words.proofs.put_before.Statement.{statement}
 use Rattle.words.proofs.put_before.Tie as tie
 
-before-at-requires : tie.Need-before-at-requires
-before-at-requires c κs = search needs
+pair-at-requires : tie.Need-pair-at-requires
+pair-at-requires c κs = search needs
 
 mul-tables : tie.Need-mul-tables
 mul-tables c = search needs
+
+add-tables : tie.Need-add-tables
+add-tables c = search needs
+
+mul-tables-2 : tie.Need-mul-tables-2
+mul-tables-2 c = search needs
 
 slice-write-tables : tie.Need-slice-write-tables
 slice-write-tables c = search needs
@@ -20,4 +26,12 @@ returns c = cc
 
 pub put-before-spec : {M : Type 1} → statement M
 put-before-spec =
-    tie.close (tie.spec before-at-requires mul-tables slice-write-tables same-length returns)
+    tie.close
+    (tie.spec
+    pair-at-requires
+    mul-tables
+    add-tables
+    mul-tables-2
+    slice-write-tables
+    same-length
+    returns)

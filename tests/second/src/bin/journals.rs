@@ -157,12 +157,12 @@ fn priorities() -> Words {
         yields(),
         priority(2, 254), // 3 runs
         priority(3, 254), // and goes on
-        create(4, 255),   // displaces 3, which goes behind 2
+        create(4, 255),   // displaces 3, which stays before 2
         destroy(4),
         create(5, 254),
-        priority(3, 254), // the same: 3 keeps its place before 5
+        priority(2, 254), // the same: 2 keeps its place before 5
         yields(),
-        priority(3, 31), // to its new level's tail
+        priority(3, 31), // ready, to its new level's tail
         create(6, 32),
         destroy(5),
         destroy(2),
@@ -170,6 +170,42 @@ fn priorities() -> Words {
         destroy(3),
         destroy(1),
         create(7, 256),
+    ]
+    .concat()
+}
+
+/// Writers 1 and 2 are equals, 3 and 4 stand below them, and 9 is the line-out thread.
+fn displaced() -> Words {
+    [
+        create(9, 30),
+        wait(0),
+        create(1, 10),
+        create(2, 10),
+        ticks(2),
+        interrupt(0), // displaces 1, with three ticks left
+        wait(0),      // 1 keeps its turn
+        ticks(3),     // spent: 1 goes behind 2
+        interrupt(0),
+        wait(0),  // 2 keeps its turn too
+        yields(), // 2 goes behind 1
+        create(3, 5),
+        create(4, 5),
+        priority(1, 5), // lowered and displaced by 2: before 3 and 4
+        wait(1),        // 2 blocks, 1 runs
+        create(8, 20),  // displaces 1
+        priority(1, 6), // ready, so to its new tail
+        priority(1, 5), // and behind 3 and 4
+        endpoint(0),
+        send(0, 7, 1), // 8 blocks, 3 runs
+        create(6, 20),
+        send(0, 7, 2),
+        priority(6, 5), // blocked at level 5
+        delete(0, ALL), // 3 wakes 8, which displaces it, and 6, which joins the tail behind 4 and 1
+        wait(2),        // 3 runs
+        yields(),
+        yields(),
+        yields(),
+        yields(),
     ]
     .concat()
 }
@@ -380,6 +416,7 @@ fn journals() -> Vec<(&'static str, Words, &'static [u8])> {
         ("endpoints", endpoints(), &[]),
         ("lines", lines(), &[]),
         ("priorities", priorities(), &[]),
+        ("displaced", displaced(), &[]),
         ("allowances", allowances(), &[]),
         ("badges", badges(), &[]),
         ("ticks", ticking(), &[]),

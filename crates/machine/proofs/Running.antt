@@ -1,48 +1,47 @@
--- The chooser, which runs after each accepted call: who runs then, who goes on, and where a displaced thread stands.
-use Prim.Native.Nat.{ℕ, _≤_, _<_}
+-- The chooser, which runs after each accepted call, in every state: who runs then, who goes on, and where a displaced
+-- thread stands.
+use Prim.Native.Nat.{ℕ, zero, suc, _≤_, _<_}
 use mathlib.Core.Path.{_≡_, refl, sym, _∙_, ap, subst}
 use mathlib.Core.Logic.{inl, _↔_}
 use mathlib.Core.Bool.{Bool, true, false}
 use mathlib.Core.Option.{Option, none, some}
-use mathlib.Core.List.{List, [], _∷_, _++_}
+use mathlib.Core.List.{List, [], _∷_}
 use native.Mathlib.Omega.{arith}
 use lib.Dec.{ltb}
-use lib.ListN.{length, length-append}
+use lib.ListN.{length}
 use borrow.Author.Tests.{ltb-true, ltb-false}
-use Rattle.machine.specs.Lists.{Mem}
+use Rattle.machine.specs.Lists.{pick, Mem}
 use Rattle.machine.specs.State.{State, setRuns, setLevel}
-use Rattle.machine.specs.Scheduling.{enqueue, standDown, highest, dispatchHead, dispatchAt, dispatch, above}
-use Rattle.machine.specs.Scheduling.{displace, chooseFor, choose}
-use Rattle.machine.proofs.Lists.{put-same, put-other}
-use Rattle.machine.proofs.Preserved.Choosing.{Highest, highest-is}
+use Rattle.machine.specs.Scheduling.{enqueueFirst, standBack, occupied, highestBelow, highest, dispatchHead}
+use Rattle.machine.specs.Scheduling.{dispatchAt, dispatch, above, displace, chooseFor, choose}
+use Rattle.machine.proofs.Lists.{same, other, same?, put-same, put-other}
 
--- The chooser changes who runs and the ready queues, and nothing else: r has the threads, endpoints and lines of s.
-abbrev pub OnlyRunning : State → State → Type 0
-OnlyRunning s r = (r .threads ≡ s .threads) × (r .endpoints ≡ s .endpoints) × (r .lines ≡ s .lines)
+-- The highest occupied level below n: none, or one above which all are empty.
+abbrev pub Highest : ℕ → (ℕ → List ℕ) → Option ℕ → Type 0
+Highest n levels none = (q : ℕ) → q < n → levels q ≡ []
+Highest n levels (some p) = (p < n) × (levels p ≡ [] → ⊥) × ((q : ℕ) → p < q → q < n → levels q ≡ [])
 
-kept-head : (q : List ℕ) (p : ℕ) (s : State) → OnlyRunning s (dispatchHead q p s)
-unfolding dispatchHead
-kept-head [] p s = (refl, refl, refl)
-kept-head (t ∷ q) p s = (refl, refl, refl)
+cons-nil : {t : ℕ} {q : List ℕ} → t ∷ q ≡ [] → ⊥
+cons-nil {t} {q} h = let z : _≡_ {A = ℕ} 0 1 = cc in omega arith
 
-kept-at : (o : Option ℕ) (s : State) → OnlyRunning s (dispatchAt o s)
-unfolding dispatchAt
-kept-at none s = (refl, refl, refl)
-kept-at (some p) s = kept-head (s .levels p) p s
+highest-below : (n : ℕ) (levels : ℕ → List ℕ) → Highest n levels (highestBelow n levels)
+unfolding highestBelow
+highest-below zero levels = λ q h. absurd (omega arith)
+highest-below (suc n) levels = go (levels n) refl (highestBelow n levels) (highest-below n levels)
+  where
+    at-top : (q : ℕ) → q < suc n → levels n ≡ [] → (q < n → levels q ≡ []) → levels q ≡ []
+    at-top q h e below = elim (same? q n) [ same i _ ↦ ap levels i ∙ e | other k _ ↦ below (omega arith) ]
 
-kept-displace : (b : Bool) (t : ℕ) (s : State) → OnlyRunning s (displace b t s)
-unfolding displace dispatch standDown enqueue
-kept-displace true t s = kept-at _ _
-kept-displace false t s = (refl, refl, refl)
+    go :
+        (l : List ℕ) → levels n ≡ l → (o : Option ℕ) → Highest n levels o
+        → Highest (suc n) levels (pick (occupied (levels n)) (some n) o)
+    go [] e none H = rw e (λ q h. at-top q h e (H q))
+    go [] e (some p) H = rw e (omega arith, H .1, λ q k h. at-top q h e (H .2 q k))
+    go (t ∷ q) e o H = rw e (omega arith, λ h. cons-nil (sym e ∙ h), λ r k h. absurd (omega arith))
 
-kept-for : (o : Option ℕ) (s : State) → OnlyRunning s (chooseFor o s)
-unfolding chooseFor dispatch
-kept-for none s = kept-at (highest (s .levels)) s
-kept-for (some t) s = kept-displace (above (s .threads t .priority) (highest (s .levels))) t s
-
-pub choose-keeps : (s : State) → OnlyRunning s (choose s)
-unfolding choose
-choose-keeps s = kept-for (s .runs) s
+pub highest-is : (levels : ℕ → List ℕ) → Highest 256 levels (highest levels)
+unfolding highest
+highest-is levels = highest-below 256 levels
 
 -- "The head of the highest queue runs"; with nobody ready nothing changes.
 pub data Dispatched (s : State) : State → Type 0 where
@@ -70,7 +69,7 @@ pub data Choice (s : State) : Option ℕ → State → Type 0 where
   nobody : {r : State} → Dispatched s r → Choice s none r
   displaced :
       {t : ℕ} {r : State} (u p : ℕ) → p ≤ 255 → s .threads t .priority < p → Mem u (s .levels p)
-      → Dispatched (standDown t s) r → Choice s (some t) r
+      → Dispatched (standBack t s) r → Choice s (some t) r
   goes-on : {t : ℕ} → ((k : ℕ) → k ≤ 255 → s .threads t .priority < k → s .levels k ≡ []) → Choice s (some t) s
 
 occupant : (l : List ℕ) → (l ≡ [] → ⊥) → (u : ℕ) × Mem u l
@@ -89,14 +88,31 @@ choice s = go (s .runs)
         on : (b : Bool) → ltb (s .threads t .priority) p ≡ b → Choice s (some t) (displace b t s)
         on true f =
             let u = occupant (s .levels p) (H .1) in
-            displaced (u .0) p (omega arith) (ltb-true _ _ f) (u .1) (dispatched (standDown t s))
+            displaced (u .0) p (omega arith) (ltb-true _ _ f) (u .1) (dispatched (standBack t s))
         on false f = goes-on {t = t} (λ k m z. H .2 k (omega (arith, ltb-false)) (omega arith))
 
     go : (o : Option ℕ) → Choice s o (chooseFor o s)
     go none = nobody (dispatched s)
     go (some t) = test t (highest (s .levels)) (highest-is (s .levels))
 
-empty : (u : ℕ) {l : List ℕ} → l ≡ [] → Mem u l → ⊥
+-- The chooser changes who runs and the ready queues, and nothing else: r has the threads, endpoints and lines of s.
+abbrev pub OnlyRunning : State → State → Type 0
+OnlyRunning s r = (r .threads ≡ s .threads) × (r .endpoints ≡ s .endpoints) × (r .lines ≡ s .lines)
+
+dispatch-keeps : {s r : State} → Dispatched s r → OnlyRunning s r
+dispatch-keeps (idle h) = (refl, refl, refl)
+dispatch-keeps (head p t q b e h) = (refl, refl, refl)
+
+pub choose-keeps : (s : State) → OnlyRunning s (choose s)
+unfolding standBack enqueueFirst
+choose-keeps s = go (choice s)
+  where
+    go : {o : Option ℕ} {r : State} → Choice s o r → OnlyRunning s r
+    go (nobody D) = dispatch-keeps D
+    go (displaced u p b l m D) = dispatch-keeps D
+    go (goes-on h) = (refl, refl, refl)
+
+pub empty : (u : ℕ) {l : List ℕ} → l ≡ [] → Mem u l → ⊥
 empty u e m = subst (λ (k : List ℕ). Mem u k) e m
 
 -- The levels below an occupied one are left alone.
@@ -107,34 +123,33 @@ dispatch-below {s} (head q x r i g h) u p k b m l =
     let z : q < p → ⊥ = λ y. empty u (h p b y) m in
     put-other (s .levels) q k r (omega arith)
 
--- t, standing down, joins the tail of its own level and leaves the others alone.
-stand-own :
-    (t : ℕ) (s : State)
-    → standDown t s .levels (s .threads t .priority) ≡ s .levels (s .threads t .priority) ++ (t ∷ [])
-unfolding standDown enqueue
-stand-own t s = put-same (s .levels) (s .threads t .priority) _
+-- t, standing back, joins the head of its own level and leaves the others alone.
+back-own :
+    (t : ℕ) (s : State) → standBack t s .levels (s .threads t .priority) ≡ t ∷ s .levels (s .threads t .priority)
+unfolding standBack enqueueFirst
+back-own t s = put-same (s .levels) (s .threads t .priority) _
 
-stand-other : (t p : ℕ) (s : State) → (p ≡ s .threads t .priority → ⊥) → standDown t s .levels p ≡ s .levels p
-unfolding standDown enqueue
-stand-other t p s n = put-other (s .levels) (s .threads t .priority) p _ n
+pub back-other : (t p : ℕ) (s : State) → (p ≡ s .threads t .priority → ⊥) → standBack t s .levels p ≡ s .levels p
+unfolding standBack enqueueFirst
+back-other t p s n = put-other (s .levels) (s .threads t .priority) p _ n
 
-not-longer : (l : List ℕ) (t : ℕ) → l ++ (t ∷ []) ≡ l → ⊥
-not-longer l t e = omega (arith, ap length e, length-append l (t ∷ []))
+not-longer : (l : List ℕ) (t : ℕ) → t ∷ l ≡ l → ⊥
+not-longer l t e = omega (arith, ap length e)
 
 module _ (s : State) (t : ℕ) (runs : s .runs ≡ some t) where
   chosen : Choice s (some t) (choose s)
   chosen = subst (λ (o : Option ℕ). Choice s o (choose s)) runs (choice s)
 
-  -- "A displaced thread goes to its level's tail."
-  pub displaced-tail :
+  -- "A displaced thread keeps its turn": it is the first of its level, before all who stood there.
+  pub displaced-head :
       (u p : ℕ) → p ≤ 255 → Mem u (s .levels p) → s .threads t .priority < p
-      → choose s .levels (s .threads t .priority) ≡ s .levels (s .threads t .priority) ++ (t ∷ [])
-  displaced-tail u p b m l = go chosen
+      → choose s .levels (s .threads t .priority) ≡ t ∷ s .levels (s .threads t .priority)
+  displaced-head u p b m l = go chosen
     where
       go : {r : State} → Choice s (some t) r
-          → r .levels (s .threads t .priority) ≡ s .levels (s .threads t .priority) ++ (t ∷ [])
+          → r .levels (s .threads t .priority) ≡ t ∷ s .levels (s .threads t .priority)
       go (displaced v q i j n D) =
-          dispatch-below D u p _ b (rw (stand-other t p s (omega arith)) m) l ∙ stand-own t s
+          dispatch-below D u p _ b (rw (back-other t p s (omega arith)) m) l ∙ back-own t s
       go (goes-on h) = absurd (empty u (h p b l) m)
 
   -- The running thread goes on, and nothing changes, exactly if no level above its own is occupied.
@@ -144,7 +159,7 @@ module _ (s : State) (t : ℕ) (runs : s .runs ≡ some t) where
     where
       down : choose s ≡ s → (u p : ℕ) → p ≤ 255 → Mem u (s .levels p) → p ≤ s .threads t .priority
       down e u p b m =
-          let z : s .threads t .priority < p → ⊥ = λ l. not-longer _ t (sym (rw e at (displaced-tail u p b m l))) in
+          let z : s .threads t .priority < p → ⊥ = λ l. not-longer _ t (sym (rw e at (displaced-head u p b m l))) in
           omega arith
 
       up : {r : State} → ((u p : ℕ) → p ≤ 255 → Mem u (s .levels p) → p ≤ s .threads t .priority)
