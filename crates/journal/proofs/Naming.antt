@@ -1,18 +1,19 @@
 -- The words of a call name that call, and words that name a call are its words.
 use mathlib.Core.Path.{_≡_, refl, ap, _∙_, subst, subst⁻¹}
-use mathlib.Core.Bool.{Bool, true, false, _&&_}
+use mathlib.Core.Bool.{Bool, true, false}
 use mathlib.Core.List.{List, _∷_, _++_}
 use mathlib.Core.Option.{none, some, Option·none-ne-some, Option·some-injective}
 use Prim.Native.Nat.{ℕ, _+_, _^_, _<_}
 use native.Mathlib.Omega.{arith}
-use borrow.Author.Tests.{eqb-true, leb-true, ltb-true}
-use lib.Dec.{eqb, leb, lit<}
+use borrow.Author.Tests.{eqb-true}
+use lib.Dec.{eqb, lit<}
 use lib.ListN.{length, take, drop}
 use Rattle.machine.specs.declared.Call.{Call}
 use Rattle.machine.specs.declared.Call.the-variants.{CreateThread, DestroyThread, SetPriority, CreateEndpoint}
 use Rattle.machine.specs.declared.Call.the-variants.{Interrupt, Tick, Send, Receive, Yield, Wait, Delete, Abort}
-use Rattle.machine.specs.Calls.{inRange, isThread, isPriority, isEndpoint, isLine, isBadge, isMessage, isAllowance}
+use Rattle.machine.specs.Calls.{inRange}
 use Rattle.machine.specs.Lists.{pick}
+use Rattle.machine.proofs.Ranges.{bounds}
 use Rattle.journal.specs.Words.{topBits, topByte, callNumber, subject, argument, wordsTaken, unused}
 use Rattle.journal.specs.Words.{numberIn, withMessage, sendOf, abortOf, callOf, callAt, judged, readFrom}
 use Rattle.journal.specs.Words.{callWord, badgeWord, messageWord, wordsOf}
@@ -36,47 +37,19 @@ NumbersFit (Wait l) = l < 2 ^ 8
 NumbersFit (Delete e a) = (e < 2 ^ 8) × (a < 2 ^ 16)
 NumbersFit (Abort e a b) = (e < 2 ^ 8) × (a < 2 ^ 16) × (b < 2 ^ 28)
 
-both : (a b : Bool) → a && b ≡ true → (a ≡ true) × (b ≡ true)
-both true b e = (refl, e)
-both false b e = let z : _≡_ {A = ℕ} 0 1 = cc in absurd (omega arith)
-
-thread-fits : (t : ℕ) → isThread t ≡ true → t < 2 ^ 8
-thread-fits t e = omega (arith, leb-true t 255 e)
-
-priority-fits : (p : ℕ) → isPriority p ≡ true → p < 2 ^ 16
-priority-fits p e = omega (arith, leb-true p 255 e)
-
-endpoint-fits : (x : ℕ) → isEndpoint x ≡ true → x < 2 ^ 8
-endpoint-fits x e = omega (arith, leb-true x 63 e)
-
-line-fits : (l : ℕ) → isLine l ≡ true → l < 2 ^ 8
-line-fits l e = omega (arith, leb-true l 31 e)
-
-allowance-fits : (a : ℕ) → isAllowance a ≡ true → a < 2 ^ 16
-allowance-fits a e = omega (arith, leb-true a 65535 (both (leb 1 a) (leb a 65535) e .1))
-
 pub in-range-fits : (c : Call) → inRange c ≡ true → NumbersFit c
-in-range-fits (CreateThread t p) e =
-    let h = both (isThread t) (isPriority p) e in (thread-fits t (h .0), priority-fits p (h .1))
-in-range-fits (DestroyThread t) e = thread-fits t e
-in-range-fits (SetPriority t p) e =
-    let h = both (isThread t) (isPriority p) e in (thread-fits t (h .0), priority-fits p (h .1))
-in-range-fits (CreateEndpoint x) e = endpoint-fits x e
-in-range-fits (Interrupt l) e = line-fits l e
+in-range-fits (CreateThread t p) e = let h = bounds (CreateThread t p) e in (omega (arith, h .0), omega (arith, h .1))
+in-range-fits (DestroyThread t) e = omega (arith, bounds (DestroyThread t) e)
+in-range-fits (SetPriority t p) e = let h = bounds (SetPriority t p) e in (omega (arith, h .0), omega (arith, h .1))
+in-range-fits (CreateEndpoint x) e = omega (arith, bounds (CreateEndpoint x) e)
+in-range-fits (Interrupt l) e = omega (arith, bounds (Interrupt l) e)
 in-range-fits Tick e = tt
-in-range-fits (Send x b m) e =
-    let h = both (isEndpoint x && isBadge b) (isMessage m) e in
-    let g = both (isEndpoint x) (isBadge b) (h .0) in
-    (endpoint-fits x (g .0), ltb-true b (2 ^ 28) (g .1), ltb-true m (2 ^ 28) (h .1))
-in-range-fits (Receive x) e = endpoint-fits x e
+in-range-fits (Send x b m) e = let h = bounds (Send x b m) e in (omega (arith, h .0), h .1, h .2)
+in-range-fits (Receive x) e = omega (arith, bounds (Receive x) e)
 in-range-fits Yield e = tt
-in-range-fits (Wait l) e = line-fits l e
-in-range-fits (Delete x a) e =
-    let h = both (isEndpoint x) (isAllowance a) e in (endpoint-fits x (h .0), allowance-fits a (h .1))
-in-range-fits (Abort x a b) e =
-    let h = both (isEndpoint x && isAllowance a) (isBadge b) e in
-    let g = both (isEndpoint x) (isAllowance a) (h .0) in
-    (endpoint-fits x (g .0), allowance-fits a (g .1), ltb-true b (2 ^ 28) (h .1))
+in-range-fits (Wait l) e = omega (arith, bounds (Wait l) e)
+in-range-fits (Delete x a) e = let h = bounds (Delete x a) e in (omega (arith, h .0), omega (arith, h .1 .1))
+in-range-fits (Abort x a b) e = let h = bounds (Abort x a b) e in (omega (arith, h .0), omega (arith, h .1 .1), h .2)
 
 -- what a call word reads as, by its parts
 pub read-word :

@@ -81,7 +81,7 @@ statusCode closing = 2
 
 one-there : statusCode (one-endpoint .endpoints 0 .status) ≡ 1
 unfolding step performIf perform createEndpoint createAt put statusCode
-one-there = ap (λ (x : ℕ → Endpoint). statusCode (x 0 .status)) (choose-keeps _ .1)
+one-there = ap (λ (x : ℕ → Endpoint). statusCode (x 0 .status)) (choose-keeps _ .endpoints)
 
 -- Its memory is not that of the fresh state.
 apart : image freshState ≡ image one-endpoint → ⊥

@@ -6,7 +6,6 @@ use mathlib.Core.Option.{Option, none, some}
 use mathlib.Core.List.{List}
 use native.Mathlib.Omega.{arith}
 use lib.Dec.{eqb, leb}
-use borrow.Author.Tests.{leb-true}
 use Rattle.machine.specs.declared.Answer.{Answer}
 use Rattle.machine.specs.declared.Call.{Call}
 use Rattle.machine.specs.declared.Call.the-variants.{CreateThread, DestroyThread, SetPriority, CreateEndpoint}
@@ -19,6 +18,7 @@ use Rattle.machine.specs.Machine.{createThread, destroyThread, setPriority, cre
 use Rattle.machine.specs.Machine.{receive, yield, wait, perform, performIf, step}
 use Rattle.machine.specs.Sound.{Sound}
 use Rattle.machine.proofs.Lists.{clash}
+use Rattle.machine.proofs.Ranges.{bounds}
 use Rattle.layout.specs.Words.{linkOf}
 use Rattle.layout.specs.Shows.{Shows}
 use Rattle.layout.proofs.Tests.{Decides, tells-and, tells-eqb, tells-leb}
@@ -28,8 +28,6 @@ use Rattle.store.specs.Readings.{runningIn}
 use Rattle.endings.specs.Results.{Asked, Calling, Performs}
 use Rattle.endings.proofs.Ends.{refused, performs-as, performs-for, shown-for}
 use Rattle.kernel.specs.Steps.{Ranged, Served, stepping}
-use Rattle.kernel.proofs.Ranges.{thread-priority, endpoint-badge-message, endpoint-allowance}
-use Rattle.kernel.proofs.Ranges.{endpoint-allowance-badge}
 
 -- An arm for call c, which anybody makes: N is what it asks of the numbers, f what it does.
 pub record Arm (c : Call) (N : Type 0) (f : State → Result) : Type 0 where
@@ -99,24 +97,24 @@ module _ {link : ℕ} {c d : Call} {N : Type 0} {f : State → Result} (e : c �
 pub create-arm :
     (t p : ℕ) → Arm (CreateThread t p) ((t ≤ 255) × (p ≤ 255)) (createThread t p)
 unfolding perform
-create-arm t p = record { asks = λ h. thread-priority h; is = λ s. refl }
+create-arm t p = record { asks = bounds (CreateThread t p); is = λ s. refl }
 
 pub destroy-arm : (t : ℕ) → Arm (DestroyThread t) (t ≤ 255) (destroyThread t)
 unfolding perform
-destroy-arm t = record { asks = λ h. leb-true t 255 h; is = λ s. refl }
+destroy-arm t = record { asks = bounds (DestroyThread t); is = λ s. refl }
 
 pub priority-arm :
     (t p : ℕ) → Arm (SetPriority t p) ((t ≤ 255) × (p ≤ 255)) (setPriority t p)
 unfolding perform
-priority-arm t p = record { asks = λ h. thread-priority h; is = λ s. refl }
+priority-arm t p = record { asks = bounds (SetPriority t p); is = λ s. refl }
 
 pub endpoint-arm : (e : ℕ) → Arm (CreateEndpoint e) (e ≤ 63) (createEndpoint e)
 unfolding perform
-endpoint-arm e = record { asks = λ h. leb-true e 63 h; is = λ s. refl }
+endpoint-arm e = record { asks = bounds (CreateEndpoint e); is = λ s. refl }
 
 pub interrupt-arm : (l : ℕ) → Arm (Interrupt l) (l ≤ 31) (interrupt l)
 unfolding perform
-interrupt-arm l = record { asks = λ h. leb-true l 31 h; is = λ s. refl }
+interrupt-arm l = record { asks = bounds (Interrupt l); is = λ s. refl }
 
 pub tick-arm : Arm Tick (Unit {0}) tick
 unfolding perform
@@ -129,11 +127,11 @@ module _ (t : ℕ) where
       (e b x : ℕ) → OwnArm t (Send e b x) ((e ≤ 63) × (b < 2 ^ 28) × (x < 2 ^ 28))
       (send t e b x)
   unfolding perform
-  send-arm e b x = record { own = omega arith; asks = λ h. endpoint-badge-message h; is = λ s h. rw h }
+  send-arm e b x = record { own = omega arith; asks = bounds (Send e b x); is = λ s h. rw h }
 
   pub receive-arm : (e : ℕ) → OwnArm t (Receive e) (e ≤ 63) (receive t e)
   unfolding perform
-  receive-arm e = record { own = omega arith; asks = λ h. leb-true e 63 h; is = λ s h. rw h }
+  receive-arm e = record { own = omega arith; asks = bounds (Receive e); is = λ s h. rw h }
 
   pub yield-arm : OwnArm t Yield (Unit {0}) (yield t)
   unfolding perform
@@ -141,17 +139,22 @@ module _ (t : ℕ) where
 
   pub wait-arm : (l : ℕ) → OwnArm t (Wait l) (l ≤ 31) (wait t l)
   unfolding perform
-  wait-arm l = record { own = omega arith; asks = λ h. leb-true l 31 h; is = λ s h. rw h }
+  wait-arm l = record { own = omega arith; asks = bounds (Wait l); is = λ s h. rw h }
 
   pub delete-arm : (e a : ℕ) → OwnArm t (Delete e a) (e ≤ 63) (delete t e a)
   unfolding perform
-  delete-arm e a = record { own = omega arith; asks = λ h. endpoint-allowance e a h; is = λ s h. rw h }
+  delete-arm e a = record { own = omega arith; asks = λ h. bounds (Delete e a) h .0; is = λ s h. rw h }
 
   pub abort-arm :
       (e a b : ℕ) → OwnArm t (Abort e a b)
       ((e ≤ 63) × (a ≤ 65535) × (b < 2 ^ 28)) (abort t e a b)
   unfolding perform
-  abort-arm e a b = record { own = omega arith; asks = λ h. endpoint-allowance-badge e a b h; is = λ s h. rw h }
+  abort-arm e a b =
+      record {
+        own = omega arith;
+        asks = λ h. let k = bounds (Abort e a b) h in (k .0, k .1 .1, k .2);
+        is = λ s h. rw h;
+      }
 
 -- A call of 7 to 12 with nobody running.
 idle-refused : (c : Call) (s : State) → 7 ≤ numberOf c → s .runs ≡ none → refuse 20 s ≡ perform c s

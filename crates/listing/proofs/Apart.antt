@@ -6,6 +6,7 @@ use mathlib.Core.List.{List, [], _∷_, _++_, append-assoc}
 use native.Mathlib.Omega.{arith}
 use lib.ListN.{length}
 use Rattle.machine.specs.declared.Answer.{Answer}
+use Rattle.machine.proofs.Answers.{same-answer}
 use Rattle.journal.specs.Rows.{Row}
 use Rattle.texts.specs.Decimal.{decimal}
 use Rattle.texts.proofs.Digits.{length-some}
@@ -25,18 +26,6 @@ runner-apart none none e = refl
 runner-apart none (some t) e = absurd (sign-apart t e)
 runner-apart (some t) none e = absurd (sign-apart t (sym e))
 runner-apart (some t) (some t′) e = ap some (numbers-apart t t′ newline newline refl refl e .0)
-
-abbrev answerWith : ℕ → ℕ → ℕ → ℕ → Answer
-answerWith code count badge message = record { code = code; count = count; badge = badge; message = message }
-
-same-answer :
-    (a a′ : Answer) → a .code ≡ a′ .code → a .count ≡ a′ .count → a .badge ≡ a′ .badge → a .message ≡ a′ .message
-    → a ≡ a′
-same-answer a a′ e₁ e₂ e₃ e₄ =
-    ap (λ (n : ℕ). answerWith n (a .count) (a .badge) (a .message)) e₁
-    ∙ ap (λ (n : ℕ). answerWith (a′ .code) n (a .badge) (a .message)) e₂
-    ∙ ap (λ (n : ℕ). answerWith (a′ .code) (a′ .count) n (a .message)) e₃
-    ∙ ap (λ (n : ℕ). answerWith (a′ .code) (a′ .count) (a′ .badge) n) e₄
 
 abbrev rowWith : ℕ → ℕ → Answer → Option ℕ → Row
 rowWith index call answer running = record { index = index; call = call; answer = answer; running = running }

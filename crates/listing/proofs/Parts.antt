@@ -6,6 +6,7 @@ use mathlib.Core.List.{List, [], _∷_, _++_, append-assoc}
 use native.Mathlib.Omega.{arith}
 use lib.ListN.{length, length-append}
 use Rattle.machine.specs.declared.Answer.{Answer}
+use Rattle.machine.proofs.Answers.{Words}
 use Rattle.journal.specs.Rows.{Row}
 use Rattle.texts.specs.Decimal.{spaced}
 use Rattle.texts.proofs.Digits.{length-below, length-spaced}
@@ -48,14 +49,7 @@ narrow n h = omega (arith, length-spaced n, length-below 9 n (omega arith))
 wide : (n : ℕ) → n < 2 ^ 64 → length (spaced n) ≤ 21
 wide n h = omega (arith, length-spaced n, length-below 19 n (omega arith))
 
--- The numbers of an answer are words, and so is the running thread's.
-
-pub record Words (a : Answer) : Type 0 where
-  pub code : a .code < 2 ^ 32
-  pub count : a .count < 2 ^ 32
-  pub badge : a .badge < 2 ^ 32
-  pub message : a .message < 2 ^ 32
-
+-- The running thread's number is a word.
 abbrev pub Word : Option ℕ → Type 0
 Word none = Unit {0}
 Word (some t) = t < 2 ^ 32

@@ -1,6 +1,9 @@
 -- Facts about lists, of threads and of names.
 pub mod Lists
 pub mod Sublists
+-- The numbers of a call in range, and of an answer.
+pub mod Ranges
+pub mod Answers
 -- The chooser, and who goes to the tail of its level, in every state.
 pub mod Running
 pub mod Tails

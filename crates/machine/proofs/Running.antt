@@ -96,12 +96,14 @@ choice s = go (s .runs)
     go (some t) = test t (highest (s .levels)) (highest-is (s .levels))
 
 -- The chooser changes who runs and the ready queues, and nothing else: r has the threads, endpoints and lines of s.
-abbrev pub OnlyRunning : State → State → Type 0
-OnlyRunning s r = (r .threads ≡ s .threads) × (r .endpoints ≡ s .endpoints) × (r .lines ≡ s .lines)
+pub record OnlyRunning (s r : State) : Type 0 where
+  pub threads : r .threads ≡ s .threads
+  pub endpoints : r .endpoints ≡ s .endpoints
+  pub lines : r .lines ≡ s .lines
 
 dispatch-keeps : {s r : State} → Dispatched s r → OnlyRunning s r
-dispatch-keeps (idle h) = (refl, refl, refl)
-dispatch-keeps (head p t q b e h) = (refl, refl, refl)
+dispatch-keeps (idle h) = record { threads = refl; endpoints = refl; lines = refl }
+dispatch-keeps (head p t q b e h) = record { threads = refl; endpoints = refl; lines = refl }
 
 pub choose-keeps : (s : State) → OnlyRunning s (choose s)
 unfolding standBack enqueueFirst
@@ -109,8 +111,9 @@ choose-keeps s = go (choice s)
   where
     go : {o : Option ℕ} {r : State} → Choice s o r → OnlyRunning s r
     go (nobody D) = dispatch-keeps D
-    go (displaced u p b l m D) = dispatch-keeps D
-    go (goes-on h) = (refl, refl, refl)
+    go (displaced u p b l m D) =
+        let K = dispatch-keeps D in record { threads = K .threads; endpoints = K .endpoints; lines = K .lines }
+    go (goes-on h) = record { threads = refl; endpoints = refl; lines = refl }
 
 pub empty : (u : ℕ) {l : List ℕ} → l ≡ [] → Mem u l → ⊥
 empty u e m = subst (λ (k : List ℕ). Mem u k) e m

@@ -1,9 +1,9 @@
 -- Who goes to the tail of its level: whoever yields or has spent its ticks, a new thread, a woken one, and a ready one
 -- whose priority changes. In every state; the chooser then takes a head, or puts the displaced thread at its own.
 use Prim.Native.Nat.{ℕ, _-_, _≤_}
-use mathlib.Core.Path.{_≡_, sym, _∙_, ap}
+use mathlib.Core.Path.{_≡_, refl, sym, _∙_, ap}
 use mathlib.Core.Bool.{Bool, true, false, _&&_, not}
-use mathlib.Core.Option.{Option, some}
+use mathlib.Core.Option.{Option, none, some}
 use mathlib.Core.List.{List, [], _∷_, _++_}
 use native.Mathlib.Omega.{arith}
 use borrow.Author.Tests.{ne-eqb}
@@ -35,6 +35,10 @@ pub stands-down-tail : (s : State) (t : ℕ) → Last t s (standDown t s)
 unfolding standDown enqueue
 stands-down-tail s t = put-same (s .levels) (s .threads t .priority) _
 
+stands-down-idle : (s : State) (t : ℕ) → standDown t s .runs ≡ none
+unfolding standDown enqueue
+stands-down-idle s t = refl
+
 pub wakes-tail : (s : State) (t o b m : ℕ) → Last t s (wake t o b m s)
 unfolding wake enqueue
 wakes-tail s t o b m =
@@ -54,17 +58,18 @@ wakes-from s e t c o b m =
 
 -- By the calls.
 module _ (s : State) (t : ℕ) where
-  pub yields-last : s .runs ≡ some t → GoesLast s Yield t (s .threads t .priority)
+  pub yields-last : s .runs ≡ some t → GoesLast s Yield t (s .threads t .priority) none
   unfolding step performIf perform yield
   yields-last runs =
       record {
         handed = standDown t (dropDebt t s);
         chosen = ap (λ (o : Option ℕ). byCaller o (λ u. yield u) s .state) runs;
-        last-of =
+        last =
             last-kept t (standDown t (dropDebt t s)) (dropDebt-drops s t .keeps) (stands-down-tail (dropDebt t s) t);
+        runs = stands-down-idle (dropDebt t s) t;
       }
 
-  pub spends-last : s .runs ≡ some t → s .threads t .ticks ≤ 1 → GoesLast s Tick t (s .threads t .priority)
+  pub spends-last : s .runs ≡ some t → s .threads t .ticks ≤ 1 → GoesLast s Tick t (s .threads t .priority) none
   unfolding step performIf perform tick tickFor leaveTicks
   spends-last runs spent =
       let x = withTicks 5 (s .threads t) in
@@ -72,11 +77,13 @@ module _ (s : State) (t : ℕ) where
       record {
         handed = standDown t (setThread t x s);
         chosen = rw (runs, z);
-        last-of = rw (put-same (s .threads) t x) at (stands-down-tail (setThread t x s) t);
+        last = rw (put-same (s .threads) t x) at (stands-down-tail (setThread t x s) t);
+        runs = stands-down-idle (setThread t x s) t;
       }
 
   pub creates-last :
-      (p : ℕ) → inRange (CreateThread t p) ≡ true → s .threads t .place ≡ absent → GoesLast s (CreateThread t p) t p
+      (p : ℕ) → inRange (CreateThread t p) ≡ true → s .threads t .place ≡ absent
+      → GoesLast s (CreateThread t p) t p (s .runs)
   unfolding step performIf perform createThread createIf enqueue
   creates-last p range free =
       let x : Thread =
@@ -84,13 +91,14 @@ module _ (s : State) (t : ℕ) where
       record {
         handed = enqueue t (setThread t x s);
         chosen = rw (range, free);
-        last-of = rw (put-same (s .threads) t x) (put-same (s .levels) p _);
+        last = rw (put-same (s .threads) t x) (put-same (s .levels) p _);
+        runs = refl;
       }
 
   -- "A changed priority moves a ready thread to the new tail."
   pub moves-last :
       (p : ℕ) → inRange (SetPriority t p) ≡ true → s .threads t .place ≡ able → isRunning t (s .runs) ≡ false
-      → (s .threads t .priority ≡ p → ⊥) → GoesLast s (SetPriority t p) t p
+      → (s .threads t .priority ≡ p → ⊥) → GoesLast s (SetPriority t p) t p (s .runs)
   unfolding step performIf perform setPriority priorityIf changeUnless moveReady enqueue unqueue
   moves-last p range ready idle differs =
       let x = withPriority p (s .threads t) in
@@ -103,45 +111,49 @@ module _ (s : State) (t : ℕ) where
             ∙ ap (λ (b : Bool). choose (changeUnless b t p s)) (ne-eqb q p differs)
             ∙ ap (λ (x : Place). choose (moveReady (isAble x && not (isRunning t (s .runs))) t p s)) ready
             ∙ ap (λ (b : Bool). choose (moveReady (not b) t p s)) idle;
-        last-of =
+        last =
             rw (put-same (s .threads) t x)
             (put-same (unqueue t s .levels) p _ ∙ ap (λ (l : List ℕ). l ++ (t ∷ []))
             (put-other (s .levels) q p _ (λ e. differs (sym e))));
+        runs = refl;
       }
 
   -- A woken thread: by a line that fires, by a send to it, by a receive from it.
 
   pub fires-last :
       (l : ℕ) → inRange (Interrupt l) ≡ true → s .lines l ≡ awaited t
-      → GoesLast s (Interrupt l) t (s .threads t .priority)
-  unfolding step performIf perform interrupt fire
+      → GoesLast s (Interrupt l) t (s .threads t .priority) (s .runs)
+  unfolding step performIf perform interrupt fire wake enqueue
   fires-last l range waits =
       record {
         handed = wake t lineFired 0 0 (setLine l quiet s);
         chosen = rw (range, waits);
-        last-of = wakes-tail (setLine l quiet s) t lineFired 0 0;
+        last = wakes-tail (setLine l quiet s) t lineFired 0 0;
+        runs = refl;
       }
 
   module _ (c e : ℕ) (runs : s .runs ≡ some c) (up : s .endpoints e .status ≡ live) where
     pub hands-last :
         (b m : ℕ) → inRange (Send e b m) ≡ true → underAbort b (s .endpoints e .abort) ≡ false
         → first (receivers (s .threads) (s .endpoints e .waiters)) ≡ some t
-        → GoesLast s (Send e b m) t (s .threads t .priority)
-    unfolding step performIf perform send sendAt sendUnless sendTo
+        → GoesLast s (Send e b m) t (s .threads t .priority) (s .runs)
+    unfolding step performIf perform send sendAt sendUnless sendTo wakeFrom leaveEndpoint wake enqueue
     hands-last b m range clear waits =
         record {
           handed = wakeFrom e t messageReceived b m (dropDebt c s);
           chosen = rw (range, runs, up, clear, waits);
-          last-of = wakes-from s e t c messageReceived b m;
+          last = wakes-from s e t c messageReceived b m;
+          runs = dropDebt-drops s c .keeps .runs;
         }
 
     pub takes-last :
         inRange (Receive e) ≡ true → first (senders (s .threads) (s .endpoints e .waiters)) ≡ some t
-        → GoesLast s (Receive e) t (s .threads t .priority)
-    unfolding step performIf perform receive receiveAt receiveFrom
+        → GoesLast s (Receive e) t (s .threads t .priority) (s .runs)
+    unfolding step performIf perform receive receiveAt receiveFrom wakeFrom leaveEndpoint wake enqueue
     takes-last range waits =
         record {
           handed = wakeFrom e t messageTaken 0 0 (dropDebt c s);
           chosen = rw (range, runs, up, waits);
-          last-of = wakes-from s e t c messageTaken 0 0;
+          last = wakes-from s e t c messageTaken 0 0;
+          runs = dropDebt-drops s c .keeps .runs;
         }

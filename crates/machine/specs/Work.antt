@@ -54,8 +54,10 @@ pub data WorkLeft (s r : State) : Call → Type 0 where
       {e a b : ℕ} (x : State.Abort) → s .endpoints e .abort ≡ some x → (x .badge ≡ b → ⊥)
       → a ≤ length (x .pending) → WorkLeft s r (Abort e a b)
 
--- The call, made in state s, hands the chooser a state in which t stands last of level p, behind all who stood there.
-pub record GoesLast (s : State) (c : Call) (t p : ℕ) : Type 0 where
+-- The call, made in state s, hands the chooser a state in which t stands last of level p, behind all who stood there,
+-- and in which this one runs.
+pub record GoesLast (s : State) (c : Call) (t p : ℕ) (running : Option ℕ) : Type 0 where
   pub handed : State
   pub chosen : step s c .state ≡ choose handed
-  pub last-of : handed .levels p ≡ s .levels p ++ (t ∷ [])
+  pub last : handed .levels p ≡ s .levels p ++ (t ∷ [])
+  pub runs : handed .runs ≡ running

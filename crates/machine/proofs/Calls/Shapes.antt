@@ -66,10 +66,10 @@ always a = (λ e. a, λ b. refl)
 
 module _ (e : ℕ) (s : State) where
   chosen-waiters : choose s .endpoints e .waiters ≡ s .endpoints e .waiters
-  chosen-waiters = ap (λ (f : ℕ → Endpoint). f e .waiters) (choose-keeps s .1)
+  chosen-waiters = ap (λ (f : ℕ → Endpoint). f e .waiters) (choose-keeps s .endpoints)
 
   chosen-pending : pendingAt e (choose s) ≡ pendingAt e s
-  chosen-pending = ap (λ (f : ℕ → Endpoint). pendingOf (f e .abort)) (choose-keeps s .1)
+  chosen-pending = ap (λ (f : ℕ → Endpoint). pendingOf (f e .abort)) (choose-keeps s .endpoints)
 
 removed-chosen : (e : ℕ) (s r : State) (j : ℕ) → Removed s e j r → Removed s e j (choose r)
 removed-chosen e s r j R d = ap (λ (l : List ℕ). j + length l) (chosen-waiters e r) ∙ R d

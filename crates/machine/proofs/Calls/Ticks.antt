@@ -46,7 +46,7 @@ module _ (u : ℕ) where
   set-ticks t x s h = put-all (λ u y. y .ticks ≡ s .threads u .ticks) (s .threads) t x h (λ u n. refl) u
 
   choose-ticks : (s : State) → Kept u s (choose s)
-  choose-ticks s = ap (λ (f : ℕ → Thread). f u .ticks) (choose-keeps s .0)
+  choose-ticks s = ap (λ (f : ℕ → Thread). f u .ticks) (choose-keeps s .threads)
 
   -- The small steps
 
@@ -296,7 +296,7 @@ module _ (u : ℕ) where
     where
       n : u ≡ t → ⊥
       n k =
-          h (ap (λ (f : ℕ → Thread). f u .place) (choose-keeps (setThread t absentThread s) .0)
+          h (ap (λ (f : ℕ → Thread). f u .place) (choose-keeps (setThread t absentThread s) .threads)
           ∙ ap (λ (v : ℕ). put (s .threads) t absentThread v .place) k
           ∙ ap (λ (y : Thread). y .place) (put-same (s .threads) t absentThread))
 

@@ -2,17 +2,17 @@
 use Prim.Native.Nat.{ℕ, suc, _≤_, _<_, _^_}
 use mathlib.Core.Path.{_≡_, refl, sym, _∙_, ap, subst}
 use mathlib.Core.Logic.{inl}
-use mathlib.Core.Bool.{Bool, true, false, _&&_}
+use mathlib.Core.Bool.{Bool, true, false, and-eq-true-iff}
 use mathlib.Core.Option.{Option, none, some}
 use mathlib.Core.List.{List, [], _∷_, _++_, map}
 use native.Mathlib.Omega.{arith}
-use lib.Dec.{eqb, leb}
+use lib.Dec.{eqb}
 use lib.ListN.{length, getElem?}
-use borrow.Author.Tests.{leb-true, ltb-true, eqb-true, eq-eqb}
+use borrow.Author.Tests.{eqb-true, eq-eqb}
 use Rattle.machine.specs.declared.Answer.{Answer}
 use Rattle.machine.specs.declared.Call.{Call}
 use Rattle.machine.specs.declared.Call.the-variants.{Abort}
-use Rattle.machine.specs.Calls.{inRange, isEndpoint, isAllowance, isBadge}
+use Rattle.machine.specs.Calls.{inRange}
 use Rattle.machine.specs.Lists.{put, Mem, Rising}
 use Rattle.machine.specs.State.{State, Debt, nothing, owns, noted, Status, missing, live, closing, Endpoint, Line}
 use Rattle.machine.specs.State.{setThread, withDebt}
@@ -33,11 +33,12 @@ use Rattle.machine.proofs.Lists.{Same, same, other, same?, clash}
 use Rattle.machine.proofs.Sublists.{sub-only, rising-sub, entry-last}
 use Rattle.machine.proofs.Preserved.Mid.{sound-mid}
 use Rattle.machine.proofs.Preserved.Statuses.{keeps-self, keeps-debt}
-use Rattle.machine.proofs.Preserved.Aborts.{both-true}
+use Rattle.machine.proofs.Ranges.{bounds}
 use Rattle.machine.proofs.Demand3.Standing.{Stage, within, Core, core-grow}
 use Rattle.machine.proofs.Demand3.Owing.{still-self, tied-still, tied-drop}
 use Rattle.machine.proofs.Demand3.Leaving.{leaves-self, leaves-debt}
-use Rattle.machine.proofs.Demand3.Blocking.{stays-choose, leaves-choose, still-choose}
+use Rattle.machine.proofs.Running.{choose-keeps}
+use Rattle.machine.proofs.Demand3.Blocking.{leaves-choose, still-choose}
 use Rattle.machine.proofs.Demand3.EachLook.{Frame, frame-keeps}
 use Rattle.machine.proofs.Demand3.OwnAbort.{Ran}
 use Rattle.machine.proofs.Demand3.Joining.{ran}
@@ -57,7 +58,7 @@ length-named since (v ∷ l) = ap suc (length-named since l)
 frame-choose :
     (since : ℕ → ℕ) (e : ℕ) (s q : State) (l : List Look) → Frame since e s q l → Frame since e s (choose q) l
 frame-choose since e s q l F =
-    let T = stays-choose q in
+    let T = choose-keeps q in
     record {
       others = λ f i. ap (λ (x : ℕ → Endpoint). x f .waiters) (T .endpoints) ∙ F .others f i;
       own = ap (λ (x : ℕ → Endpoint). map since (x e .waiters)) (T .endpoints) ∙ F .own;
@@ -69,7 +70,7 @@ core-choose :
     {stage : Stage} {standing : ℕ → Option Aborting} {ended : List Ended} (s : State)
     → Core stage (s .threads) (s .endpoints) standing ended
     → Core stage (choose s .threads) (choose s .endpoints) standing ended
-core-choose s C = rw (stays-choose s .threads, stays-choose s .endpoints) C
+core-choose s C = rw (choose-keeps s .threads, choose-keeps s .endpoints) C
 
 -- The queues ascend still where the looks have removed from them.
 frame-rising :
@@ -83,10 +84,7 @@ frame-rising since e s r l F R f = go (same? f e)
 
 -- The numbers of a call 12 in range.
 range12 : (e a b : ℕ) → inRange (Abort e a b) ≡ true → (1 ≤ a) × (b < 2 ^ 28)
-range12 e a b p =
-    let q = both-true (isEndpoint e && isAllowance a) (isBadge b) p in
-    let r = both-true (isEndpoint e) (isAllowance a) (q .0) in
-    (leb-true 1 a (both-true (leb 1 a) (leb a 65535) (r .1) .0), ltb-true b (2 ^ 28) (q .1))
+range12 e a b p = let k = bounds (Abort e a b) p in (k .1 .0, k .2)
 
 module _ (past : List Call) (s : State) (h : History) (I : Inv past s h) (e a b : ℕ) where
   -- The record of a call 12, from what it left of the queues.
@@ -309,7 +307,7 @@ module _ (past : List Call) (s : State) (h : History) (I : Inv past s h) (e a b 
   noted-is nothing p = absurd (clash p refl)
   noted-is (owns f) p = absurd (clash p refl)
   noted-is (noted f c) p =
-      let r = both-true (eqb f e) (eqb c b) p in
+      let r = and-eq-true-iff (eqb f e) (eqb c b) .0 p in
       ap (λ (x : ℕ). noted x c) (eqb-true f e (r .0)) ∙ ap (noted e) (eqb-true c b (r .1))
 
   pub advance12 :

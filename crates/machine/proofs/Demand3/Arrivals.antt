@@ -29,7 +29,8 @@ use Rattle.machine.proofs.Demand3.Leaving.{leaves-then, leaves-wakeFrom
 use Rattle.machine.proofs.Calls.Ticks.{is-absent}
 use Rattle.machine.proofs.Demand3.Owing.{Still, still-self, still-then, still-thread, still-endpoint}
 use Rattle.machine.proofs.Demand3.Owing.{still-wakeFrom}
-use Rattle.machine.proofs.Demand3.Blocking.{JoinsTail, CallerBlocks, stays-choose, leaves-choose, still-choose}
+use Rattle.machine.proofs.Running.{choose-keeps}
+use Rattle.machine.proofs.Demand3.Blocking.{JoinsTail, CallerBlocks, leaves-choose, still-choose}
 use Rattle.machine.specs.Mid.{Mid}
 use Rattle.machine.proofs.Preserved.Mid.{sound-mid}
 use Rattle.machine.proofs.Demand3.HostCalls.{dropsOf, Sheds, sheds, Arrival, idle, blocks, turn-refused}
@@ -64,13 +65,13 @@ module _ (s : State) (S : Sound s) (t : ℕ) (runs : s .runs ≡ some t) where
         aside = λ e a h i. differ (M .marks .part e a h .sends t i) stands refl;
         entry = withPlace p 0 b m (dropDebt t s .threads t);
         calls = calls;
-        threads = stays-choose x .threads ∙ threads;
-        abort = λ e. ap (λ (y : ℕ → Endpoint). y e .abort) (stays-choose x .endpoints) ∙ abort e;
-        status = λ e. ap (λ (y : ℕ → Endpoint). y e .status) (stays-choose x .endpoints) ∙ status e;
+        threads = choose-keeps x .threads ∙ threads;
+        abort = λ e. ap (λ (y : ℕ → Endpoint). y e .abort) (choose-keeps x .endpoints) ∙ abort e;
+        status = λ e. ap (λ (y : ℕ → Endpoint). y e .status) (choose-keeps x .endpoints) ∙ status e;
         joins =
             λ e.
             subst (λ (y : ℕ → Endpoint). JoinsTail t (dropDebt t s .endpoints e .waiters) (y e .waiters))
-            (sym (stays-choose x .endpoints)) (joins e);
+            (sym (choose-keeps x .endpoints)) (joins e);
       }
     where
       M : Mid (dropDebt t s)

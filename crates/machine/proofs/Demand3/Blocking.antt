@@ -25,22 +25,11 @@ use Rattle.machine.proofs.Demand3.Standing.{made-grow, both-grow, over-
 use Rattle.machine.proofs.Demand3.Owing.{Still}
 use Rattle.machine.proofs.Demand3.Leaving.{NobodyComes}
 
--- Threads, endpoints and lines are as they were.
-pub record Stays (s r : State) : Type 0 where
-  pub threads : r .threads ≡ s .threads
-  pub endpoints : r .endpoints ≡ s .endpoints
-  pub lines : r .lines ≡ s .lines
-
-pub stays-choose : (s : State) → Stays s (choose s)
-stays-choose s =
-    let K = choose-keeps s in
-    record { threads = K .0; endpoints = K .1; lines = K .2 }
-
 pub leaves-choose : (s r : State) → NobodyComes s r → NobodyComes s (choose r)
-leaves-choose s r H = rw (stays-choose r .threads, stays-choose r .endpoints) H
+leaves-choose s r H = rw (choose-keeps r .threads, choose-keeps r .endpoints) H
 
 pub still-choose : (s r : State) → Still s r → Still s (choose r)
-still-choose s r H = rw (stays-choose r .threads, stays-choose r .endpoints) H
+still-choose s r H = rw (choose-keeps r .threads, choose-keeps r .endpoints) H
 
 -- Of two queues, the second is the first, or t has joined its tail.
 abbrev pub JoinsTail : ℕ → List ℕ → List ℕ → Type 0

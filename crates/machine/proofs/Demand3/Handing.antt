@@ -23,7 +23,7 @@ use Rattle.machine.proofs.Preserved.Statuses.{keeps-badge}
 use Rattle.machine.proofs.Preserved.Debts.{dropDebt-drops}
 use Rattle.machine.proofs.Preserved.Ready.{none-some}
 use Rattle.machine.proofs.Demand3.Ending.{sender-sends}
-use Rattle.machine.proofs.Demand3.Blocking.{stays-choose}
+use Rattle.machine.proofs.Running.{choose-keeps}
 
 pub record TakesFirst (s : State) (e : ℕ) (r : Result) : Type 0 where
   pub sender : ℕ
@@ -99,7 +99,7 @@ module _ (s : State) (S : Sound s) (e : ℕ) where
         badge = keeps-badge K u;
         message = ap (λ (x : Thread). x .message) (K .thread u);
         left =
-            ap (λ (x : ℕ → Endpoint). x e .waiters) (stays-choose (wakeFrom e u 1 0 0 (dropDebt t s)) .endpoints)
+            ap (λ (x : ℕ → Endpoint). x e .waiters) (choose-keeps (wakeFrom e u 1 0 0 (dropDebt t s)) .endpoints)
             ∙ ap (λ (x : Endpoint). x .waiters) (put-same (dropDebt t s .endpoints) e _)
             ∙ ap (without u) (K .waiters e);
       }

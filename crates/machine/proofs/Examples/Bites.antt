@@ -2,7 +2,7 @@
 use Prim.Native.Nat.{ℕ}
 use mathlib.Core.Path.{_≡_, refl, _∙_, ap}
 use mathlib.Core.Logic.{inl, inr}
-use mathlib.Core.Bool.{Bool, true, _&&_}
+use mathlib.Core.Bool.{Bool, true, _&&_, and-eq-true-iff}
 use mathlib.Core.Option.{Option, none, some}
 use mathlib.Core.List.{List, [], _∷_}
 use native.Mathlib.Omega.{arith}
@@ -23,7 +23,6 @@ use Rattle.machine.specs.Claim.{In, Claim}
 use Rattle.machine.specs.Tied.{NotesFirst}
 use Rattle.machine.proofs.Calls.Ticks.{ticks-kept}
 use Rattle.machine.proofs.Lists.{clash}
-use Rattle.machine.proofs.Preserved.Aborts.{both-true}
 use Rattle.machine.proofs.Examples.Computed.{computed}
 use Rattle.machine.proofs.Examples.Wrong.{idler, remover, copier, boaster, taker, marker, repeater, thief, noter}
 use Rattle.machine.proofs.Examples.Wrong.{lifo, hider, ghost, latecomer, refiller}
@@ -42,8 +41,8 @@ all-began : (n : ℕ) (l : List Ended) → allBegan n l ≡ true → (z : Ended)
 unfolding allBegan
 all-began n [] h z i = absurd i
 all-began n (x ∷ l) h z (inl e) =
-    ap (λ (y : Ended). y .abort .began) e ∙ eqb-true (x .abort .began) n (both-true _ _ h .0)
-all-began n (x ∷ l) h z (inr i) = all-began n l (both-true (eqb (x .abort .began) n) (allBegan n l) h .1) z i
+    ap (λ (y : Ended). y .abort .began) e ∙ eqb-true (x .abort .began) n (and-eq-true-iff _ _ .0 h .0)
+all-began n (x ∷ l) h z (inr i) = all-began n l (and-eq-true-iff (eqb (x .abort .began) n) (allBegan n l) .0 h .1) z i
 
 headOf : List ℕ → ℕ
 headOf [] = 0

@@ -1,7 +1,7 @@
 -- Call 12: each way through it keeps Mid up to the chooser, so the whole call keeps tables sound.
 use Prim.Native.Nat.{ℕ, zero, suc, _≤_, _<_, _-_, _^_}
 use mathlib.Core.Path.{_≡_, refl, _∙_, ap}
-use mathlib.Core.Bool.{Bool, true, false, _&&_}
+use mathlib.Core.Bool.{Bool, true, false, _&&_, and-eq-true-iff}
 use mathlib.Core.Option.{Option, none, some}
 use mathlib.Core.List.{List, [], _∷_, _++_}
 use native.Mathlib.Omega.{arith}
@@ -132,15 +132,11 @@ pub unowned :
 unowned M (clear d) q = d
 unowned {t} {e} M (mine o u) q = absurd (none-some q (M .owners .each-other e t .1 o))
 
-pub both-true : (p q : Bool) → (p && q) ≡ true → (p ≡ true) × (q ≡ true)
-both-true true q k = (refl, k)
-both-true false q k = absurd (clash k refl)
-
 pub owns-this :
     (x : Option Abort) (e b : ℕ) (d : Debt) → ownsThis x e b d ≡ true → (d ≡ owns e) × (underAbort b x ≡ true)
 owns-this x e b nothing q = absurd (clash q refl)
 owns-this x e b (owns f) q =
-    let r = both-true (eqb f e) (underAbort b x) q in
+    let r = and-eq-true-iff (eqb f e) (underAbort b x) .0 q in
     (ap owns (eqb-true f e (r .0)), r .1)
 owns-this x e b (noted f c) q = absurd (clash q refl)
 

@@ -21,19 +21,23 @@ use Rattle.machine.proofs.Preserved.Waking.{mid-standBack}
 
 module _ (s : State) (M : Mid s) where
   -- A ready thread is at most at a level above which all are empty.
+  -- The level of a ready thread is one of the 256, and not empty.
+  occupied :
+      (u : ℕ) → Ready s u → (s .threads u .priority ≤ 255) × (s .levels (s .threads u .priority) ≡ [] → ⊥)
+  occupied u r =
+      let k = s .threads u .priority in
+      (M .ranges .numbers u (λ e. differ (r .0) e refl) .priority, λ e. empty u e (M .queues .ready u k .1 (r, refl)))
+
   ready-under :
       (p u : ℕ) → ((k : ℕ) → k ≤ 255 → p < k → s .levels k ≡ []) → Ready s u → s .threads u .priority ≤ p
   ready-under p u h r =
       let k = s .threads u .priority in
-      let low : k ≤ 255 = M .ranges .numbers u (λ e. differ (r .0) e refl) .priority in
-      let not-above : p < k → ⊥ = λ l. empty u (h k low l) (M .queues .ready u k .1 (r, refl)) in
-      omega (arith, low)
+      let there = occupied u r in
+      let not-above : p < k → ⊥ = λ l. there .1 (h k (there .0) l) in
+      omega (arith, not-above)
 
   none-ready : (u : ℕ) → ((p : ℕ) → p ≤ 255 → s .levels p ≡ []) → Ready s u → ⊥
-  none-ready u h r =
-      let k = s .threads u .priority in
-      let low : k ≤ 255 = M .ranges .numbers u (λ e. differ (r .0) e refl) .priority in
-      empty u (h k low) (M .queues .ready u k .1 (r, refl))
+  none-ready u h r = let there = occupied u r in there .1 (h (s .threads u .priority) (there .0))
 
   -- The head of a queue is ready, at that level.
   head-ready : (p t : ℕ) (q : List ℕ) → s .levels p ≡ t ∷ q → Ready s t × (s .threads t .priority ≡ p)

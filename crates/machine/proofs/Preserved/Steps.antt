@@ -1,18 +1,17 @@
 -- Every call keeps the tables sound, and fresh tables are sound.
-use Prim.Native.Nat.{ℕ, _^_}
+use Prim.Native.Nat.{ℕ}
 use mathlib.Core.Path.{_≡_, refl}
-use mathlib.Core.Bool.{Bool, true, false, _&&_}
+use mathlib.Core.Bool.{Bool, true, false}
 use mathlib.Core.Option.{Option, none, some}
-use borrow.Author.Tests.{leb-true, ltb-true}
 use Rattle.machine.specs.declared.Call.{Call}
 use Rattle.machine.specs.declared.Call.the-variants.{CreateThread, DestroyThread, SetPriority, CreateEndpoint}
 use Rattle.machine.specs.declared.Call.the-variants.{Interrupt, Tick, Send, Receive, Yield, Wait, Delete, Abort}
-use Rattle.machine.specs.Calls.{inRange, isThread, isPriority, isEndpoint, isBadge, isMessage, isAllowance}
+use Rattle.machine.specs.Calls.{inRange}
 use Rattle.machine.specs.State.{State, freshState}
 use Rattle.machine.specs.Results.{Result}
 use Rattle.machine.specs.Machine.{byCaller, perform, performIf, step}
 use Rattle.machine.specs.Sound.{Sound}
-use Rattle.machine.proofs.Lists.{clash}
+use Rattle.machine.proofs.Ranges.{bounds}
 use Rattle.machine.proofs.Preserved.Ready.{none-some}
 use Rattle.machine.proofs.Preserved.Sites.{differ, not-at, not-awaited}
 use Rattle.machine.proofs.Preserved.Threads.{create-sound, destroy-sound, priority-sound, tick-sound}
@@ -22,13 +21,6 @@ use Rattle.machine.proofs.Preserved.Interrupts.{interrupt-sound, wait-s
 use Rattle.machine.proofs.Preserved.Debts.{nothing-owns}
 use Rattle.machine.proofs.Preserved.Deletes.{delete-sound}
 use Rattle.machine.proofs.Preserved.Aborts.{abort-sound}
-
--- Both tests hold.
-both : (a b : Bool) → (a && b) ≡ true → (a ≡ true) × (b ≡ true)
-both true true h = (refl, refl)
-both true false h = absurd (clash h refl)
-both false true h = absurd (clash h refl)
-both false false h = absurd (clash h refl)
 
 -- The running thread's call: nobody running is refused.
 by-caller :
@@ -43,29 +35,22 @@ by-caller f s S h = go (s .runs) refl
 perform-sound : (s : State) (c : Call) → Sound s → inRange c ≡ true → Sound (perform c s .state)
 unfolding perform
 perform-sound s (CreateThread t p) S h =
-    let k = both (isThread t) (isPriority p) h in
-    create-sound s t p S (leb-true t 255 (k .0)) (leb-true p 255 (k .1))
+    let k = bounds (CreateThread t p) h in create-sound s t p S (k .0) (k .1)
 perform-sound s (DestroyThread t) S h = destroy-sound s t S
 perform-sound s (SetPriority t p) S h =
-    let k = both (isThread t) (isPriority p) h in
-    priority-sound s t p S (leb-true p 255 (k .1))
-perform-sound s (CreateEndpoint e) S h = endpoint-sound s e S (leb-true e 63 h)
-perform-sound s (Interrupt l) S h = interrupt-sound s l S (leb-true l 31 h)
+    priority-sound s t p S (bounds (SetPriority t p) h .1)
+perform-sound s (CreateEndpoint e) S h = endpoint-sound s e S (bounds (CreateEndpoint e) h)
+perform-sound s (Interrupt l) S h = interrupt-sound s l S (bounds (Interrupt l) h)
 perform-sound s Tick S h = tick-sound s S
 perform-sound s (Send e b m) S h =
-    let k = both (isEndpoint e && isBadge b) (isMessage m) h in
-    let j = both (isEndpoint e) (isBadge b) (k .0) in
-    by-caller _ s S (λ t r. send-sound s t e S r b m (ltb-true b (2 ^ 28) (j .1)) (ltb-true m (2 ^ 28) (k .1)))
+    let k = bounds (Send e b m) h in by-caller _ s S (λ t r. send-sound s t e S r b m (k .1) (k .2))
 perform-sound s (Receive e) S h = by-caller _ s S (λ t r. receive-sound s t e S r)
 perform-sound s Yield S h = by-caller _ s S (λ t r. yield-sound s t S r)
-perform-sound s (Wait l) S h = by-caller _ s S (λ t r. wait-sound s t l S r (leb-true l 31 h))
+perform-sound s (Wait l) S h = by-caller _ s S (λ t r. wait-sound s t l S r (bounds (Wait l) h))
 perform-sound s (Delete e a) S h =
-    let k = both (isEndpoint e) (isAllowance a) h in
-    by-caller _ s S (λ t r. delete-sound t e a s S r (leb-true e 63 (k .0)))
+    by-caller _ s S (λ t r. delete-sound t e a s S r (bounds (Delete e a) h .0))
 perform-sound s (Abort e a b) S h =
-    let k = both (isEndpoint e && isAllowance a) (isBadge b) h in
-    let j = both (isEndpoint e) (isAllowance a) (k .0) in
-    by-caller _ s S (λ t r. abort-sound t e a b s S r (leb-true e 63 (j .0)) (ltb-true b (2 ^ 28) (k .1)))
+    let k = bounds (Abort e a b) h in by-caller _ s S (λ t r. abort-sound t e a b s S r (k .0) (k .2))
 
 -- Make tables fresh: no thread, endpoint or pending line.
 pub fresh-sound : Sound freshState
