@@ -1,9 +1,9 @@
 #!/bin/sh
 # Runs all tests: the second machine's own; then every crate is proved from nothing, every must-fail edit is tried and
-# every program is run; then the journals are listed, by the program and by the host in C, the desk's command and the
-# documents' listings are tried, the library is looked at as compiled, tested from Rust, lent damaged tables from C, and
-# compared with the second machine over 2,000,000 calls. The last line is 'N passed, M failed'; the exit status is 0
-# only where nothing failed.
+# every program is run; then the journals are listed, by the program and by the host in C, and told in sentences; the
+# desk's command and the documents' listings are tried; the library is looked at as compiled, tested from Rust, lent
+# damaged tables from C, and compared with the second machine over 2,000,000 calls; sentences are tried from C. The last
+# line is 'N passed, M failed'; the exit status is 0 only where nothing failed.
 set -eu
 cd "$(dirname "$0")"
 need() {
@@ -40,13 +40,17 @@ counted() {
 (cd tests && cargo test --quiet -p second)
 counted rt ci
 counted sh tests/journals.sh target/bin/trace
-counted sh tests/slow.sh target/bin/trace
-counted sh tests/slow.sh ./nazsombet list
+counted sh tests/journals.sh target/bin/tell told
+counted sh tests/slow.sh txt target/bin/trace
+counted sh tests/slow.sh txt ./nazsombet list
+counted sh tests/slow.sh told target/bin/tell
 counted sh tests/desk.sh
 counted sh tests/documents.sh
 counted sh tests/c.sh
 export NAZSOMBET_BUILT=1
 counted sh tests/damaged.sh
 counted sh tests/compare.sh --seed 1
+counted sh tests/sentences.sh
+counted sh tests/worded.sh
 echo "$passed passed, $failed failed"
 test "$failed" -eq 0

@@ -1,6 +1,7 @@
 #!/bin/sh
-# desk.sh: tries the desk's command ./nazsombet, in sh and in bash: what it lists, and that every failure has its
-# status and its sentence. The last line is 'desk: N passed, M failed'; the exit status is 0 only where nothing failed.
+# desk.sh: tries the desk's command ./nazsombet, in sh and in bash: what it lists and tells, and that every failure
+# has its status and its sentence. The last line is 'desk: N passed, M failed'; the exit status is 0 only where nothing
+# failed.
 set -u
 cd "$(dirname "$0")/.." || exit 2
 work=$(mktemp -d) || exit 2
@@ -46,13 +47,16 @@ desk() {
 }
 
 from_input() { desk list <"$example.words"; }
+told_from_input() { desk tell <"$example.words"; }
 from_nothing() { desk list <&-; }
+told_from_nothing() { desk tell <&-; }
 to_full() { desk list "$example.words" >/dev/full; }
 to_nothing() { desk list "$example.words" >&-; }
 to_closed_pipe() {
     { desk list tests/journals/long.words; echo $? >"$work/status"; } | head -n 1 >/dev/null
     return "$(cat "$work/status")"
 }
+told_to_full() { desk tell "$example.words" >/dev/full; }
 words_to_full() { desk words 11030064 >/dev/full; }
 words_listed() { desk words 11030064 14070000 18070000 | desk list; }
 
@@ -68,11 +72,12 @@ unprivileged() {
 
 mkdir -p "$work/box/crates" "$work/box/target/bin"
 cp nazsombet crates.txt "$work/box"
-cp target/bin/trace "$work/box/target/bin/trace"
+cp target/bin/trace target/bin/tell "$work/box/target/bin"
 cp "$example.words" "$work/secret"
 chmod -R a+rX "$work"
 chmod 000 "$work/secret"
 cat "$example.txt" tests/journals/incident.txt >"$work/both"
+cat "$example.told" tests/journals/incident.told >"$work/both_told"
 printf 'n call code count badge message running\n0 1 0 0 0 0 3\n1 4 0 0 0 0 3\n2 8 1 0 0 0 -\n' >"$work/three"
 printf '\144\000\003\021' >"$work/word"
 : >"$work/empty"
@@ -85,6 +90,12 @@ for shell in sh bash; do
     output_is "$work/both"
     status_is "standard input" 0 from_input
     output_is "$example.txt"
+    status_is "a file told" 0 desk tell "$example.words"
+    output_is "$example.told"
+    status_is "two files told" 0 desk tell "$example.words" tests/journals/incident.words
+    output_is "$work/both_told"
+    status_is "standard input told" 0 told_from_input
+    output_is "$example.told"
     status_is "a directory" 1 desk list tests
     complains_of 'tests: is a directory'
     output_is "$work/empty"
@@ -94,8 +105,12 @@ for shell in sh bash; do
     output_is "$example.txt"
     status_is "a closed input" 1 from_nothing
     complains_of 'standard input could not be read'
+    status_is "a closed input told" 1 told_from_nothing
+    complains_of 'standard input could not be read'
     status_is "a full device" 1 to_full
-    complains_of "$example.words: its listing could not be written whole"
+    complains_of "$example.words: its lines could not be written whole"
+    status_is "a full device told" 1 told_to_full
+    complains_of "$example.words: its lines could not be written whole"
     status_is "a closed output" 1 to_nothing
     complains_of 'could not be written'
     status_is "a closed pipe" 1 to_closed_pipe
@@ -112,6 +127,8 @@ for shell in sh bash; do
     status_is "another command" 2 desk frob
     status_is "help" 0 desk help
     status_is "an unreadable file" 1 unprivileged list "$work/secret"
+    complains_of "$work/secret: may not be read"
+    status_is "an unreadable file told" 1 unprivileged tell "$work/secret"
     complains_of "$work/secret: may not be read"
 done
 echo "desk: $passed passed, $failed failed"

@@ -11,7 +11,7 @@ use Rattle.journal.specs.declared.types.Written.{Written}
 use Rattle.journal.specs.declared.types.Named.{Named}
 use Rattle.journal.specs.Steps.{asNamed, callNamed}
 use Rattle.journal.proofs.Answers.{name-named}
-use Rattle.core_c.specs.Numbers.{callIn}
+use Rattle.numbers.specs.Numbers.{callIn}
 use Rattle.core_c.specs.Entries.{Answered, refusal, calledFor, four, asAnswered, answered, writtenFor}
 
 abbrev calledOf : Answer → Lent → Called

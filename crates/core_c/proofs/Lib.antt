@@ -1,5 +1,3 @@
--- The lemmas of the entry points for C; that the five numbers of a call name it stands in RoundTrip.
-pub mod Naming
-pub mod RoundTrip
+-- The lemmas of the entry points for C.
 pub mod Entries
 pub mod Runner

@@ -13,7 +13,7 @@ use Rattle.journal.specs.declared.types.Read.the-variants.{Found, Refused, Ende
 use Rattle.journal.specs.declared.types.Written.{Written}
 use Rattle.journal.specs.Words.{readAt, written}
 use Rattle.core_c.specs.declared.types.Reading.{Reading}
-use Rattle.core_c.specs.Numbers.{callIn, numbersOf}
+use Rattle.numbers.specs.Numbers.{callIn, numbersOf}
 
 -- The code answered, the answer's four numbers, and the memory left.
 pub record Answered : Type 0 where

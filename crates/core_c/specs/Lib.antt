@@ -1,3 +1,2 @@
--- A call as plain numbers, and what the entry points for C come to.
-pub mod Numbers
+-- What the entry points for C come to.
 pub mod Entries

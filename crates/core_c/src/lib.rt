@@ -7,11 +7,10 @@ ghost use mathlib.Core.Option.{none};
 ghost use Rattle.lent_tables.specs.Entries.{lent, Freshened, Checked, Called, freshened, checked, runnerIn};
 ghost use Rattle.journal.specs.declared.types.Written.{Written};
 ghost use Rattle.journal.specs.Steps.{callNamed};
-ghost use Rattle.core_c.specs.Numbers.{callIn};
+ghost use Rattle.numbers.specs.Numbers.{callIn};
 ghost use Rattle.core_c.specs.declared.types.Reading.{Reading};
 ghost use Rattle.core_c.specs.Entries.{Answered, calledFor, answered, reading, writtenFor, runnerNumber};
 
-mod numbers;
 mod types;
 
 use crate::types::Reading;

@@ -1,44 +1,84 @@
--- The listing of a journal does not depend on how its bytes are divided into parts.
+-- The listing and the telling of a journal do not depend on how its bytes are divided into parts.
 use Prim.Native.Nat.{ℕ, suc, _%_, _^_, _<_}
 use mathlib.Core.Path.{_≡_, refl, sym, ap, subst, _∙_}
-use mathlib.Core.Option.{none}
 use mathlib.Core.List.{List, [], _++_, append-assoc}
 use native.Mathlib.Omega.{arith}
 use lib.ListN.{length}
 use Rattle.machine.specs.State.{freshState}
 use Rattle.machine.proofs.Preserved.Steps.{fresh-sound}
+use Rattle.journal.specs.Words.{readAt}
 use Rattle.journal.specs.Rows.{rowsOf}
 use Rattle.lent_tables.specs.Entries.{Lent, lent, Sized}
 use Rattle.lent_tables.proofs.Verdict.{fresh-tables}
 use Rattle.listing.specs.Line.{header}
 use Rattle.input.specs.Words.{wordsIn}
-use Rattle.lister.specs.Listing.{linesOf, oddRows, rowsIn, listingOf, callRows, Prefix}
+use Rattle.lister.specs.declared.Form.{Form}
+use Rattle.lister.specs.declared.Form.the-variants.{Lines, Sentences}
+use Rattle.lister.specs.Listing.{linesOf, rowsIn, listingOf, callRows, Prefix}
+use Rattle.lister.specs.Telling.{sentencesOf, stopOf, tellingOf}
 use Rattle.lister.specs.Feeding.{Told, fed, ending, fedParts, joined, starting, startingFresh}
+use Rattle.lister.proofs.Texts.{Text, wholeOf, lines-calls, lines-whole, sentences-calls, sentences-stop}
+use Rattle.lister.proofs.Behind.{textOn}
 use Rattle.lister.proofs.Feeding.{following, fed-append, parts-joined}
 use Rattle.lister.proofs.Streams.{Streams, streams}
 
--- All bytes in one part.
-in-one :
-    (bytes : List ℕ) (m : Lent) → Sized m → length bytes < 2 ^ 64
-    → Streams (fed bytes (startingFresh m)) (rowsOf (wordsIn bytes))
-    (oddRows (length bytes % 4) 0 none (rowsOf (wordsIn bytes)))
-unfolding rowsOf
-in-one bytes m z few =
-    let rows = rowsOf (wordsIn bytes) in
-    let odd = oddRows (length bytes % 4) 0 none rows in
-    subst (λ (l : List ℕ). Streams (fed bytes (starting (lent l (m .scratch)))) rows odd)
-    (sym (fresh-tables (m .tables) (z .0)))
-    (streams bytes [] (suc (length (wordsIn bytes))) 0 freshState (m .scratch) fresh-sound (z .1) refl (omega arith)
-    (omega (arith, few)))
+-- In either form.
 
-listed-in-one :
-    (bytes : List ℕ) (m : Lent) → Sized m → length bytes < 2 ^ 64
-    → header
-    ++ (fed bytes (startingFresh m) .text
-    ++ ending (fed bytes (startingFresh m) .after))
-    ≡ listingOf bytes
-unfolding listingOf rowsIn
-listed-in-one bytes m z few = ap (λ (l : List ℕ). header ++ l) (in-one bytes m z few .whole)
+abbrev textOf : Form → List ℕ → Text
+textOf f bytes = textOn f (suc (length (wordsIn bytes))) 0 bytes freshState
+
+-- All that is told, with what is written at the end.
+abbrev ended : Form → Told → List ℕ
+ended f t = t .text ++ ending f (t .after)
+
+module _ (f : Form) (m : Lent) (z : Sized m) where
+  in-one :
+      (bytes : List ℕ) → length bytes < 2 ^ 64 → Streams f (fed f bytes (startingFresh m)) (textOf f bytes)
+  in-one bytes few =
+      subst (λ (l : List ℕ). Streams f (fed f bytes (starting (lent l (m .scratch)))) (textOf f bytes))
+      (sym (fresh-tables (m .tables) (z .0)))
+      (streams f bytes [] (suc (length (wordsIn bytes))) 0 freshState (m .scratch) fresh-sound (z .1) refl (omega arith)
+      (omega (arith, few)))
+
+  in-parts :
+      (parts : List (List ℕ)) → length (joined parts) < 2 ^ 64
+      → Streams f (fedParts f parts (startingFresh m)) (textOf f (joined parts))
+  in-parts parts few =
+      subst (λ (t : Told). Streams f t (textOf f (joined parts))) (sym (parts-joined f parts (startingFresh m)))
+      (in-one (joined parts) few)
+
+  begins :
+      (parts : List (List ℕ)) (behind : List ℕ) → length (joined parts ++ behind) < 2 ^ 64
+      → Prefix (fedParts f parts (startingFresh m) .text) (wholeOf (textOf f (joined parts ++ behind)))
+  begins parts behind few =
+      let s = startingFresh m in
+      let t = fedParts f parts s in
+      let u = fed f behind (t .after) in
+      let first : fed f (joined parts ++ behind) s ≡ following t u =
+      fed-append f (joined parts) behind s
+      ∙ ap (λ (k : Told). following k (fed f behind (k .after))) (sym (parts-joined f parts s)) in
+      record {
+        more = ended f u;
+        whole =
+            sym (in-one (joined parts ++ behind) few .whole)
+            ∙ ap (ended f) first
+            ∙ append-assoc (t .text) (u .text) (ending f (u .after));
+      }
+
+-- In lines of numbers.
+
+listed : (bytes : List ℕ) → header ++ wholeOf (textOf Lines bytes) ≡ listingOf bytes
+unfolding listingOf rowsIn rowsOf
+listed bytes =
+    let words = wordsIn bytes in
+    ap (λ (l : List ℕ). header ++ l)
+    (lines-whole (length bytes % 4) (suc (length words)) (readAt words 0) 0 words freshState)
+
+lines-of-calls : (bytes : List ℕ) → textOf Lines bytes .calls ≡ linesOf (callRows (rowsOf (wordsIn bytes)))
+unfolding rowsOf
+lines-of-calls bytes =
+    let words = wordsIn bytes in
+    lines-calls (length bytes % 4) (suc (length words)) (readAt words 0) 0 words freshState
 
 -- For every division of the bytes into parts, from whatever the lent tables held before they were made fresh, the
 -- header and the bytes written, with those at the end, are the listing of the whole. The bound is there because a
@@ -46,41 +86,72 @@ listed-in-one bytes m z few = ap (λ (l : List ℕ). header ++ l) (in-one bytes 
 pub every-division :
     (parts : List (List ℕ)) (m : Lent) → Sized m → length (joined parts) < 2 ^ 64
     → header
-    ++ (fedParts parts (startingFresh m) .text
-    ++ ending (fedParts parts (startingFresh m) .after))
+    ++ (fedParts Lines parts (startingFresh m) .text
+    ++ ending Lines (fedParts Lines parts (startingFresh m) .after))
     ≡ listingOf (joined parts)
 every-division parts m z few =
-    ap (λ (t : Told). header ++ (t .text ++ ending (t .after)))
-    (parts-joined parts (startingFresh m))
-    ∙ listed-in-one (joined parts) m z few
+    ap (λ (l : List ℕ). header ++ l) (in-parts Lines m z parts few .whole) ∙ listed (joined parts)
 
 -- After each part every call whose words are all there is listed at once: the text so far begins with their lines.
 pub at-once :
     (parts : List (List ℕ)) (m : Lent) → Sized m → length (joined parts) < 2 ^ 64
     → Prefix (linesOf (callRows (rowsOf (wordsIn (joined parts)))))
-    (fedParts parts (startingFresh m) .text)
+    (fedParts Lines parts (startingFresh m) .text)
 at-once parts m z few =
-    subst (λ (t : Told). Prefix (linesOf (callRows (rowsOf (wordsIn (joined parts))))) (t .text))
-    (sym (parts-joined parts (startingFresh m)))
-    (in-one (joined parts) m z few .begun)
+    subst (λ (l : List ℕ). Prefix l (fedParts Lines parts (startingFresh m) .text)) (lines-of-calls (joined parts))
+    (in-parts Lines m z parts few .begun)
 
 -- After each part nothing is written that the whole listing would not have, whatever bytes come behind.
 pub no-more :
     (parts : List (List ℕ)) (behind : List ℕ) (m : Lent) → Sized m → length (joined parts ++ behind) < 2 ^ 64
-    → Prefix (header ++ fedParts parts (startingFresh m) .text) (listingOf (joined parts ++ behind))
+    → Prefix (header ++ fedParts Lines parts (startingFresh m) .text) (listingOf (joined parts ++ behind))
 no-more parts behind m z few =
-    let s = startingFresh m in
-    let t = fedParts parts s in
-    let u = fed behind (t .after) in
-    let end = ending (u .after) in
-    let first : fed (joined parts ++ behind) s ≡ following t u =
-    fed-append (joined parts) behind s
-    ∙ ap (λ (k : Told). following k (fed behind (k .after))) (sym (parts-joined parts s)) in
+    let p = begins Lines m z parts behind few in
     record {
-      more = u .text ++ end;
+      more = p .more;
       whole =
-          sym (listed-in-one (joined parts ++ behind) m z few)
-          ∙ ap (λ (k : Told). header ++ (k .text ++ ending (k .after))) first
-          ∙ ap (λ (l : List ℕ). header ++ l) (append-assoc (t .text) (u .text) end)
-          ∙ sym (append-assoc header (t .text) (u .text ++ end));
+          sym (listed (joined parts ++ behind))
+          ∙ ap (λ (l : List ℕ). header ++ l) (p .whole)
+          ∙ sym (append-assoc header (fedParts Lines parts (startingFresh m) .text) (p .more));
     }
+
+-- In sentences, which have no header.
+
+sentences-of-calls : (bytes : List ℕ) → textOf Sentences bytes .calls ≡ sentencesOf (wordsIn bytes)
+unfolding sentencesOf
+sentences-of-calls bytes =
+    let words = wordsIn bytes in
+    sentences-calls (length bytes % 4) (suc (length words)) (readAt words 0) 0 words freshState
+
+told : (bytes : List ℕ) → wholeOf (textOf Sentences bytes) ≡ tellingOf bytes
+unfolding tellingOf stopOf
+told bytes =
+    let words = wordsIn bytes in
+    ap (λ (l : List ℕ). l ++ textOf Sentences bytes .stop) (sentences-of-calls bytes)
+    ∙ ap (λ (l : List ℕ). sentencesOf words ++ l)
+    (sentences-stop (length bytes % 4) (suc (length words)) (readAt words 0) 0 words freshState)
+
+-- For every division of the bytes into parts the bytes written, with those at the end, are the telling of the whole.
+pub every-division-told :
+    (parts : List (List ℕ)) (m : Lent) → Sized m → length (joined parts) < 2 ^ 64
+    → fedParts Sentences parts (startingFresh m) .text
+    ++ ending Sentences (fedParts Sentences parts (startingFresh m) .after)
+    ≡ tellingOf (joined parts)
+every-division-told parts m z few = in-parts Sentences m z parts few .whole ∙ told (joined parts)
+
+-- After each part every call whose words are all there is told at once: the text so far begins with their sentences.
+pub at-once-told :
+    (parts : List (List ℕ)) (m : Lent) → Sized m → length (joined parts) < 2 ^ 64
+    → Prefix (sentencesOf (wordsIn (joined parts))) (fedParts Sentences parts (startingFresh m) .text)
+at-once-told parts m z few =
+    subst (λ (l : List ℕ). Prefix l (fedParts Sentences parts (startingFresh m) .text))
+    (sentences-of-calls (joined parts))
+    (in-parts Sentences m z parts few .begun)
+
+-- After each part nothing is written that the whole telling would not have, whatever bytes come behind.
+pub no-more-told :
+    (parts : List (List ℕ)) (behind : List ℕ) (m : Lent) → Sized m → length (joined parts ++ behind) < 2 ^ 64
+    → Prefix (fedParts Sentences parts (startingFresh m) .text) (tellingOf (joined parts ++ behind))
+no-more-told parts behind m z few =
+    subst (Prefix (fedParts Sentences parts (startingFresh m) .text)) (told (joined parts ++ behind))
+    (begins Sentences m z parts behind few)

@@ -10,7 +10,6 @@ use lib.ListN.{length}
 use Rattle.machine.specs.declared.Call.{Call}
 use Rattle.machine.specs.Lists.{pick}
 use Rattle.machine.specs.Results.{threadOf}
-use Rattle.machine.specs.Calls.{numberOf}
 use Rattle.machine.specs.State.{State}
 use Rattle.machine.specs.Machine.{step}
 use Rattle.machine.specs.Sound.{Sound}
@@ -20,130 +19,128 @@ use Rattle.journal.specs.Words.{readAt}
 use Rattle.layout.specs.Addresses.{scratchWords}
 use Rattle.layout.specs.Words.{image}
 use Rattle.lent_tables.specs.Entries.{lent, zeros, Called, runnerIn}
-use Rattle.listing.specs.Line.{lineOf}
 use Rattle.machine.proofs.Preserved.Steps.{step-sound}
 use Rattle.kernel.proofs.Runner.{running-image}
 use Rattle.kernel.proofs.InTurn.{called-image}
 use Rattle.input.specs.Words.{wordsIn}
 use Rattle.rows.specs.Taking.{turned}
-use Rattle.lister.specs.Listing.{lastRow}
+use Rattle.lister.specs.declared.Form.{Form}
+use Rattle.lister.specs.Forms.{callText, stopText}
 use Rattle.lister.specs.Feeding.{Progress, Told, ready, holding, toldBy, offered, byteTo, fed, ending, endingWith}
 use Rattle.lister.specs.Feeding.{fedParts, joined}
-use Rattle.lister.proofs.Behind.{rowFor}
+use Rattle.lister.proofs.Texts.{textFor}
 
 -- What is told where u is told behind t.
 abbrev pub following : Told → Told → Told
 following t u = record { after = u .after; text = t .text ++ u .text }
 
--- A part fed behind another is fed in one with it,
-pub fed-append : (a b : List ℕ) (s : Progress) → fed (a ++ b) s ≡ following (fed a s) (fed b (fed a s .after))
-unfolding fed
-fed-append [] b s = refl
-fed-append (x ∷ a) b s =
-    let t = byteTo x s in
-    let u = fed a (t .after) in
-    let r = fed b (u .after) in
-    ap (following t) (fed-append a b (t .after))
-    ∙ ap (λ (l : List ℕ). record { after = r .after; text = l }) (sym (append-assoc (t .text) (u .text) (r .text)))
+module _ (f : Form) where
+  -- A part fed behind another is fed in one with it,
+  pub fed-append :
+      (a b : List ℕ) (s : Progress) → fed f (a ++ b) s ≡ following (fed f a s) (fed f b (fed f a s .after))
+  unfolding fed
+  fed-append [] b s = refl
+  fed-append (x ∷ a) b s =
+      let t = byteTo f x s in
+      let u = fed f a (t .after) in
+      let r = fed f b (u .after) in
+      ap (following t) (fed-append a b (t .after))
+      ∙ ap (λ (l : List ℕ). record { after = r .after; text = l }) (sym (append-assoc (t .text) (u .text) (r .text)))
 
--- and so are any parts.
-pub parts-joined : (parts : List (List ℕ)) (s : Progress) → fedParts parts s ≡ fed (joined parts) s
-unfolding fedParts joined fed
-parts-joined [] s = refl
-parts-joined (part ∷ parts) s =
-    ap (following (fed part s)) (parts-joined parts (fed part s .after)) ∙ sym (fed-append part (joined parts) s)
+  -- and so are any parts.
+  pub parts-joined : (parts : List (List ℕ)) (s : Progress) → fedParts f parts s ≡ fed f (joined parts) s
+  unfolding fedParts joined fed
+  parts-joined [] s = refl
+  parts-joined (part ∷ parts) s =
+      ap (following (fed f part s)) (parts-joined parts (fed f part s .after)) ∙ sym (fed-append part (joined parts) s)
 
--- The first byte tells what it tells, and the others from there.
-pub fed-first :
-    (b : ℕ) (part : List ℕ) (s : Progress) (t : Told) → byteTo b s ≡ t
-    → fed (b ∷ part) s ≡ following t (fed part (t .after))
-unfolding fed
-fed-first b part s t e = ap (λ (u : Told). following u (fed part (u .after))) e
+  -- The first byte tells what it tells, and the others from there.
+  pub fed-first :
+      (b : ℕ) (part : List ℕ) (s : Progress) (t : Told) → byteTo f b s ≡ t
+      → fed f (b ∷ part) s ≡ following t (fed f part (t .after))
+  unfolding fed
+  fed-first b part s t e = ap (λ (u : Told). following u (fed f part (u .after))) e
 
--- Once the listing has stopped nothing is written.
-pub fed-stopped : (part : List ℕ) (s : Progress) → s .going ≡ false → fed part s ≡ holding (s .held) s
-unfolding fed byteTo
-fed-stopped [] s e = refl
-fed-stopped (b ∷ part) s e =
-    let t = holding (s .held) s in
-    fed-first b part s t (ap (λ (g : Bool). pick g (offered (s .held ++ (b ∷ [])) s) t) e)
-    ∙ ap (following t) (fed-stopped part s e)
+  -- Once the journal has stopped nothing is written.
+  pub fed-stopped : (part : List ℕ) (s : Progress) → s .going ≡ false → fed f part s ≡ holding (s .held) s
+  unfolding fed byteTo
+  fed-stopped [] s e = refl
+  fed-stopped (b ∷ part) s e =
+      let t = holding (s .held) s in
+      fed-first b part s t (ap (λ (g : Bool). pick g (offered f (s .held ++ (b ∷ [])) s) t) e)
+      ∙ ap (following t) (fed-stopped part s e)
 
-pub ending-stopped : (s : Progress) → s .going ≡ false → ending s ≡ []
-unfolding ending
-ending-stopped s e = ap (λ (g : Bool). pick g (endingWith (s .held) s) []) e
+  pub ending-stopped : (s : Progress) → s .going ≡ false → ending f s ≡ []
+  unfolding ending
+  ending-stopped s e = ap (λ (g : Bool). pick g (endingWith f (s .held) s) []) e
 
 -- Where the lister stands that goes on, with the tables of a state.
 abbrev pub on : List ℕ → ℕ → State → List ℕ → Progress
 on held i s x = record { held = held; index = i; going = true; lent = lent (image s) x }
 
-module _ (b : ℕ) (held : List ℕ) (i : ℕ) (s : State) (x : List ℕ) where
+module _ (f : Form) (b : ℕ) (held : List ℕ) (i : ℕ) (s : State) (x : List ℕ) where
+  abbrev offers : Bool → Told
+  offers t =
+      pick t (toldBy f (turned (readAt (wordsIn (held ++ (b ∷ []))) 0) (lent (image s) x)) (on held i s x))
+      (holding (held ++ (b ∷ [])) (on held i s x))
+
   -- Bytes that are not ready are held,
   pub byte-held :
-      ready (held ++ (b ∷ [])) ≡ false → byteTo b (on held i s x) ≡ holding (held ++ (b ∷ [])) (on held i s x)
+      ready (held ++ (b ∷ [])) ≡ false → byteTo f b (on held i s x) ≡ holding (held ++ (b ∷ [])) (on held i s x)
   unfolding byteTo
-  byte-held e =
-      ap
-      (λ (t : Bool).
-      pick t (toldBy (turned (readAt (wordsIn (held ++ (b ∷ []))) 0) (lent (image s) x)) (on held i s x))
-      (holding (held ++ (b ∷ [])) (on held i s x)))
-      e
+  byte-held e = ap offers e
 
   -- and those that are ready tell what their reading comes to.
   pub byte-taken :
       ready (held ++ (b ∷ [])) ≡ true → (r : Read) → readAt (wordsIn (held ++ (b ∷ []))) 0 ≡ r
-      → byteTo b (on held i s x) ≡ toldBy (turned r (lent (image s) x)) (on held i s x)
+      → byteTo f b (on held i s x) ≡ toldBy f (turned r (lent (image s) x)) (on held i s x)
   unfolding byteTo
-  byte-taken e r f =
-      ap
-      (λ (t : Bool).
-      pick t (toldBy (turned (readAt (wordsIn (held ++ (b ∷ []))) 0) (lent (image s) x)) (on held i s x))
-      (holding (held ++ (b ∷ [])) (on held i s x)))
-      e
-      ∙ ap (λ (k : Read). toldBy (turned k (lent (image s) x)) (on held i s x)) f
+  byte-taken e r g =
+      ap offers e ∙ ap (λ (k : Read). toldBy f (turned k (lent (image s) x)) (on held i s x)) g
 
 -- What a call tells that was answered so.
-abbrev callTold : ℕ → Call → Called → ℕ → Option ℕ → Told
-callTold i c k next running =
+abbrev callTold : Form → ℕ → Call → Called → ℕ → Option ℕ → Told
+callTold f i c k next running =
     record {
       after = record { held = []; index = next; going = true; lent = k .left };
-      text = lineOf (record { index = i; call = numberOf c; answer = k .answer; running = running });
+      text = callText f i c (k .answer) running;
     }
 
--- A call that was read tells its row's line, and the lister goes on with the tables of the state after it.
-abbrev pub lineTold : ℕ → Call → State → Told
-lineTold i c s = record { after = on [] (suc i) (step s c .state) zeros; text = lineOf (rowFor i c s) }
+-- A call that was read tells its text, and the lister goes on with the tables of the state after it.
+abbrev pub takenTold : Form → ℕ → Call → State → Told
+takenTold f i c s = record { after = on [] (suc i) (step s c .state) zeros; text = textFor f i c s }
 
 pub call-told :
-    (c : Call) (next : ℕ) (held : List ℕ) (i : ℕ) (s : State) (x : List ℕ) → Sound s → length x ≡ scratchWords
-    → i + 1 < 2 ^ 64 → toldBy (turned (Found c next) (lent (image s) x)) (on held i s x) ≡ lineTold i c s
-call-told c next held i s x S n h =
+    (f : Form) (c : Call) (next : ℕ) (held : List ℕ) (i : ℕ) (s : State) (x : List ℕ) → Sound s
+    → length x ≡ scratchWords → i + 1 < 2 ^ 64
+    → toldBy f (turned (Found c next) (lent (image s) x)) (on held i s x) ≡ takenTold f i c s
+call-told f c next held i s x S n h =
     let s′ = step s c .state in
     let k : Called = record { answer = step s c .answer; left = lent (image s′) zeros } in
     let index : (i + 1) % 2 ^ 64 ≡ suc i = omega (arith, h) in
-    ap (λ (k : Called). callTold i c k ((i + 1) % 2 ^ 64) (threadOf (runnerIn (k .left .tables))))
+    ap (λ (k : Called). callTold f i c k ((i + 1) % 2 ^ 64) (threadOf (runnerIn (k .left .tables))))
     (called-image s x c S n)
-    ∙ ap (λ (j : ℕ). callTold i c k j (threadOf (runnerIn (image s′)))) index
-    ∙ ap (λ (running : Option ℕ). callTold i c k (suc i) running) (running-image s′ (step-sound s c S))
+    ∙ ap (λ (j : ℕ). callTold f i c k j (threadOf (runnerIn (image s′)))) index
+    ∙ ap (λ (running : Option ℕ). callTold f i c k (suc i) running) (running-image s′ (step-sound s c S))
 
--- A refusal tells the last row's line, and the listing stops.
+-- A refusal stops the journal with its text.
 abbrev pub stopped : ℕ → State → List ℕ → Progress
 stopped i s x = record { held = []; index = i; going = false; lent = lent (image s) x }
 
-abbrev pub lastTold : ℕ → ℕ → State → List ℕ → Told
-lastTold i code s x = record { after = stopped i s x; text = lineOf (lastRow i code (s .runs)) }
+abbrev pub stopTold : Form → ℕ → ℕ → State → List ℕ → Told
+stopTold f i code s x = record { after = stopped i s x; text = stopText f i code (s .runs) }
 
-pub last-told :
-    (code at : ℕ) (held : List ℕ) (i : ℕ) (s : State) (x : List ℕ) → Sound s
-    → toldBy (turned (Refused code at) (lent (image s) x)) (on held i s x) ≡ lastTold i code s x
-last-told code at held i s x S =
+pub refused-told :
+    (f : Form) (code at : ℕ) (held : List ℕ) (i : ℕ) (s : State) (x : List ℕ) → Sound s
+    → toldBy f (turned (Refused code at) (lent (image s) x)) (on held i s x) ≡ stopTold f i code s x
+refused-told f code at held i s x S =
     ap
-    (λ (running : Option ℕ). record { after = stopped i s x; text = lineOf (lastRow i code running) })
+    (λ (running : Option ℕ). record { after = stopped i s x; text = stopText f i code running })
     (running-image s S)
 
--- Bytes held at the end tell the last row's line.
+-- Bytes held at the end are told by 18.
 pub ending-held :
-    (b : ℕ) (held : List ℕ) (i : ℕ) (s : State) (x : List ℕ) → Sound s
-    → ending (on (b ∷ held) i s x) ≡ lineOf (lastRow i 18 (s .runs))
+    (f : Form) (b : ℕ) (held : List ℕ) (i : ℕ) (s : State) (x : List ℕ) → Sound s
+    → ending f (on (b ∷ held) i s x) ≡ stopText f i 18 (s .runs)
 unfolding ending
-ending-held b held i s x S = ap (λ (running : Option ℕ). lineOf (lastRow i 18 running)) (running-image s S)
+ending-held f b held i s x S = ap (λ (running : Option ℕ). stopText f i 18 running) (running-image s S)

@@ -17,6 +17,7 @@ use Rattle.input.specs.Words.{littleEndian, wordsIn}
 use Rattle.rows.specs.declared.Turn.{Turn}
 use Rattle.rows.specs.declared.Turn.the-variants.{Took, Stopped, Over}
 use Rattle.rows.specs.Taking.{Turned, turned}
+use Rattle.lister.specs.declared.Form.{Form}
 use Rattle.lister.specs.declared.Lister.{Lister}
 use Rattle.lister.specs.declared.Fed.{Fed}
 use Rattle.lister.specs.Feeding.{Progress, Told, ready, holding, toldOf, toldBy, offered, byteTo, fed}
@@ -82,23 +83,23 @@ abbrev stand : List ℕ → Lister → Lent → Progress
 stand bytes l m = record { held = bytes; index = l .index; going = l .going; lent = m }
 
 any-held :
-    (t : Turn) (n : Lent) (bytes bytes′ : List ℕ) (l : Lister) (m : Lent)
-    → toldOf t n (stand bytes l m) ≡ toldOf t n (stand bytes′ l m)
-any-held (Took c a who next) n bytes bytes′ l m = refl
-any-held (Stopped code who) n bytes bytes′ l m = refl
-any-held Over n bytes bytes′ l m = refl
+    (f : Form) (t : Turn) (n : Lent) (bytes bytes′ : List ℕ) (l : Lister) (m : Lent)
+    → toldOf f t n (stand bytes l m) ≡ toldOf f t n (stand bytes′ l m)
+any-held f (Took c a who next) n bytes bytes′ l m = refl
+any-held f (Stopped code who) n bytes bytes′ l m = refl
+any-held f Over n bytes bytes′ l m = refl
 
 -- One byte.
 
--- The listing has stopped.
+-- The journal has stopped.
 pub stays :
-    (l : Lister) (b : ℕ) (m : Lent) (out : List ℕ) (used : ℕ) → l .going ≡ false
-    → Feeds (byteTo b (progressOf l m)) out used (fedTo l used) m out
+    (f : Form) (l : Lister) (b : ℕ) (m : Lent) (out : List ℕ) (used : ℕ) → l .going ≡ false
+    → Feeds (byteTo f b (progressOf l m)) out used (fedTo l used) m out
 unfolding byteTo
-stays l b m out used g =
+stays f l b m out used g =
     subst (λ (o : Told). Feeds o out used (fedTo l used) m out)
     (sym
-    (ap (λ (k : Bool). pick k (offered (take (l .held) (l .bytes) ++ (b ∷ [])) (progressOf l m))
+    (ap (λ (k : Bool). pick k (offered f (take (l .held) (l .bytes) ++ (b ∷ [])) (progressOf l m))
     (holding (take (l .held) (l .bytes)) (progressOf l m))) g))
     (record { after = refl; text = wrote-nothing out used })
 
@@ -126,26 +127,26 @@ module _ (l : Lister) (b : ℕ) (h : l .held < 12) (long : length (l .bytes) ≡
     pub enough : ready (take (k .held) (k .bytes)) ≡ true → 4 ≤ k .held
     enough e = omega (arith, ready-four (take (k .held) (k .bytes)) e, many)
 
-    module _ (m : Lent) (out : List ℕ) (used : ℕ) where
+    module _ (f : Form) (m : Lent) (out : List ℕ) (used : ℕ) where
       bytes-offered :
           (r : Bool) → l .going ≡ true → ready (take (k .held) (k .bytes)) ≡ r
-          → byteTo b (progressOf l m)
+          → byteTo f b (progressOf l m)
           ≡ pick r
-          (toldBy (turned (readAt (wordsIn (take (k .held) (k .bytes))) 0) m) (progressOf l m))
+          (toldBy f (turned (readAt (wordsIn (take (k .held) (k .bytes))) 0) m) (progressOf l m))
           (holding (take (k .held) (k .bytes)) (progressOf l m))
       unfolding byteTo
       bytes-offered r g e =
-          ap (λ (h : Bool). pick h (offered (take (l .held) (l .bytes) ++ (b ∷ [])) (progressOf l m))
+          ap (λ (h : Bool). pick h (offered f (take (l .held) (l .bytes) ++ (b ∷ [])) (progressOf l m))
           (holding (take (l .held) (l .bytes)) (progressOf l m))) g
-          ∙ ap (λ (bytes : List ℕ). offered bytes (progressOf l m)) (sym bytes-held)
+          ∙ ap (λ (bytes : List ℕ). offered f bytes (progressOf l m)) (sym bytes-held)
           ∙ ap (λ (h : Bool). pick h
-          (toldBy (turned (readAt (wordsIn (take (k .held) (k .bytes))) 0) m) (progressOf l m))
+          (toldBy f (turned (readAt (wordsIn (take (k .held) (k .bytes))) 0) m) (progressOf l m))
           (holding (take (k .held) (k .bytes)) (progressOf l m))) e
 
       -- The byte is held.
       pub not-yet :
           l .going ≡ true → ready (take (k .held) (k .bytes)) ≡ false
-          → Feeds (byteTo b (progressOf l m)) out used (fedTo k used) m out
+          → Feeds (byteTo f b (progressOf l m)) out used (fedTo k used) m out
       not-yet g e =
           subst (λ (o : Told). Feeds o out used (fedTo k used) m out) (sym (bytes-offered false g e))
           (record {
@@ -156,12 +157,12 @@ module _ (l : Lister) (b : ℕ) (h : l .held < 12) (long : length (l .bytes) ≡
       -- The byte was a call's last.
       pub now-taken :
           l .going ≡ true → ready (take (k .held) (k .bytes)) ≡ true
-          → (r : Fed) (m′ : Lent) (out′ : List ℕ) → Feeds (takesCall (progressOf k m)) out used r m′ out′
-          → Feeds (byteTo b (progressOf l m)) out used r m′ out′
+          → (r : Fed) (m′ : Lent) (out′ : List ℕ) → Feeds (takesCall f (progressOf k m)) out used r m′ out′
+          → Feeds (byteTo f b (progressOf l m)) out used r m′ out′
       now-taken g e r m′ out′ t =
           subst (λ (o : Told). Feeds o out used r m′ out′)
-          (ap (λ (j : Lister). toldBy did (stand (take (k .held) (k .bytes)) j m)) is
-          ∙ any-held (did .turn) (did .left) _ (take (l .held) (l .bytes)) l m
+          (ap (λ (j : Lister). toldBy f did (stand (take (k .held) (k .bytes)) j m)) is
+          ∙ any-held f (did .turn) (did .left) _ (take (l .held) (l .bytes)) l m
           ∙ sym (bytes-offered true g e))
           t
         where
@@ -174,41 +175,41 @@ then : Told → Told → Told
 then a b = record { after = b .after; text = a .text ++ b .text }
 
 one-byte-more :
-    (bytes : List ℕ) (b : ℕ) (s : Progress)
-    → fed (bytes ++ (b ∷ [])) s ≡ then (fed bytes s) (byteTo b (fed bytes s .after))
+    (f : Form) (bytes : List ℕ) (b : ℕ) (s : Progress)
+    → fed f (bytes ++ (b ∷ [])) s ≡ then (fed f bytes s) (byteTo f b (fed f bytes s .after))
 unfolding fed then
-one-byte-more [] b s = ap (λ (t : List ℕ). told (byteTo b s .after) t) (append-nil (byteTo b s .text))
+one-byte-more f [] b s = ap (λ (t : List ℕ). told (byteTo f b s .after) t) (append-nil (byteTo f b s .text))
   where
     told : Progress → List ℕ → Told
     told a t = record { after = a; text = t }
-one-byte-more (a ∷ bytes) b s =
-    let s′ = byteTo a s .after in
-    ap (λ (t : Told). then (byteTo a s) t) (one-byte-more bytes b s′)
-    ∙ ap (λ (t : List ℕ). told (byteTo b (fed bytes s′ .after) .after) t)
-    (sym (append-assoc (byteTo a s .text) (fed bytes s′ .text) (byteTo b (fed bytes s′ .after) .text)))
+one-byte-more f (a ∷ bytes) b s =
+    let s′ = byteTo f a s .after in
+    ap (λ (t : Told). then (byteTo f a s) t) (one-byte-more f bytes b s′)
+    ∙ ap (λ (t : List ℕ). told (byteTo f b (fed f bytes s′ .after) .after) t)
+    (sym (append-assoc (byteTo f a s .text) (fed f bytes s′ .text) (byteTo f b (fed f bytes s′ .after) .text)))
   where
     told : Progress → List ℕ → Told
     told a t = record { after = a; text = t }
 
-module _ (l : Lister) (m : Lent) (out : List ℕ) where
-  pub none-fed : Feeds (fed [] (progressOf l m)) out 0 (fedTo l 0) m out
+module _ (f : Form) (l : Lister) (m : Lent) (out : List ℕ) where
+  pub none-fed : Feeds (fed f [] (progressOf l m)) out 0 (fedTo l 0) m out
   unfolding fed
   none-fed = record { after = refl; text = wrote-nothing out 0 }
 
   -- One byte more of the part.
   pub one-fed :
       (part : List ℕ) (i : ℕ) → i < length part
-      → (a : Fed) (m₁ : Lent) (out₁ : List ℕ) → Feeds (fed (take i part) (progressOf l m)) out 0 a m₁ out₁
+      → (a : Fed) (m₁ : Lent) (out₁ : List ℕ) → Feeds (fed f (take i part) (progressOf l m)) out 0 a m₁ out₁
       → a .used ≤ length out
       → (r : Fed) (m₂ : Lent) (out₂ : List ℕ)
-      → Feeds (byteTo (getD part i 0) (progressOf (a .lister) m₁)) out₁ (a .used) r m₂ out₂
-      → Feeds (fed (take (i + 1) part) (progressOf l m)) out 0 r m₂ out₂
+      → Feeds (byteTo f (getD part i 0) (progressOf (a .lister) m₁)) out₁ (a .used) r m₂ out₂
+      → Feeds (fed f (take (i + 1) part) (progressOf l m)) out 0 r m₂ out₂
   unfolding then
   one-fed part i h a m₁ out₁ so-far room r m₂ out₂ new =
       subst (λ (o : Told). Feeds o out 0 r m₂ out₂)
       (sym
-      (ap (λ (bytes : List ℕ). fed bytes (progressOf l m)) one
-      ∙ one-byte-more (take i part) (getD part i 0) (progressOf l m)))
+      (ap (λ (bytes : List ℕ). fed f bytes (progressOf l m)) one
+      ∙ one-byte-more f (take i part) (getD part i 0) (progressOf l m)))
       (record {
         after = new′ .after;
         text = wrote-then (record { fits = omega (arith, so-far .text .next, room) }) (so-far .text) (new′ .text);
@@ -218,14 +219,14 @@ module _ (l : Lister) (m : Lent) (out : List ℕ) where
       one = let e : i + 1 ≡ suc i = omega arith in ap (λ (n : ℕ). take n part) e ∙ take-suc part i 0 h
 
       new′ :
-          Feeds (byteTo (getD part i 0) (fed (take i part) (progressOf l m) .after)) out₁ (a .used) r m₂ out₂
+          Feeds (byteTo f (getD part i 0) (fed f (take i part) (progressOf l m) .after)) out₁ (a .used) r m₂ out₂
       new′ =
-          subst (λ (s : Progress). Feeds (byteTo (getD part i 0) s) out₁ (a .used) r m₂ out₂) (so-far .after) new
+          subst (λ (s : Progress). Feeds (byteTo f (getD part i 0) s) out₁ (a .used) r m₂ out₂) (so-far .after) new
 
   -- All of it.
   pub all-fed :
       (part : List ℕ) (i : ℕ) → length part ≤ i
-      → (a : Fed) (m₁ : Lent) (out₁ : List ℕ) → Feeds (fed (take i part) (progressOf l m)) out 0 a m₁ out₁
-      → Feeds (fed part (progressOf l m)) out 0 a m₁ out₁
+      → (a : Fed) (m₁ : Lent) (out₁ : List ℕ) → Feeds (fed f (take i part) (progressOf l m)) out 0 a m₁ out₁
+      → Feeds (fed f part (progressOf l m)) out 0 a m₁ out₁
   all-fed part i h a m₁ out₁ =
-      subst (λ (bytes : List ℕ). Feeds (fed bytes (progressOf l m)) out 0 a m₁ out₁) (take-all i part h)
+      subst (λ (bytes : List ℕ). Feeds (fed f bytes (progressOf l m)) out 0 a m₁ out₁) (take-all i part h)

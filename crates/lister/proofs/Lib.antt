@@ -2,8 +2,9 @@
 pub mod Writing
 pub mod Taking
 pub mod Holding
--- For every division of the bytes the listing is that of the whole.
+-- For every division of the bytes the text is that of the whole.
 pub mod Enough
+pub mod Texts
 pub mod Behind
 pub mod Feeding
 pub mod Streams

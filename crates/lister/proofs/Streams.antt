@@ -1,4 +1,4 @@
--- What is written while bytes come in, byte by byte: the lines of the rows of all of them.
+-- What is written while bytes come in, byte by byte: the text of all of them.
 use Prim.Native.Nat.{ℕ, zero, suc, _+_, _^_, _<_}
 use mathlib.Core.Path.{_≡_, refl, sym, ap, subst, _∙_}
 use mathlib.Core.Bool.{Bool, true, false}
@@ -14,89 +14,79 @@ use Rattle.machine.proofs.Preserved.Steps.{step-sound}
 use Rattle.journal.specs.declared.types.Read.{Read}
 use Rattle.journal.specs.declared.types.Read.the-variants.{Found, Refused, Ended}
 use Rattle.journal.specs.Words.{readAt, readFrom}
-use Rattle.journal.specs.Rows.{Row, rowsFrom}
 use Rattle.layout.specs.Addresses.{scratchWords}
 use Rattle.lent_tables.specs.Entries.{zeros}
 use Rattle.lent_tables.proofs.Verdict.{zeros-length}
 use Rattle.input.specs.Words.{wordsIn}
-use Rattle.listing.specs.Line.{lineOf}
-use Rattle.lister.specs.Listing.{linesOf, lastRow, callRows, Prefix}
+use Rattle.lister.specs.declared.Form.{Form}
+use Rattle.lister.specs.Listing.{Prefix}
+use Rattle.lister.specs.Forms.{stopText}
 use Rattle.lister.specs.Feeding.{Told, ready, holding, fed, ending}
 use Rattle.lister.proofs.Enough.{Whole, whole-now, how-many, whole-words, not-over}
-use Rattle.lister.proofs.Behind.{rowFor, rowsOn, oddOn, rows-taken, rows-refused, odd-taken, odd-refused}
-use Rattle.lister.proofs.Behind.{call-rows, held-rows}
+use Rattle.lister.proofs.Texts.{Text, wholeOf, before, stopsWith, textFor, textFrom}
+use Rattle.lister.proofs.Behind.{textOn, text-taken, text-refused, text-lacking}
 use Rattle.lister.proofs.Feeding.{following, fed-first, fed-stopped, ending-stopped, on, byte-held, byte-taken}
-use Rattle.lister.proofs.Feeding.{lineTold, call-told, stopped, lastTold, last-told, ending-held}
+use Rattle.lister.proofs.Feeding.{takenTold, call-told, stopped, stopTold, refused-told, ending-held}
 
--- With what is written at the end, the text is the lines of all rows; it begins with the lines of the calls.
-pub record Streams (t : Told) (rows odd : List Row) : Type 0 where
-  pub whole : t .text ++ ending (t .after) ≡ linesOf (rows ++ odd)
-  pub begun : Prefix (linesOf (callRows rows)) (t .text)
+-- With what is written at the end, what is told is the whole text; it begins with the text of the calls.
+pub record Streams (f : Form) (t : Told) (x : Text) : Type 0 where
+  pub whole : t .text ++ ending f (t .after) ≡ wholeOf x
+  pub begun : Prefix (x .calls) (t .text)
 
--- The same told of the same rows.
-alike :
-    {t u : Told} {rows rows′ odd odd′ : List Row} → t ≡ u → rows ≡ rows′ → odd ≡ odd′
-    → Streams u rows′ odd′ → Streams t rows odd
-alike {t} {u} {rows} {rows′} {odd} {odd′} e f g v =
-    subst (λ (k : Told). Streams k rows odd) (sym e)
-    (subst (λ (l : List Row). Streams u l odd) (sym f)
-    (subst (λ (l : List Row). Streams u rows′ l) (sym g) v))
+module _ (f : Form) where
+  -- The same told of the same text.
+  alike : {t u : Told} {x y : Text} → t ≡ u → x ≡ y → Streams f u y → Streams f t x
+  alike {t} {u} {x} {y} e g v =
+      subst (λ (k : Told). Streams f k x) (sym e) (subst (λ (k : Text). Streams f u k) (sym g) v)
 
--- No byte is left.
-at-end :
-    (held : List ℕ) (n i : ℕ) (s : State) (x : List ℕ) → Sound s → ready held ≡ false
-    → Streams (fed [] (on held i s x)) (rowsOn (suc n) i held s) (oddOn (suc n) i held s)
-unfolding fed ending rowsFrom readAt readFrom wordsIn
-at-end [] n i s x S e = record { whole = refl; begun = record { more = []; whole = refl } }
-at-end (b ∷ held) n i s x S e =
-    let v = held-rows (b ∷ held) n i s e (omega arith) in
-    record {
-      whole =
-          ending-held b held i s x S
-          ∙ sym (append-nil (lineOf (lastRow i 18 (s .runs))))
-          ∙ sym (ap linesOf (v .last));
-      begun =
-          record {
-            more = [];
-            whole = sym (ap (λ (l : List Row). linesOf l ++ []) (v .no-call));
-          };
-    }
+  -- No byte is left.
+  at-end :
+      (held : List ℕ) (n i : ℕ) (s : State) (x : List ℕ) → Sound s → ready held ≡ false
+      → Streams f (fed f [] (on held i s x)) (textOn f (suc n) i held s)
+  unfolding fed ending textFrom readAt readFrom wordsIn
+  at-end [] n i s x S e = record { whole = refl; begun = record { more = []; whole = refl } }
+  at-end (b ∷ held) n i s x S e =
+      alike refl (text-lacking f (b ∷ held) n i s e (omega arith))
+      (record { whole = ending-held f b held i s x S; begun = record { more = []; whole = refl } })
 
--- A call's line is written before the others,
-one-taken :
-    (i : ℕ) (c : Call) (s : State) (u : Told) (rows odd : List Row) → Streams u rows odd
-    → Streams (following (lineTold i c s) u) (rowFor i c s ∷ rows) odd
-one-taken i c s u rows odd v =
-    let line = lineOf (rowFor i c s) in
-    let more = v .begun .more in
-    record {
-      whole = append-assoc line (u .text) (ending (u .after)) ∙ ap (λ (l : List ℕ). line ++ l) (v .whole);
-      begun =
-          record {
-            more = more;
-            whole =
-                ap (λ (l : List ℕ). line ++ l) (v .begun .whole)
-                ∙ sym (append-assoc line (linesOf (callRows rows)) more)
-                ∙ ap (λ (l : List Row). linesOf l ++ more) (sym (call-rows i c s rows));
-          };
-    }
+  -- A call's text is written before the others,
+  one-taken :
+      (i : ℕ) (c : Call) (s : State) (u : Told) (y : Text) → Streams f u y
+      → Streams f (following (takenTold f i c s) u) (before (textFor f i c s) y)
+  one-taken i c s u y v =
+      let text = textFor f i c s in
+      let more = v .begun .more in
+      record {
+        whole =
+            append-assoc text (u .text) (ending f (u .after))
+            ∙ ap (λ (l : List ℕ). text ++ l) (v .whole)
+            ∙ sym (append-assoc text (y .calls) (y .stop));
+        begun =
+            record {
+              more = more;
+              whole = ap (λ (l : List ℕ). text ++ l) (v .begun .whole) ∙ sym (append-assoc text (y .calls) more);
+            };
+      }
 
--- and nothing behind a last line.
-one-refused :
-    (i code : ℕ) (s : State) (x bytes : List ℕ)
-    → Streams (following (lastTold i code s x) (fed bytes (stopped i s x))) (lastRow i code (s .runs) ∷ []) []
-one-refused i code s x bytes =
-    let line = lineOf (lastRow i code (s .runs)) in
-    let stands = stopped i s x in
-    alike (ap (following (lastTold i code s x)) (fed-stopped bytes stands refl)) refl refl
-    (record {
-      whole =
-          ap (λ (l : List ℕ). line ++ [] ++ l) (ending-stopped stands refl) ∙ append-nil (line ++ []);
-      begun = record { more = line ++ []; whole = refl };
-    })
+  -- and nothing behind what stops the journal.
+  one-refused :
+      (i code : ℕ) (s : State) (x bytes : List ℕ)
+      → Streams f (following (stopTold f i code s x) (fed f bytes (stopped i s x)))
+      (stopsWith (stopText f i code (s .runs)))
+  one-refused i code s x bytes =
+      let text = stopText f i code (s .runs) in
+      let stands = stopped i s x in
+      alike (ap (following (stopTold f i code s x)) (fed-stopped f bytes stands refl)) refl
+      (record {
+        whole =
+            ap (λ (l : List ℕ). text ++ [] ++ l) (ending-stopped f stands refl) ∙ append-nil (text ++ [])
+            ∙ append-nil text;
+        begun = record { more = text ++ []; whole = refl };
+      })
 
--- One byte more: it is held with the others or, as the last byte of a call, gives its line.
-module _ (b : ℕ) (bytes held : List ℕ) (n i : ℕ) (s : State) (x : List ℕ) (S : Sound s) (k : length x ≡ scratchWords)
+-- One byte more: it is held with the others or, as the last byte of a call, gives its text.
+module _ (f : Form) (b : ℕ) (bytes held : List ℕ) (n i : ℕ) (s : State) (x : List ℕ) (S : Sound s)
+    (k : length x ≡ scratchWords)
   where
     -- the bytes held and this one
     abbrev longer : List ℕ
@@ -104,52 +94,45 @@ module _ (b : ℕ) (bytes held : List ℕ) (n i : ℕ) (s : State) (x : List ℕ
 
     -- what is to show
     abbrev Goal : Type 0
-    Goal = Streams (fed (b ∷ bytes) (on held i s x)) (rowsOn (suc n) i (longer ++ bytes) s)
-        (oddOn (suc n) i (longer ++ bytes) s)
+    Goal = Streams f (fed f (b ∷ bytes) (on held i s x)) (textOn f (suc n) i (longer ++ bytes) s)
 
-    still-held :
-        ready longer ≡ false
-        → Streams (fed bytes (on longer i s x)) (rowsOn (suc n) i (longer ++ bytes) s)
-        (oddOn (suc n) i (longer ++ bytes) s)
-        → Goal
+    -- the same with these bytes held, and behind a call
+    abbrev Held : Type 0
+    Held = Streams f (fed f bytes (on longer i s x)) (textOn f (suc n) i (longer ++ bytes) s)
+
+    abbrev Behind : Call → Type 0
+    Behind c =
+        Streams f (fed f bytes (on [] (suc i) (step s c .state) zeros)) (textOn f n (suc i) bytes (step s c .state))
+
+    still-held : ready longer ≡ false → Held → Goal
     still-held e v =
-        alike (fed-first b bytes (on held i s x) (holding longer (on held i s x)) (byte-held b held i s x e)) refl refl
-        v
+        alike f
+        (fed-first f b bytes (on held i s x) (holding longer (on held i s x)) (byte-held f b held i s x e)) refl v
 
     call-read :
         ready longer ≡ true → Whole longer → i + 1 < 2 ^ 64 → (c : Call) (next : ℕ)
-        → readAt (wordsIn longer) 0 ≡ Found c next
-        → Streams (fed bytes (on [] (suc i) (step s c .state) zeros)) (rowsOn n (suc i) bytes (step s c .state))
-        (oddOn n (suc i) bytes (step s c .state))
-        → Goal
-    call-read e v h c next f w =
+        → readAt (wordsIn longer) 0 ≡ Found c next → Behind c → Goal
+    call-read e v h c next g w =
         let s′ = step s c .state in
-        alike
-        (fed-first b bytes (on held i s x) (lineTold i c s)
-        (byte-taken b held i s x e (Found c next) f ∙ call-told c next held i s x S k h))
-        (rows-taken longer bytes v n i s c next f)
-        (odd-taken longer bytes v n i s c next f)
-        (one-taken i c s (fed bytes (on [] (suc i) s′ zeros)) (rowsOn n (suc i) bytes s′) (oddOn n (suc i) bytes s′) w)
+        alike f
+        (fed-first f b bytes (on held i s x) (takenTold f i c s)
+        (byte-taken f b held i s x e (Found c next) g ∙ call-told f c next held i s x S k h))
+        (text-taken f longer bytes v n i s c next g)
+        (one-taken f i c s (fed f bytes (on [] (suc i) s′ zeros)) (textOn f n (suc i) bytes s′) w)
 
     none-read :
         ready longer ≡ true → Whole longer → (code at : ℕ) → readAt (wordsIn longer) 0 ≡ Refused code at → Goal
-    none-read e v code at f =
-        alike
-        (fed-first b bytes (on held i s x) (lastTold i code s x)
-        (byte-taken b held i s x e (Refused code at) f ∙ last-told code at held i s x S))
-        (rows-refused longer bytes v n i s code at f)
-        (odd-refused longer bytes v n i s code at f)
-        (one-refused i code s x bytes)
+    none-read e v code at g =
+        alike f
+        (fed-first f b bytes (on held i s x) (stopTold f i code s x)
+        (byte-taken f b held i s x e (Refused code at) g ∙ refused-told f code at held i s x S))
+        (text-refused f longer bytes v n i s code at g)
+        (one-refused f i code s x bytes)
 
-    -- given that the bytes to come are listed so with these bytes held, and behind a call with none held
     one-byte :
         ready held ≡ false → length (wordsIn (longer ++ bytes)) < suc n → i + length (longer ++ bytes) < 2 ^ 64
-        → (ready longer ≡ false
-        → Streams (fed bytes (on longer i s x)) (rowsOn (suc n) i (longer ++ bytes) s)
-        (oddOn (suc n) i (longer ++ bytes) s))
-        → ((c : Call) → length (wordsIn bytes) < n → suc i + length bytes < 2 ^ 64
-        → Streams (fed bytes (on [] (suc i) (step s c .state) zeros)) (rowsOn n (suc i) bytes (step s c .state))
-        (oddOn n (suc i) bytes (step s c .state)))
+        → (ready longer ≡ false → Held)
+        → ((c : Call) → length (wordsIn bytes) < n → suc i + length bytes < 2 ^ 64 → Behind c)
         → Goal
     one-byte before words few keeps goes = at (ready longer) refl
       where
@@ -168,10 +151,10 @@ module _ (b : ℕ) (bytes held : List ℕ) (n i : ℕ) (s : State) (x : List ℕ
         within v = omega (arith, few, length-append longer bytes, v .fills, v .one)
 
         by : ready longer ≡ true → Whole longer → (r : Read) → readAt (wordsIn longer) 0 ≡ r → Goal
-        by e v (Found c next) f =
-            call-read e v (omega (arith, within v)) c next f (goes c (fewer v) (within v))
-        by e v (Refused code place) f = none-read e v code place f
-        by e v Ended f = not-over longer v f
+        by e v (Found c next) g =
+            call-read e v (omega (arith, within v)) c next g (goes c (fewer v) (within v))
+        by e v (Refused code place) g = none-read e v code place g
+        by e v Ended g = not-over longer v g
 
         at : (t : Bool) → ready longer ≡ t → Goal
         at true e = by e (whole-now held b before e) (readAt (wordsIn longer) 0) refl
@@ -179,21 +162,21 @@ module _ (b : ℕ) (bytes held : List ℕ) (n i : ℕ) (s : State) (x : List ℕ
 
 -- For any bytes held that are not ready, any index, any sound state and as many turns as there are words.
 pub streams :
-    (bytes held : List ℕ) (n i : ℕ) (s : State) (x : List ℕ) → Sound s → length x ≡ scratchWords → ready held ≡ false
-    → length (wordsIn (held ++ bytes)) < n → i + length (held ++ bytes) < 2 ^ 64
-    → Streams (fed bytes (on held i s x)) (rowsOn n i (held ++ bytes) s) (oddOn n i (held ++ bytes) s)
-streams bytes held zero i s x S k e words few = absurd (omega (arith, words))
-streams [] held (suc n) i s x S k e words few =
-    subst (λ (l : List ℕ). Streams (fed [] (on held i s x)) (rowsOn (suc n) i l s) (oddOn (suc n) i l s))
-    (sym (append-nil held)) (at-end held n i s x S e)
-streams (b ∷ bytes) held (suc n) i s x S k e words few =
+    (f : Form) (bytes held : List ℕ) (n i : ℕ) (s : State) (x : List ℕ) → Sound s → length x ≡ scratchWords
+    → ready held ≡ false → length (wordsIn (held ++ bytes)) < n → i + length (held ++ bytes) < 2 ^ 64
+    → Streams f (fed f bytes (on held i s x)) (textOn f n i (held ++ bytes) s)
+streams f bytes held zero i s x S k e words few = absurd (omega (arith, words))
+streams f [] held (suc n) i s x S k e words few =
+    subst (λ (l : List ℕ). Streams f (fed f [] (on held i s x)) (textOn f (suc n) i l s))
+    (sym (append-nil held)) (at-end f held n i s x S e)
+streams f (b ∷ bytes) held (suc n) i s x S k e words few =
     let longer = held ++ (b ∷ []) in
     let same : longer ++ bytes ≡ held ++ (b ∷ bytes) = append-snoc held b bytes in
     let words′ = subst (λ (l : List ℕ). length (wordsIn l) < suc n) (sym same) words in
     let few′ = subst (λ (l : List ℕ). i + length l < 2 ^ 64) (sym same) few in
     subst
-    (λ (l : List ℕ). Streams (fed (b ∷ bytes) (on held i s x)) (rowsOn (suc n) i l s) (oddOn (suc n) i l s)) same
-    (one-byte b bytes held n i s x S k e words′ few′
-    (λ h. streams bytes longer (suc n) i s x S k h words′ few′)
-    (λ c w f.
-    streams bytes [] n (suc i) (step s c .state) zeros (step-sound s c S) zeros-length refl w f))
+    (λ (l : List ℕ). Streams f (fed f (b ∷ bytes) (on held i s x)) (textOn f (suc n) i l s)) same
+    (one-byte f b bytes held n i s x S k e words′ few′
+    (λ h. streams f bytes longer (suc n) i s x S k h words′ few′)
+    (λ c w g.
+    streams f bytes [] n (suc i) (step s c .state) zeros (step-sound s c S) zeros-length refl w g))

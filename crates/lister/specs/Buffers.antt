@@ -11,6 +11,7 @@ use Rattle.input.specs.Words.{wordsIn}
 use Rattle.rows.specs.declared.Turn.{Turn}
 use Rattle.rows.specs.declared.Turn.the-variants.{Took, Stopped, Over}
 use Rattle.rows.specs.Taking.{turned}
+use Rattle.lister.specs.declared.Form.{Form}
 use Rattle.lister.specs.declared.Lister.{Lister}
 use Rattle.lister.specs.declared.Fed.{Fed}
 use Rattle.lister.specs.Feeding.{Progress, Told, toldOf, toldBy}
@@ -34,14 +35,14 @@ abbrev pub emptied : Lister → ℕ → Bool → Lister
 emptied l index going = record { bytes = l .bytes; held = 0; index = index; going = going }
 
 -- The bytes held are taken for a call.
-abbrev pub takesCall : Progress → Told
-takesCall s = toldBy (turned (readAt (wordsIn (s .held)) 0) (s .lent)) s
+abbrev pub takesCall : Form → Progress → Told
+takesCall f s = toldBy f (turned (readAt (wordsIn (s .held)) 0) (s .lent)) s
 
 -- What a turn that took no call comes to: one that did is not met.
-abbrev pub stopping : Turn → Progress → Told
-stopping (Took c a who next) s = toldOf Over (s .lent) s
-stopping (Stopped code who) s = toldOf (Stopped code who) (s .lent) s
-stopping Over s = toldOf Over (s .lent) s
+abbrev pub stopping : Form → Turn → Progress → Told
+stopping f (Took c a who next) s = toldOf f Over (s .lent) s
+stopping f (Stopped code who) s = toldOf f (Stopped code who) (s .lent) s
+stopping f Over s = toldOf f Over (s .lent) s
 
 -- The lister afterwards stands where it is told, and the text stands in the buffer behind the bytes used, whose other
 -- bytes are as they were.

@@ -1,31 +1,31 @@
 -- The lister: it is fed the bytes of a journal one by one, and a part of them is their fold. How its text comes to be
--- `listingOf` of all bytes is known by the theorems of proofs/Division; these definitions are for reading contracts.
+-- `listingOf` or `tellingOf` of all bytes is known by the theorems of proofs/Division; these definitions are for
+-- reading contracts.
 use Prim.Native.Nat.{ℕ, _+_, _*_, _%_, _^_}
 use mathlib.Core.Bool.{Bool, true, false, _&&_}
 use mathlib.Core.List.{List, [], _∷_, _++_}
 use lib.Dec.{leb}
 use lib.ListN.{length}
-use Rattle.machine.specs.Calls.{numberOf}
 use Rattle.machine.specs.Lists.{pick}
 use Rattle.machine.specs.Results.{threadOf}
 use Rattle.journal.specs.Words.{topByte, wordsTaken, readAt}
-use Rattle.listing.specs.Line.{lineOf}
 use Rattle.lent_tables.specs.Entries.{Lent, lent, freshened, runnerIn}
 use Rattle.input.specs.Words.{littleEndian, wordsIn}
 use Rattle.rows.specs.declared.Turn.{Turn}
 use Rattle.rows.specs.declared.Turn.the-variants.{Took, Stopped, Over}
 use Rattle.rows.specs.Taking.{Turned, turned}
-use Rattle.lister.specs.Listing.{lastRow}
+use Rattle.lister.specs.declared.Form.{Form}
+use Rattle.lister.specs.Forms.{callText, stopText}
 
--- Between two bytes: those of a call that is not yet whole, the next line's index, whether the listing goes on, and
--- the lent memory.
+-- Between two bytes: those of a call that is not yet whole, the next call's index, whether the journal goes on, and the
+-- lent memory.
 pub record Progress : Type 0 where
   pub held : List ℕ
   pub index : ℕ
   pub going : Bool
   pub lent : Lent
 
--- Where it stands afterwards, and the bytes of the listing that are written.
+-- Where it stands afterwards, and the bytes that are written.
 pub record Told : Type 0 where
   pub after : Progress
   pub text : List ℕ
@@ -42,57 +42,57 @@ holding bytes s =
       text = [];
     }
 
--- The line of a call taken, or the last line, which stops the listing. Bytes that are ready are never over.
-abbrev pub toldOf : Turn → Lent → Progress → Told
-toldOf (Took c a who next) m s =
+-- The text of a call taken, or of what stops the journal. Bytes that are ready are never over.
+abbrev pub toldOf : Form → Turn → Lent → Progress → Told
+toldOf f (Took c a who next) m s =
     record {
       after = record { held = []; index = (s .index + 1) % 2 ^ 64; going = s .going; lent = m };
-      text = lineOf (record { index = s .index; call = numberOf c; answer = a; running = threadOf who });
+      text = callText f (s .index) c a (threadOf who);
     }
-toldOf (Stopped code who) m s =
+toldOf f (Stopped code who) m s =
     record {
       after = record { held = []; index = s .index; going = false; lent = m };
-      text = lineOf (lastRow (s .index) code (threadOf who));
+      text = stopText f (s .index) code (threadOf who);
     }
-toldOf Over m s = record {
+toldOf f Over m s = record {
   after = record { held = []; index = s .index; going = s .going; lent = m };
   text = [];
 }
 
-abbrev pub toldBy : Turned → Progress → Told
-toldBy r s = toldOf (r .turn) (r .left) s
+abbrev pub toldBy : Form → Turned → Progress → Told
+toldBy f r s = toldOf f (r .turn) (r .left) s
 
 -- The bytes of a call are taken with its last one.
-abbrev pub offered : List ℕ → Progress → Told
-offered bytes s =
-    pick (ready bytes) (toldBy (turned (readAt (wordsIn bytes) 0) (s .lent)) s) (holding bytes s)
+abbrev pub offered : Form → List ℕ → Progress → Told
+offered f bytes s =
+    pick (ready bytes) (toldBy f (turned (readAt (wordsIn bytes) 0) (s .lent)) s) (holding bytes s)
 
--- One byte more; none is taken once the listing has stopped.
-unfoldable pub byteTo : ℕ → Progress → Told
-byteTo b s = pick (s .going) (offered (s .held ++ (b ∷ [])) s) (holding (s .held) s)
+-- One byte more; none is taken once the journal has stopped.
+unfoldable pub byteTo : Form → ℕ → Progress → Told
+byteTo f b s = pick (s .going) (offered f (s .held ++ (b ∷ [])) s) (holding (s .held) s)
 
 -- A part of the bytes.
-unfoldable pub fed : List ℕ → Progress → Told
-fed [] s = holding (s .held) s
-fed (b ∷ part) s = record {
-  after = fed part (byteTo b s .after) .after;
-  text = byteTo b s .text ++ fed part (byteTo b s .after) .text;
+unfoldable pub fed : Form → List ℕ → Progress → Told
+fed f [] s = holding (s .held) s
+fed f (b ∷ part) s = record {
+  after = fed f part (byteTo f b s .after) .after;
+  text = byteTo f b s .text ++ fed f part (byteTo f b s .after) .text;
 }
 
 -- The bytes have ended: those still held are odd bytes, or a call that lacks words, which both are 18.
-abbrev pub endingWith : List ℕ → Progress → List ℕ
-endingWith [] s = []
-endingWith (b ∷ held) s = lineOf (lastRow (s .index) 18 (threadOf (runnerIn (s .lent .tables))))
+abbrev pub endingWith : Form → List ℕ → Progress → List ℕ
+endingWith f [] s = []
+endingWith f (b ∷ held) s = stopText f (s .index) 18 (threadOf (runnerIn (s .lent .tables)))
 
-unfoldable pub ending : Progress → List ℕ
-ending s = pick (s .going) (endingWith (s .held) s) []
+unfoldable pub ending : Form → Progress → List ℕ
+ending f s = pick (s .going) (endingWith f (s .held) s) []
 
 -- Parts in turn.
-unfoldable pub fedParts : List (List ℕ) → Progress → Told
-fedParts [] s = holding (s .held) s
-fedParts (part ∷ parts) s = record {
-  after = fedParts parts (fed part s .after) .after;
-  text = fed part s .text ++ fedParts parts (fed part s .after) .text;
+unfoldable pub fedParts : Form → List (List ℕ) → Progress → Told
+fedParts f [] s = holding (s .held) s
+fedParts f (part ∷ parts) s = record {
+  after = fedParts f parts (fed f part s .after) .after;
+  text = fed f part s .text ++ fedParts f parts (fed f part s .after) .text;
 }
 
 -- The bytes of the parts, one behind the other.

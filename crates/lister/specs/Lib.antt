@@ -1,5 +1,7 @@
--- The specification, in the order to read it: which bytes the listing of a journal is; the lister, byte by byte; what
--- its functions do in lent memory.
+-- The specification, in the order to read it: which bytes the listing of a journal is, and which its telling; the text
+-- of a call in each form; the lister, byte by byte; what its functions do in lent memory.
 pub mod Listing
+pub mod Telling
+pub mod Forms
 pub mod Feeding
 pub mod Buffers

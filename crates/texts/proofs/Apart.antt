@@ -1,13 +1,17 @@
 -- Numbers can be read back: two numbers, each followed by a byte that is no digit, are never the same bytes.
 use Prim.Native.Nat.{ℕ, zero, suc, _+_, _-_, _*_, _/_, _%_, _<_}
 use mathlib.Core.Path.{_≡_, refl, sym, _∙_, ap, subst}
-use mathlib.Core.Bool.{Bool, true, false, _&&_, false≢true}
+use mathlib.Core.Bool.{Bool, true, false, cond, _&&_, not, false≢true, and-eq-true-iff}
+use mathlib.Core.Option.{Option, none, some}
 use mathlib.Core.List.{List, [], _∷_, _++_, append-assoc}
 use native.Mathlib.Omega.{arith}
-use lib.Dec.{leb}
-use borrow.Author.Tests.{le-leb}
+use native.Mathlib.Nat.{zero-add}
+use lib.Dec.{leb, eqb}
+use lib.ListN.{length, drop}
+use lib.Seq.{drop-append-seam}
+use borrow.Author.Tests.{le-leb, eq-eqb}
 use Rattle.texts.specs.Decimal.{digit, decimal, spaced}
-use Rattle.texts.proofs.Digits.{Digits, one, more, digits?, decimal-one, decimal-more}
+use Rattle.texts.proofs.Digits.{Digits, one, more, digits?, decimal-one, decimal-more, length-some}
 
 -- Reading digits
 
@@ -52,20 +56,16 @@ abbrev pub Stops : (ℕ → Bool) → List ℕ → Type 0
 Stops f [] = Unit {0}
 Stops f (d ∷ l) = f d ≡ false
 
-both-of : (a b : Bool) → (a && b) ≡ true → (a ≡ true) × (b ≡ true)
-both-of true b e = (refl, e)
-both-of false b e = absurd (false≢true e)
-
 all-append : (f : ℕ → Bool) (l r : List ℕ) → all f l ≡ true → all f r ≡ true → all f (l ++ r) ≡ true
 all-append f [] r p q = q
 all-append f (d ∷ l) r p q =
-    let h = both-of (f d) (all f l) p in
+    let h = and-eq-true-iff (f d) (all f l) .0 p in
     rw (h .0) (all-append f l r (h .1) q)
 
 -- The kind cannot both go on and stop.
 goes-on : (f : ℕ → Bool) (d : ℕ) (s t t′ : List ℕ) → all f (d ∷ s) ≡ true → Stops f t → t ≡ d ∷ (s ++ t′) → ⊥
 goes-on f d s t t′ p q e =
-    false≢true (sym (subst (Stops f) e q) ∙ both-of (f d) (all f s) p .0)
+    false≢true (sym (subst (Stops f) e q) ∙ and-eq-true-iff (f d) (all f s) .0 p .0)
 
 pub cut-by :
     (f : ℕ → Bool) (s s′ t t′ : List ℕ) → all f s ≡ true → all f s′ ≡ true → Stops f t → Stops f t′
@@ -74,7 +74,9 @@ cut-by f [] [] t t′ p p′ q q′ e = (refl, e)
 cut-by f [] (d ∷ s′) t t′ p p′ q q′ e = absurd (goes-on f d s′ t t′ p′ q e)
 cut-by f (d ∷ s) [] t t′ p p′ q q′ e = absurd (goes-on f d s t′ t p q′ (sym e))
 cut-by f (d ∷ s) (d′ ∷ s′) t t′ p p′ q q′ e =
-    let h = cut-by f s s′ t t′ (both-of (f d) (all f s) p .1) (both-of (f d′) (all f s′) p′ .1) q q′ (cc) in
+    let r = and-eq-true-iff (f d) (all f s) .0 p .1 in
+    let r′ = and-eq-true-iff (f d′) (all f s′) .0 p′ .1 in
+    let h = cut-by f s s′ t t′ r r′ q q′ (cc) in
     ((cc (h .0)), h .1)
 
 -- Numbers
@@ -113,3 +115,85 @@ unfolding spaced
 spaced-apart n n′ t t′ e =
     let h = numbers-apart n n′ (32 ∷ t) (32 ∷ t′) refl refl (simp append-assoc at e) in
     (h .0, cc (h .1))
+
+-- Reading back what was written
+
+-- The same front can be taken off.
+pub same-front : (s t t′ : List ℕ) → s ++ t ≡ s ++ t′ → t ≡ t′
+same-front s t t′ e =
+    sym (drop-append-seam s t) ∙ ap (λ (l : List ℕ). drop (length s) l) e ∙ drop-append-seam s t′
+
+-- What can be read off the front of two texts is the same if the texts are, and so is what follows it.
+pub read-apart :
+    {A : Type 0} (write : A → List ℕ) (read : List ℕ → A) {a a′ : A} {t t′ : List ℕ}
+    → read (write a ++ t) ≡ a → read (write a′ ++ t′) ≡ a′ → write a ++ t ≡ write a′ ++ t′ → (a ≡ a′) × (t ≡ t′)
+read-apart write read {a} {a′} {t} {t′} p p′ e =
+    let h = sym p ∙ ap read e ∙ p′ in
+    (h, same-front (write a) t t′ (e ∙ ap (λ b. write b ++ t′) (sym h)))
+
+-- The text l begins with x.
+abbrev pub begins : List ℕ → List ℕ → Bool
+begins [] l = true
+begins (d ∷ x) [] = false
+begins (d ∷ x) (d′ ∷ l) = eqb d d′ && begins x l
+
+pub begins-same : (x t : List ℕ) → begins x (x ++ t) ≡ true
+begins-same [] t = refl
+begins-same (d ∷ x) t = rw (eq-eqb d d refl) (begins-same x t)
+
+-- The numbers that a text says, in turn, the first of them begun by the digits before the text, if there were any.
+abbrev numbersFrom : Option ℕ → List ℕ → List ℕ
+numbersFrom none [] = []
+numbersFrom (some n) [] = n ∷ []
+numbersFrom none (d ∷ l) = cond (isDigit d) (numbersFrom (some (d - 48)) l) (numbersFrom none l)
+numbersFrom (some n) (d ∷ l) = cond (isDigit d) (numbersFrom (some (n * 10 + (d - 48))) l) (n ∷ numbersFrom none l)
+
+unfoldable pub numbersIn : List ℕ → List ℕ
+numbersIn l = numbersFrom none l
+
+-- A byte that is no digit says nothing,
+pub numbers-step : (d : ℕ) (t : List ℕ) → isDigit d ≡ false → numbersIn (d ∷ t) ≡ numbersIn t
+unfolding numbersIn
+numbers-step d t e = rw e
+
+abbrev pub isPlain : ℕ → Bool
+isPlain d = not (isDigit d)
+
+pub plain-is : (d : ℕ) → isPlain d ≡ true → isDigit d ≡ false
+plain-is d e = go (isDigit d) e
+  where
+    go : (b : Bool) → not b ≡ true → b ≡ false
+    go true e = sym e
+    go false e = refl
+
+-- nor does a text without digits.
+pub numbers-plain : (x t : List ℕ) → all isPlain x ≡ true → numbersIn (x ++ t) ≡ numbersIn t
+numbers-plain [] t p = refl
+numbers-plain (d ∷ x) t p =
+    let h = and-eq-true-iff (isPlain d) (all isPlain x) .0 p in
+    numbers-step d (x ++ t) (plain-is d (h .0)) ∙ numbers-plain x t (h .1)
+
+-- A number goes on to the end of its digits,
+numbers-some :
+    (n : ℕ) (s t : List ℕ) → all isDigit s ≡ true → Stops isDigit t
+    → numbersFrom (some n) (s ++ t) ≡ value n s ∷ numbersIn t
+unfolding value numbersIn
+numbers-some n [] [] p q = refl
+numbers-some n [] (d ∷ t) p q = rw q
+numbers-some n (d ∷ s) t p q =
+    let h = and-eq-true-iff (isDigit d) (all isDigit s) .0 p in
+    rw (h .0) (numbers-some (n * 10 + (d - 48)) s t (h .1) q)
+
+-- so a number in decimal that no digit follows is said.
+pub numbers-decimal : (n : ℕ) (t : List ℕ) → Stops isDigit t → numbersIn (decimal n ++ t) ≡ n ∷ numbersIn t
+unfolding value numbersIn
+numbers-decimal n t q = go (decimal n) (length-some n) (decimal-digits n) (value-decimal n)
+  where
+    go : (s : List ℕ) → 0 < length s → all isDigit s ≡ true → value 0 s ≡ n → numbersIn (s ++ t) ≡ n ∷ numbersIn t
+    go [] h p v = absurd (omega arith)
+    go (d ∷ s) h p v =
+        let g = and-eq-true-iff (isDigit d) (all isDigit s) .0 p in
+        rw (g .0, ← v, value, zero-add) (numbers-some (d - 48) s t (g .1) q)
+
+-- Reading the numbers of a text that is written out.
+pub ruleset reading = (append-assoc, numbers-step, numbers-decimal)

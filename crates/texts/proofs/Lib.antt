@@ -3,4 +3,5 @@
 pub mod Digits
 pub mod Texts
 pub mod Writing
+pub mod Filing
 pub mod Apart

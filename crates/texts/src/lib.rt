@@ -41,3 +41,15 @@ pub fn say(out: &mut [u8], at: usize, text: &[u8]) -> usize
 {
     at + bytes::copy(text, &mut out[at..])
 }
+
+// What an entry that writes a line, file or journal answers: 0 and the length written, or a refusal's number and 0.
+pub struct Output {
+    pub code: u32,
+    pub used: usize,
+}
+
+pub fn refused(code: u32) -> Output
+    ensures { λ r. ⌜ r ≡ record { code = code; used = 0 } ⌝ }
+{
+    Output { code, used: 0 }
+}

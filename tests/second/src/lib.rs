@@ -1,6 +1,6 @@
 //! A second kernel core for comparison: 256 threads, 64 endpoints,
-//! 256 priorities, 32 interrupt lines, twelve calls, the journal and
-//! its listing.
+//! 256 priorities, 32 interrupt lines, twelve calls, the journal, its
+//! listing and its telling in sentences.
 
 mod abort;
 mod call;
@@ -15,6 +15,8 @@ mod stories;
 mod sweep;
 mod tables;
 mod tally;
+mod telling;
+mod turns;
 mod words;
 
 pub use call::{Answer, Call, Numbers};
@@ -27,4 +29,5 @@ pub use steer::{Profile, Rng, Steer};
 pub use sweep::{read_tables, report_lengths, report_tables, sum, sweep, Counts, CHANGES, TABLES};
 pub use tables::{Abort, Bond, Endpoint, Line, Phase, Place, Thread};
 pub use tally::{Step, Tally};
+pub use telling::{sentence, telling};
 pub use words::{memory, shown, sound_words, word_name, write_memory, TABLE};

@@ -13,15 +13,16 @@ use Rattle.lister.proofs.feed.Statement.{statement}
 use Rattle.lister.proofs.feed.Tie as tie
 
 abbrev Inv-loop : tie.InvT-loop
-Inv-loop part tables₀ scratch₀ out₀ at₀ i₀ tables scratch out at i =
+Inv-loop form part tables₀ scratch₀ out₀ at₀ i₀ tables scratch out at i =
     (length tables ≡ length tables₀) × (length scratch ≡ length scratch₀) × (length out ≡ length out₀)
     × (at .lister .held < 12) × (length (at .lister .bytes) ≡ 12)
-    × (at .used + at .lister .held * 24 ≤ (at₀ .lister .held + i) * 24)
+    × (at .used + at .lister .held * 40 ≤ (at₀ .lister .held + i) * 40)
     × (i ≤ length part)
-    × Feeds (fed (take i part) (progressOf (at₀ .lister) (lent tables₀ scratch₀))) out₀ 0 at (lent tables scratch) out
+    × Feeds (fed form (take i part) (progressOf (at₀ .lister) (lent tables₀ scratch₀))) out₀ 0 at (lent tables scratch)
+    out
 
 abbrev μ-loop : tie.MeasureT-loop
-μ-loop part tables₀ scratch₀ out₀ at₀ i₀ tables scratch out at i = length part - i
+μ-loop form part tables₀ scratch₀ out₀ at₀ i₀ tables scratch out at i = length part - i
 
 loop-holds : tie.Need-loop-holds Inv-loop μ-loop
 loop-holds c =
@@ -34,7 +35,7 @@ loop-holds c =
       at-start .pre .1,
       search needs,
       search needs,
-      none-fed (args .l) (lent (args .tables .now) (args .scratch .now)) (args .out .now),
+      none-fed (args .form) (args .l) (lent (args .tables .now) (args .scratch .now)) (args .out .now),
     )
 
 shared-slice-read-byte : tie.Need-shared-slice-read-byte Inv-loop μ-loop
@@ -65,7 +66,8 @@ loop-again c =
       at-byte .byte .ensures .0 .1,
       search needs,
       search needs,
-      one-fed (args .l) (lent (args .tables .now) (args .scratch .now)) (args .out .now) (args .part .now) (loop .i)
+      one-fed (args .form) (args .l) (lent (args .tables .now) (args .scratch .now)) (args .out .now) (args .part .now)
+          (loop .i)
           more (loop .at) _ _ (loop .inv .7) (omega (arith, at-start .pre .2, loop .inv .5, more)) _ _ _
           (at-byte .byte .ensures .1 .1),
     )
@@ -91,8 +93,8 @@ returns c =
       (loop .inv .3, loop .inv .4),
       (
         counts fits,
-        all-fed (args .l) (lent (args .tables .now) (args .scratch .now)) (args .out .now) (args .part .now) (loop .i)
-            (c .loop-test .left) (loop .at) _ _ (loop .inv .7),
+        all-fed (args .form) (args .l) (lent (args .tables .now) (args .scratch .now)) (args .out .now)
+            (args .part .now) (loop .i) (c .loop-test .left) (loop .at) _ _ (loop .inv .7),
       ),
     )
 

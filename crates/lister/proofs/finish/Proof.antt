@@ -13,7 +13,8 @@ returns c =
     let at-start = c .before .before .before .before in
     let args = at-start .args in (
       counts (search needs),
-      stopped-ends (args .l) (lent (args .tables .now) []) (args .out .now) (not-so (args .l .going) (c .if1 .taken)),
+      stopped-ends (args .form) (args .l) (lent (args .tables .now) []) (args .out .now)
+          (not-so (args .l .going) (c .if1 .taken)),
     )
 
 returns-2 : tie.Need-returns-2
@@ -22,38 +23,35 @@ returns-2 c =
     let at-start = at-if1 .before .before .before .before in
     let args = at-start .args in (
       counts (search needs),
-      nothing-ends (args .l) (lent (args .tables .now) []) (args .out .now) (so (args .l .going) (at-if1 .if1 .left))
+      nothing-ends (args .form) (args .l) (lent (args .tables .now) []) (args .out .now)
+          (so (args .l .going) (at-if1 .if1 .left))
           (c .if2 .taken),
     )
-
-plain-requires : tie.Need-plain-requires
-plain-requires c κs = search needs
 
 running-requires : tie.Need-running-requires
 running-requires c κs = search needs
 
-add-requires : tie.Need-add-requires
-add-requires c κs = search needs
+stop-requires : tie.Need-stop-requires
+stop-requires c κs = search needs
 
 same-length : tie.Need-same-length
 same-length c = search needs
 
 returns-3 : tie.Need-returns-3
 returns-3 c =
-    let at-add = c .before .before in
-    let at-running = at-add .before in
-    let at-plain = at-running .before in
-    let at-if2 = at-plain .before .before in
+    let at-stop = c .before .before in
+    let at-running = at-stop .before in
+    let at-if2 = at-running .before .before in
     let at-if1 = at-if2 .before .before in
     let at-start = at-if1 .before .before .before .before in
     let args = at-start .args in (
       counts (search needs),
-      held-ends (args .l) (lent (args .tables .now) []) (args .out .now) (so (args .l .going) (at-if1 .if1 .left))
-          (at-if2 .if2 .left) (at-start .pre .1) _ (at-plain .plain .ensures) _ (at-running .running .ensures) _ _
-          (at-add .add .ensures .1),
+      held-ends (args .form) (args .l) (lent (args .tables .now) []) (args .out .now)
+          (so (args .l .going) (at-if1 .if1 .left)) (at-if2 .if2 .left) (at-start .pre .1) _
+          (at-running .running .ensures) _ _ (at-stop .stop .ensures .1),
     )
 
 pub finish-spec : {M : Type 1} → statement M
 finish-spec =
     tie.close
-    (tie.spec returns returns-2 plain-requires running-requires add-requires same-length returns-3)
+    (tie.spec returns returns-2 running-requires stop-requires same-length returns-3)

@@ -19,33 +19,29 @@ returns c =
     let args = at-start .args in
     let now-empty = c .empty .ensures in (
       (ap (λ (k : Lister). k .held) now-empty, ap (λ (k : Lister). k .bytes) now-empty, search needs),
-      over-told (args .l) (args .out .now) (args .used) (args .turn) (at-match .match .keys2) _ now-empty,
+      over-told (args .form) (args .l) (args .out .now) (args .used) (args .turn) (at-match .match .keys2) _ now-empty,
     )
 
 empty-requires-2 : tie.Need-empty-requires-2
 empty-requires-2 c κs = search needs
 
-plain-requires : tie.Need-plain-requires
-plain-requires c κs = search needs
-
-add-requires : tie.Need-add-requires
-add-requires c κs = search needs
+stop-requires : tie.Need-stop-requires
+stop-requires c κs = search needs
 
 same-length : tie.Need-same-length
 same-length c = search needs
 
 returns-2 : tie.Need-returns-2
 returns-2 c =
-    let at-add = c .before .before in
-    let at-plain = at-add .before in
-    let at-empty2 = at-plain .before .before in
+    let at-stop = c .before .before in
+    let at-empty2 = at-stop .before .before in
     let at-turn = at-empty2 .before .before in
     let at-start = at-turn .before .before .before in
     let args = at-start .args in
     let now-empty = at-empty2 .empty2 .ensures in (
-      (ap (λ (k : Lister). k .held) now-empty, ap (λ (k : Lister). k .bytes) now-empty, at-add .add .ensures .0),
-      stop-told (args .l) (args .out .now) (args .used) (args .turn) _ _ (at-turn .turn .given .1) _ now-empty _
-          (at-plain .plain .ensures) _ _ (at-add .add .ensures .1),
+      (ap (λ (k : Lister). k .held) now-empty, ap (λ (k : Lister). k .bytes) now-empty, at-stop .stop .ensures .0),
+      stop-told (args .form) (args .l) (args .out .now) (args .used) (args .turn) _ _ (at-turn .turn .given .1) _
+          now-empty _ _ (at-stop .stop .ensures .1),
     )
 
 pub stop-spec : {M : Type 1} → statement M
@@ -56,7 +52,6 @@ stop-spec =
     empty-requires
     returns
     empty-requires-2
-    plain-requires
-    add-requires
+    stop-requires
     same-length
     returns-2)

@@ -1,7 +1,8 @@
-//! journals FOLDER: writes the test journals, NAME.words, and the listing of
-//! each, NAME.txt. What each is for stands in the folder's README.
+//! journals FOLDER: writes the test journals, NAME.words, and of each the
+//! listing, NAME.txt, and the telling, NAME.told. What each is for stands in
+//! the folder's README.
 
-use second::{listing, write, Machine, Steer};
+use second::{listing, telling, write, Machine, Steer};
 use std::{env, fs, io, path::Path};
 
 /// A call's words; its numbers may be out of range.
@@ -444,6 +445,7 @@ fn main() -> io::Result<()> {
         let path = Path::new(&folder).join(name);
         fs::write(path.with_extension("words"), &bytes)?;
         fs::write(path.with_extension("txt"), listing(&bytes))?;
+        fs::write(path.with_extension("told"), telling(&bytes))?;
     }
     Ok(())
 }

@@ -1,0 +1,62 @@
+-- By the form.
+use native.Mathlib.Omega.{arith}
+use borrow.Author.Needs.{needs}
+use Rattle.lister.proofs.Writing.{call-line, call-sentence}
+use Rattle.lister.proofs.add.call.Statement.{statement}
+use Rattle.lister.proofs.add.call.Tie as tie
+
+enum-told : tie.Need-enum-told
+enum-told c = search needs
+
+number-requires : tie.Need-number-requires
+number-requires c κs = search needs
+
+line-requires : tie.Need-line-requires
+line-requires c κs = search needs
+
+enum-told-2 : tie.Need-enum-told-2
+enum-told-2 c = search needs
+
+sentence-requires : tie.Need-sentence-requires
+sentence-requires c κs = search needs
+
+same-length : tie.Need-same-length
+same-length c = search needs
+
+returns : tie.Need-returns
+returns c =
+    let at-line = c .before .before in
+    let at-number = at-line .before .before in
+    let at-match = at-number .before .before in
+    let args = at-match .before .before .args in (
+      omega (arith, at-line .line .ensures .0),
+      call-line (args .form) (args .index) _ (args .call) (args .answer) _ (at-match .match .keys1)
+          (at-number .number .ensures) (at-line .line .ensures .1),
+    )
+
+same-length-2 : tie.Need-same-length-2
+same-length-2 c = search needs
+
+returns-2 : tie.Need-returns-2
+returns-2 c =
+    let at-sentence = c .before .before in
+    let at-match = at-sentence .before .before .before in
+    let args = at-match .before .before .args in (
+      at-sentence .sentence .ensures .0,
+      call-sentence (args .form) (args .index) _ (args .call) (args .answer) (at-match .match .keys2)
+          (at-sentence .sentence .ensures .1),
+    )
+
+pub call-spec : {M : Type 1} → statement M
+call-spec =
+    tie.close
+    (tie.spec
+    enum-told
+    number-requires
+    line-requires
+    enum-told-2
+    sentence-requires
+    same-length
+    returns
+    same-length-2
+    returns-2)

@@ -1,0 +1,62 @@
+-- By the form.
+use native.Mathlib.Omega.{arith}
+use borrow.Author.Needs.{needs}
+use Rattle.lister.proofs.Writing.{stop-numbers, stop-sentence}
+use Rattle.lister.proofs.add.stop.Statement.{statement}
+use Rattle.lister.proofs.add.stop.Tie as tie
+
+enum-told : tie.Need-enum-told
+enum-told c = search needs
+
+plain-requires : tie.Need-plain-requires
+plain-requires c κs = search needs
+
+line-requires : tie.Need-line-requires
+line-requires c κs = search needs
+
+enum-told-2 : tie.Need-enum-told-2
+enum-told-2 c = search needs
+
+stop-line-requires : tie.Need-stop-line-requires
+stop-line-requires c κs = search needs
+
+same-length : tie.Need-same-length
+same-length c = search needs
+
+returns : tie.Need-returns
+returns c =
+    let at-line = c .before .before in
+    let at-plain = at-line .before in
+    let at-match = at-plain .before .before .before in
+    let args = at-match .before .before .args in (
+      omega (arith, at-line .line .ensures .0),
+      stop-numbers (args .form) (args .index) _ (args .code) _ (at-match .match .keys1) (at-plain .plain .ensures)
+          (at-line .line .ensures .1),
+    )
+
+same-length-2 : tie.Need-same-length-2
+same-length-2 c = search needs
+
+returns-2 : tie.Need-returns-2
+returns-2 c =
+    let at-stop-line = c .before .before in
+    let at-match = at-stop-line .before .before .before in
+    let args = at-match .before .before .args in (
+      at-stop-line .stop-line .ensures .0,
+      stop-sentence (args .form) (args .index) _ (args .code) (at-match .match .keys2)
+          (at-stop-line .stop-line .ensures .1),
+    )
+
+pub stop-spec : {M : Type 1} → statement M
+stop-spec =
+    tie.close
+    (tie.spec
+    enum-told
+    plain-requires
+    line-requires
+    enum-told-2
+    stop-line-requires
+    same-length
+    returns
+    same-length-2
+    returns-2)

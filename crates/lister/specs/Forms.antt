@@ -1,0 +1,22 @@
+-- The text of a call taken, and of what stops a journal, in each form.
+use Prim.Native.Nat.{ℕ}
+use mathlib.Core.Option.{Option}
+use mathlib.Core.List.{List}
+use Rattle.machine.specs.declared.Answer.{Answer}
+use Rattle.machine.specs.declared.Call.{Call}
+use Rattle.machine.specs.Calls.{numberOf}
+use Rattle.listing.specs.Line.{lineOf}
+use Rattle.sentences.specs.Sentence.{sentence, stopLine}
+use Rattle.lister.specs.declared.Form.{Form}
+use Rattle.lister.specs.declared.Form.the-variants.{Lines, Sentences}
+use Rattle.lister.specs.Listing.{lastRow}
+
+-- Of a call with this index and answer, after which this thread runs. A sentence tells neither index nor thread.
+abbrev pub callText : Form → ℕ → Call → Answer → Option ℕ → List ℕ
+callText Lines i c a running = lineOf (record { index = i; call = numberOf c; answer = a; running = running })
+callText Sentences i c a running = sentence c a
+
+-- Of the reader's number, at this index, where this thread runs.
+abbrev pub stopText : Form → ℕ → ℕ → Option ℕ → List ℕ
+stopText Lines i code running = lineOf (lastRow i code running)
+stopText Sentences i code running = stopLine code

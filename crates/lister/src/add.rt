@@ -1,0 +1,109 @@
+// Texts behind the bytes used of a buffer, in each form; each function answers how many bytes are used then.
+ghost use Prim.Native.Nat.{_+_, _≤_};
+ghost use mathlib.Core.Path.{_≡_};
+ghost use mathlib.Core.Bool.{true};
+ghost use lib.ListN.{length};
+ghost use Rattle.machine.specs.Calls.{inRange};
+ghost use Rattle.machine.specs.Results.{threadOf};
+ghost use Rattle.texts.specs.Buffer.{Wrote};
+ghost use Rattle.listing.specs.Line.{lineOf};
+ghost use Rattle.listing.specs.Buffer.{lineRoom};
+ghost use Rattle.sentences.specs.Sentence.{sentence, stopLine};
+ghost use Rattle.sentences.specs.Entry.{sentenceRoom};
+ghost use Rattle.lister.specs.Forms.{callText, stopText};
+use crate::Form;
+use listing::Listed;
+use machine::Answer;
+use machine::Call;
+use machine::Runner;
+
+// A line of numbers.
+fn line(
+    out: &mut [u8],
+    used: usize,
+    index: u64,
+    call: u32,
+    answer: Answer,
+    running: Runner,
+) -> usize
+    requires { ⌜ used + lineRoom ≤ length (now out) ⌝ }
+    ensures { λ r. ⌜ r ≤ used + lineRoom ⌝ }
+    ensures { λ r. ⌜ Wrote (now (out .entry)) used
+        (lineOf (record { index = index; call = call; answer = answer; running = threadOf running }))
+        r (now (out .exit)) ⌝ }
+{
+    let end = used + listing::ROOM;
+    let listed = Listed {
+        index,
+        call,
+        answer,
+        running,
+    };
+    used + listing::line(&mut out[used..end], listed)
+}
+
+// A sentence: the call is in range, since it was read.
+fn sentence(out: &mut [u8], used: usize, call: Call, answer: Answer) -> usize
+    requires { ⌜ (used + sentenceRoom ≤ length (now out)) × (inRange call ≡ true) ⌝ }
+    ensures { λ r. ⌜ r ≤ used + sentenceRoom ⌝ }
+    ensures { λ r. ⌜ Wrote (now (out .entry)) used (sentence call answer) r (now (out .exit)) ⌝ }
+{
+    let end = used + sentences::ROOM;
+    let told = sentences::sentence(&mut out[used..end], call, answer);
+    used + told.used
+}
+
+// The sentence of the reader's number.
+fn stop_line(out: &mut [u8], used: usize, code: u32) -> usize
+    requires { ⌜ used + sentenceRoom ≤ length (now out) ⌝ }
+    ensures { λ r. ⌜ r ≤ used + sentenceRoom ⌝ }
+    ensures { λ r. ⌜ Wrote (now (out .entry)) used (stopLine code) r (now (out .exit)) ⌝ }
+{
+    let end = used + sentences::ROOM;
+    let told = sentences::stop(&mut out[used..end], code);
+    used + told.used
+}
+
+// The text of a call.
+pub fn call(
+    form: Form,
+    out: &mut [u8],
+    used: usize,
+    index: u64,
+    call: Call,
+    answer: Answer,
+    running: Runner,
+) -> usize
+    requires { ⌜ (used + sentenceRoom ≤ length (now out)) × (inRange call ≡ true) ⌝ }
+    ensures { λ r. ⌜ r ≤ used + sentenceRoom ⌝ }
+    ensures { λ r. ⌜ Wrote (now (out .entry)) used (callText form index call answer (threadOf running)) r
+        (now (out .exit)) ⌝ }
+{
+    match form {
+        Form::Lines => {
+            let number = machine::number(call);
+            line(out, used, index, number, answer, running)
+        }
+        Form::Sentences => sentence(out, used, call, answer),
+    }
+}
+
+// The text of what stops the journal.
+pub fn stop(
+    form: Form,
+    out: &mut [u8],
+    used: usize,
+    index: u64,
+    code: u32,
+    running: Runner,
+) -> usize
+    requires { ⌜ used + sentenceRoom ≤ length (now out) ⌝ }
+    ensures { λ r. ⌜ r ≤ used + sentenceRoom ⌝ }
+    ensures { λ r. ⌜ Wrote (now (out .entry)) used (stopText form index code (threadOf running)) r
+        (now (out .exit)) ⌝ }
+{
+    match form {
+        Form::Lines => line(out, used, index, 0, machine::plain(code), running),
+        Form::Sentences => stop_line(out, used, code),
+    }
+}

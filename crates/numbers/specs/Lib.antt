@@ -1,0 +1,2 @@
+-- The call that five plain numbers name, and the five numbers of a call.
+pub mod Numbers

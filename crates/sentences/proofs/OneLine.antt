@@ -1,0 +1,105 @@
+-- A sentence is one line: printable ASCII, and a newline at its end.
+use Prim.Native.Nat.{ℕ, zero, suc}
+use mathlib.Core.Path.{_≡_, refl, sym, _∙_, ap}
+use mathlib.Core.Bool.{Bool, true, false, _&&_, _||_, not, and-assoc, and-eq-true-iff}
+use mathlib.Core.List.{List, [], _∷_, _++_, append-assoc}
+use native.Mathlib.Omega.{arith}
+use lib.Dec.{eqb, leb}
+use borrow.Author.Tests.{le-leb, leb-true}
+use Rattle.machine.specs.declared.Answer.{Answer}
+use Rattle.machine.specs.declared.Call.{Call}
+use Rattle.machine.specs.declared.Call.the-variants.{CreateThread, DestroyThread, SetPriority, CreateEndpoint}
+use Rattle.machine.specs.declared.Call.the-variants.{Interrupt, Tick, Send, Receive, Yield, Wait, Delete, Abort}
+use Rattle.machine.specs.Calls.{numberOf}
+use Rattle.machine.specs.Lists.{pick}
+use Rattle.texts.specs.Text.{bytes}
+use Rattle.texts.specs.Decimal.{decimal}
+use Rattle.texts.proofs.Apart.{all, isDigit, decimal-digits}
+use Rattle.sentences.specs.Sentence.{request, cause, outcome, told, asksCount, asksMessage, details}
+use Rattle.sentences.specs.Sentence.{sentence}
+use Rattle.sentences.proofs.Causes.{each-cause}
+
+-- From the space to the tilde.
+abbrev pub isPrintable : ℕ → Bool
+isPrintable d = leb 32 d && leb d 126
+
+pub record OneLine (line : List ℕ) : Type 0 where
+  pub text : List ℕ
+  pub whole : line ≡ text ++ (10 ∷ [])
+  pub printable : all isPrintable text ≡ true
+
+all-is : (f : ℕ → Bool) (l r : List ℕ) → all f (l ++ r) ≡ (all f l && all f r)
+all-is f [] r = refl
+all-is f (d ∷ l) r = ap (λ (b : Bool). f d && b) (all-is f l r) ∙ sym (and-assoc (f d) (all f l) (all f r))
+
+-- A kind that a wider one has.
+all-wider :
+    (f g : ℕ → Bool) (l : List ℕ) → ((d : ℕ) → f d ≡ true → g d ≡ true) → all f l ≡ true → all g l ≡ true
+all-wider f g [] w h = refl
+all-wider f g (d ∷ l) w h =
+    let k = and-eq-true-iff (f d) (all f l) .0 h in
+    and-eq-true-iff (g d) (all g l) .1 (w d (k .0), all-wider f g l w (k .1))
+
+digit-printable : (d : ℕ) → isDigit d ≡ true → isPrintable d ≡ true
+digit-printable d h =
+    let k = and-eq-true-iff (leb 48 d) (leb d 57) .0 h in
+    and-eq-true-iff (leb 32 d) (leb d 126) .1
+    (le-leb 32 d (omega (arith, leb-true 48 d (k .0))), le-leb d 126 (omega (arith, leb-true d 57 (k .1))))
+
+decimal-printable : (n : ℕ) → all isPrintable (decimal n) ≡ true
+decimal-printable n = all-wider isDigit isPrintable (decimal n) digit-printable (decimal-digits n)
+
+-- The parts
+
+request-printable : (c : Call) → all isPrintable (request c) ≡ true
+unfolding request bytes
+request-printable (CreateThread t p) = simp (all-is, decimal-printable)
+request-printable (DestroyThread t) = simp (all-is, decimal-printable)
+request-printable (SetPriority t p) = simp (all-is, decimal-printable)
+request-printable (CreateEndpoint e) = simp (all-is, decimal-printable)
+request-printable (Interrupt l) = simp (all-is, decimal-printable)
+request-printable Tick = refl
+request-printable (Send e b m) = simp (all-is, decimal-printable)
+request-printable (Receive e) = simp (all-is, decimal-printable)
+request-printable Yield = refl
+request-printable (Wait l) = simp (all-is, decimal-printable)
+request-printable (Delete e a) = simp (all-is, decimal-printable)
+request-printable (Abort e a b) = simp (all-is, decimal-printable)
+
+cause-printable : (n : ℕ) → all isPrintable (cause n) ≡ true
+unfolding bytes
+cause-printable n = each-cause (all isPrintable) n refl refl
+
+outcome-printable : (n : ℕ) → all isPrintable (outcome n) ≡ true
+unfolding bytes outcome
+outcome-printable zero = refl
+outcome-printable (suc zero) = refl
+outcome-printable (suc (suc zero)) = refl
+outcome-printable (suc (suc (suc n))) = simp (all-is, decimal-printable, cause-printable)
+
+told-printable :
+    (asked : Bool) (name : List ℕ) (n : ℕ) → all isPrintable name ≡ true → all isPrintable (told asked name n) ≡ true
+unfolding told
+told-printable asked name n h = go (asked || not (eqb n 0))
+  where
+    go : (b : Bool) → all isPrintable (pick b (name ++ decimal n) []) ≡ true
+    go true = simp (all-is, h, decimal-printable)
+    go false = refl
+
+details-printable : (call : ℕ) (a : Answer) → all isPrintable (details call a) ≡ true
+unfolding bytes details
+details-printable call a =
+    let count = told-printable (asksCount call (a .code)) (bytes ", count ") (a .count) refl in
+    let badge = told-printable (asksMessage call (a .code)) (bytes ", badge ") (a .badge) refl in
+    let message = told-printable (asksMessage call (a .code)) (bytes ", message ") (a .message) refl in
+    simp (all-is, count, badge, message)
+
+pub one-line : (c : Call) (a : Answer) → OneLine (sentence c a)
+unfolding bytes sentence
+one-line c a =
+    record {
+      text = request c ++ (bytes ": " ++ (outcome (a .code) ++ (details (numberOf c) a ++ bytes ".")));
+      whole = simp append-assoc;
+      printable =
+          simp (all-is, request-printable, outcome-printable, details-printable);
+    }

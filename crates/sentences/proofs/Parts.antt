@@ -1,0 +1,88 @@
+-- The parts of a line, in turn.
+use Prim.Native.Nat.{ℕ, zero, suc}
+use mathlib.Core.Path.{_≡_, refl}
+use mathlib.Core.Bool.{Bool, true, false, _||_, not}
+use mathlib.Core.List.{List, [], _++_, append-assoc}
+use lib.Dec.{eqb}
+use Rattle.machine.specs.declared.Answer.{Answer}
+use Rattle.machine.specs.declared.Call.{Call}
+use Rattle.machine.specs.declared.Call.the-variants.{Send, Abort}
+use Rattle.machine.specs.Calls.{numberOf}
+use Rattle.texts.specs.Text.{bytes}
+use Rattle.texts.specs.Decimal.{decimal}
+use Rattle.sentences.specs.Sentence.{request, cause, outcome, told, asksCount, asksMessage, details}
+use Rattle.sentences.specs.Sentence.{sentence, stopLine}
+use Rattle.sentences.proofs.Causes.{NoneOf}
+
+-- What follows each part
+
+abbrev pub fromDetails : Call → Answer → List ℕ
+fromDetails c a = details (numberOf c) a ++ bytes ".\n"
+
+abbrev pub fromOutcome : Call → Answer → List ℕ
+fromOutcome c a = outcome (a .code) ++ fromDetails c a
+
+abbrev pub fromColon : Call → Answer → List ℕ
+fromColon c a = bytes ": " ++ fromOutcome c a
+
+pub sentence-is : (c : Call) (a : Answer) → sentence c a ≡ request c ++ fromColon c a
+unfolding sentence
+sentence-is c a = simp append-assoc
+
+abbrev pub stopOutcome : ℕ → List ℕ
+stopOutcome code = outcome code ++ bytes ".\n"
+
+pub stop-is : (code : ℕ) → stopLine code ≡ bytes "The journal does not go on: " ++ stopOutcome code
+unfolding stopLine
+stop-is code = simp append-assoc
+
+abbrev pub toldCount : ℕ → Answer → List ℕ
+toldCount call a = told (asksCount call (a .code)) (bytes ", count ") (a .count)
+
+abbrev pub toldBadge : ℕ → Answer → List ℕ
+toldBadge call a = told (asksMessage call (a .code)) (bytes ", badge ") (a .badge)
+
+abbrev pub toldMessage : ℕ → Answer → List ℕ
+toldMessage call a = told (asksMessage call (a .code)) (bytes ", message ") (a .message)
+
+pub details-is : (call : ℕ) (a : Answer) → details call a ≡ toldCount call a ++ (toldBadge call a ++ toldMessage call a)
+unfolding details
+details-is call a = simp append-assoc
+
+-- The outcome of a refusal
+
+-- A code past the three that have no number said.
+pub refused-is : (n : ℕ) → NoneOf 0 3 n → outcome n ≡ bytes "refused by " ++ decimal n ++ cause n
+unfolding outcome
+refused-is zero h = absurd (h .0 .0 .1 refl)
+refused-is (suc zero) h = absurd (h .0 .1 refl)
+refused-is (suc (suc zero)) h = absurd (h .1 refl)
+refused-is (suc (suc (suc n))) h = refl
+
+-- Whether a number is told
+
+module _ (asked : Bool) (name : List ℕ) (n : ℕ) where
+  pub told-said : (asked || not (eqb n 0)) ≡ true → told asked name n ≡ name ++ decimal n
+  unfolding told
+  told-said e = rw e
+
+  pub told-left : (asked || not (eqb n 0)) ≡ false → told asked name n ≡ []
+  unfolding told
+  told-left e = rw e
+
+-- The calls of three numbers: a text and a number, and then two.
+
+module _ (e b n : ℕ) where
+  pub send-is :
+      request (Send e b n)
+      ≡ (bytes "Send message " ++ decimal n)
+      ++ (bytes " under badge " ++ decimal b ++ bytes " to endpoint " ++ decimal e)
+  unfolding request
+  send-is = simp append-assoc
+
+  pub abort-is :
+      request (Abort e n b)
+      ≡ (bytes "Abort badge " ++ decimal b)
+      ++ (bytes " at endpoint " ++ decimal e ++ bytes " with allowance " ++ decimal n)
+  unfolding request
+  abort-is = simp append-assoc

@@ -1,0 +1,104 @@
+// A journal from standard input to standard output: listed, or told in sentences. Its words come little-endian; a word
+// that does not read as a call, and odd bytes at the end, stop it with a last line.
+ghost use Prim.Native.Nat.{_<_};
+ghost use mathlib.Core.Path.{_≡_};
+ghost use lib.ListN.{length};
+
+mod output;
+
+use lister::Form;
+use lister::Lister;
+
+// After a part: the lister, whether another part is to be read, whether the bytes have ended.
+struct Stage {
+    lister: Lister,
+    going: bool,
+    ended: bool,
+}
+
+// Lists a part and writes its text. There is room for it: 40 bytes for each byte of the part, and for each of the
+// eleven that may be held.
+fn list(form: Form, l: Lister, part: &[u8], tables: &mut [u32], scratch: &mut [u32]) -> Stage
+    requires { ⌜ (l .held < 12) × (length (l .bytes) ≡ 12) × (length (now part) < 513) ⌝ }
+    ensures { λ r. ⌜ (r .lister .held < 12) × (length (r .lister .bytes) ≡ 12) ⌝ }
+{
+    let mut out = [0u8; 20920];
+    let fed = lister::feed(form, l, part, tables, scratch, &mut out);
+    let used = fed.used;
+    let shown = output::show(&out[..used]);
+    let after = fed.lister;
+    Stage {
+        lister: after,
+        going: after.going & shown,
+        ended: false,
+    }
+}
+
+// Reads once, what is there, and writes its text.
+fn turn(form: Form, l: Lister, tables: &mut [u32], scratch: &mut [u32]) -> Stage
+    requires { ⌜ (l .held < 12) × (length (l .bytes) ≡ 12) ⌝ }
+    ensures { λ r. ⌜ (r .lister .held < 12) × (length (r .lister .bytes) ≡ 12) ⌝ }
+{
+    let mut part = [0u8; 512];
+    let got = libc::read(libc::STDIN_FILENO, &mut part);
+    if got < 0 {
+        output::complain(b"nazsombet: standard input could not be read\n");
+        return Stage {
+            lister: l,
+            going: false,
+            ended: false,
+        };
+    }
+    if got == 0 {
+        return Stage {
+            lister: l,
+            going: false,
+            ended: true,
+        };
+    }
+    let n = io::count(got, &part);
+    list(form, l, &part[..n], tables, scratch)
+}
+
+// Writes the last line, if the bytes still held ask for one.
+fn finish(form: Form, l: Lister, tables: &[u32])
+    requires { ⌜ (l .held < 12) × (length (l .bytes) ≡ 12) ⌝ }
+{
+    let mut out = [0u8; sentences::ROOM];
+    let n = lister::finish(form, l, tables, &mut out);
+    output::show(&out[..n]);
+}
+
+// Lines have a header, and sentences have none.
+fn begin(form: Form) -> bool {
+    match form {
+        Form::Lines => output::header(),
+        Form::Sentences => true,
+    }
+}
+
+// A proved loop has to end, and nothing says that a journal does. So the turns are counted down, from a number that
+// no run uses up.
+fn turns(form: Form, tables: &mut [u32], scratch: &mut [u32]) {
+    let mut p = Stage {
+        lister: lister::start(),
+        going: begin(form),
+        ended: false,
+    };
+    let mut turns = u64::MAX;
+    while turns > 0 && p.going {
+        p = turn(form, p.lister, tables, scratch);
+        turns -= 1;
+    }
+    if p.ended {
+        finish(form, p.lister, tables);
+    }
+}
+
+// The whole journal, on fresh tables.
+pub fn run(form: Form) {
+    let mut tables = [0u32; lent_tables::TABLE_WORDS];
+    let mut scratch = [0u32; lent_tables::SCRATCH_WORDS];
+    lent_tables::fresh(&mut tables);
+    turns(form, &mut tables, &mut scratch);
+}

@@ -1,0 +1,2 @@
+-- The lemmas of the tools for C.
+pub mod Entries

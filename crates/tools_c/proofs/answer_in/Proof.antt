@@ -1,0 +1,24 @@
+-- The four numbers in their order.
+use mathlib.Core.Path.{refl}
+use borrow.Author.Needs.{needs}
+use Rattle.tools_c.proofs.answer_in.Statement.{statement}
+use Rattle.tools_c.proofs.answer_in.Tie as tie
+
+array-read-t5 : tie.Need-array-read-t5
+array-read-t5 c = search needs
+
+array-read-t8 : tie.Need-array-read-t8
+array-read-t8 c = search needs
+
+array-read-t11 : tie.Need-array-read-t11
+array-read-t11 c = search needs
+
+array-read-t14 : tie.Need-array-read-t14
+array-read-t14 c = search needs
+
+returns : tie.Need-returns
+returns c = refl
+
+pub answer-in-spec : {M : Type 1} → statement M
+answer-in-spec =
+    tie.close (tie.spec array-read-t5 array-read-t8 array-read-t11 array-read-t14 returns)

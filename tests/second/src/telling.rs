@@ -1,0 +1,83 @@
+//! A journal told in sentences, as docs/SENTENCES.md words them.
+
+use crate::call::{Answer, Call};
+use crate::turns::{turns, Turn};
+
+/// Runs the journal's calls from fresh tables and tells them.
+pub fn telling(bytes: &[u8]) -> String {
+    turns(bytes)
+        .into_iter()
+        .map(|turn| match turn {
+            Turn::Made { call, answer, .. } => sentence(&call, &answer),
+            Turn::Stopped { code, .. } => {
+                format!("The journal does not go on: {}.\n", outcome(code))
+            }
+        })
+        .collect()
+}
+
+/// The line of a call and its answer, whatever their numbers.
+pub fn sentence(call: &Call, answer: &Answer) -> String {
+    let Answer { code, count, badge, message } = *answer;
+    let counts = matches!(call, Call::Delete { .. } | Call::Abort { .. }) && [0, 2].contains(&code);
+    let receives = matches!(call, Call::Receive { .. }) && code == 0;
+    let told =
+        [(counts, "count", count), (receives, "badge", badge), (receives, "message", message)];
+    let mut line = format!("{}: {}", request(call), outcome(code));
+    for (always, name, number) in told {
+        if always || number != 0 {
+            line += &format!(", {name} {number}");
+        }
+    }
+    line + ".\n"
+}
+
+fn request(call: &Call) -> String {
+    match call {
+        Call::CreateThread { thread, priority } => {
+            format!("Create thread {thread} with priority {priority}")
+        }
+        Call::DestroyThread { thread } => format!("Destroy thread {thread}"),
+        Call::SetPriority { thread, priority } => {
+            format!("Set thread {thread} to priority {priority}")
+        }
+        Call::CreateEndpoint { endpoint } => format!("Create endpoint {endpoint}"),
+        Call::Interrupt { line } => format!("Interrupt on line {line}"),
+        Call::Tick => String::from("Tick"),
+        Call::Send { endpoint, badge, message } => {
+            format!("Send message {message} under badge {badge} to endpoint {endpoint}")
+        }
+        Call::Receive { endpoint } => format!("Receive at endpoint {endpoint}"),
+        Call::Yield => String::from("Yield"),
+        Call::Wait { line } => format!("Wait on line {line}"),
+        Call::Delete { endpoint, allowance } => {
+            format!("Delete endpoint {endpoint} with allowance {allowance}")
+        }
+        Call::Abort { endpoint, allowance, badge } => {
+            format!("Abort badge {badge} at endpoint {endpoint} with allowance {allowance}")
+        }
+    }
+}
+
+fn outcome(code: u32) -> String {
+    let cause = match code {
+        0 => return String::from("done"),
+        1 => return String::from("blocked"),
+        2 => return String::from("broken off"),
+        16 => "wrong memory length",
+        17 => "memory is not sound",
+        18 => "this is no call",
+        19 => "number out of range",
+        20 => "no thread runs",
+        21 => "no such thread",
+        22 => "the thread exists",
+        23 => "no such endpoint",
+        24 => "the endpoint exists",
+        25 => "endpoint is closing",
+        26 => "badge is under abort",
+        27 => "the line has a waiter",
+        28 => "buffer too short",
+        _ => return format!("refused by {code}"),
+    };
+    format!("refused by {code}, {cause}")
+}
