@@ -1,8 +1,9 @@
 #!/bin/sh
 # archive.sh: tries what include/nazsombet.h says of the compiled library: which functions it calls, how much stack it
 # takes, which registers it uses, that it writes below the stack pointer, that it has no unwind tables and no data that
-# is written. It looks at the disassembly of target/staticlib/libcore_c.a. The last line is 'archive: N passed, M
-# failed'; the exit status is 0 only where nothing failed.
+# is written; and that no table of 256 bytes stands in it, or is made on the stack. It looks at the disassembly of
+# target/staticlib/libcore_c.a. The last line is 'archive: N passed, M failed'; the exit status is 0 only where nothing
+# failed.
 set -u
 cd "$(dirname "$0")/.." || exit 2
 archive=target/staticlib/libcore_c.a
@@ -44,6 +45,22 @@ for below in $(grep -oE -- '-0x[0-9a-f]+\(%rsp' "$code" | grep -oE '0x[0-9a-f]+'
     [ $((below)) -le 128 ] || far=$far$below
 done
 holds "uses farther below it than 128 bytes" "$far" ""
+
+# The box is short of read-only memory. No table of 256 stands there, ours or one that the compiler makes of a match,
+# and no function makes one on the stack: what it takes for its locals and what it uses below that are too small.
+largest=$(size -A "$archive" | awk '/^\.rodata/ && $2 > most {most = $2} END {print most + 0}')
+holds "read-only data of $largest bytes under 256" "$([ "$largest" -lt 256 ] && echo yes)" yes
+most=0
+for item in $(sed -n -e 's/^[0-9a-f]* <.*>:$/function/p' -e 's/.*sub *\$\(0x[0-9a-f]*\),%rsp$/\1/p' \
+    -e 's/.*-\(0x[0-9a-f]*\)(%rsp.*/-\1/p' "$code"); do
+    case $item in
+    function) locals=0 below=0 ;;
+    -*) [ $((${item#-})) -le "$below" ] || below=$((${item#-})) ;;
+    *) locals=$((locals + item)) ;;
+    esac
+    [ $((locals + below)) -le "$most" ] || most=$((locals + below))
+done
+holds "locals of $most bytes in one function under 256" "$([ "$most" -lt 256 ] && echo yes)" yes
 sections=$(size -A "$archive" | awk '{print $1}')
 holds "unwind tables" "$(echo "$sections" | grep -c '^\.eh_frame')" 0
 holds "data that is written" "$(echo "$sections" | grep -cE '^\.(data|bss|tdata|tbss)')" 0

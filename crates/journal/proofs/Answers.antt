@@ -1,14 +1,12 @@
 -- What the code's enums say, where the specification has an option; what a part of the journal holds.
 use mathlib.Core.Path.{_≡_, refl, sym, ap, _∙_}
-use mathlib.Core.Bool.{Bool, true, false}
+use mathlib.Core.Bool.{true}
 use mathlib.Core.List.{List, []}
 use mathlib.Core.Logic.{_≢_}
 use mathlib.Core.Option.{Option, none, some}
 use Prim.Native.Nat.{ℕ, _+_, _-_, _<_}
 use native.Mathlib.Omega.{arith}
 use native.Mathlib.Numerals.{add-one}
-use borrow.Author.Tests.{eq-eqb, leb-true, leb-false}
-use lib.Dec.{leb}
 use lib.ListN.{length, getD, take, drop, length-drop}
 use lib.Seq.{drop-cons, take-all}
 use Rattle.machine.specs.declared.Call.{Call}
@@ -18,9 +16,9 @@ use Rattle.journal.specs.declared.types.Named.{Named}
 use Rattle.journal.specs.declared.types.Named.the-variants.{One, Nothing}
 use Rattle.journal.specs.declared.Number.the-variants.{Is, Wrong}
 use Rattle.journal.specs.Steps.{asNamed, callNamed, asNumber}
-use Rattle.journal.specs.Words.{topBits, topByte, callNumber, subject, argument, wordsTaken, unused, numberIn}
-use Rattle.journal.specs.Words.{sendOf, abortOf, callOf, callAt, judged, readFrom, readAt}
-use Rattle.journal.proofs.Numbers.{by-number, taken-low, taken-high}
+use Rattle.journal.specs.Words.{topByte, wordsTaken, unused, numberIn, sendOf, abortOf}
+use Rattle.journal.specs.Words.{callOf, callAt, judged, readFrom, readAt}
+use Rattle.journal.proofs.Numbers.{by-number}
 use Rattle.journal.proofs.Options.{unused-none}
 use Rattle.journal.proofs.Naming.{NumbersFit, in-range-fits}
 
@@ -93,22 +91,6 @@ rest-unused s a rest =
 -- the part of a list from a place on
 pub part-is : (l : List ℕ) (n : ℕ) → take (length l - n) (drop n l) ≡ drop n l
 part-is l n = take-all (length l - n) (drop n l) (omega (arith, length-drop n l))
-
--- a top byte that some call begins with has top bits 1
-top-one : (w : ℕ) → wordsTaken (topByte w) ≢ 0 → topBits w ≡ 1
-top-one w h = go (leb (topByte w) 16) refl (leb (topByte w) 28) refl
-  where
-    go : (b : Bool) → leb (topByte w) 16 ≡ b → (d : Bool) → leb (topByte w) 28 ≡ d → topBits w ≡ 1
-    go true l d u = absurd (h (taken-low (topByte w) (omega (arith, leb-true (topByte w) 16 l))))
-    go false l true u = omega (arith, leb-false (topByte w) 16 l, leb-true (topByte w) 28 u)
-    go false l false u = absurd (h (taken-high (topByte w) (leb-false (topByte w) 28 u)))
-
--- where some call begins with the top byte, the parts name the call
-pub call-begun :
-    (w : ℕ) (rest : List ℕ) → wordsTaken (topByte w) ≢ 0 →
-    callOf (callNumber w) (subject w) (argument w) rest ≡ callAt w rest
-unfolding callAt
-call-begun w rest h = rw (eq-eqb (topBits w) 1 (top-one w h))
 
 -- reading at a word, with the rest of the journal as a part of it
 pub read-word-at :

@@ -7,7 +7,6 @@ pub mod Outcomes
 pub mod RoundTrip
 pub mod Refusals
 pub mod Appended
-pub mod Table
 pub mod Answers
 pub mod Example
 pub mod Incident

@@ -73,6 +73,11 @@ pub taken-low : (top : ℕ) → top < 17 → wordsTaken top ≡ 0
 unfolding wordsTaken
 taken-low top h = simp (ne-eqb top 0x17 (omega arith), ne-eqb top 0x1C (omega arith), lt-leb 0x11 top h)
 
+pub taken-one : (top : ℕ) → 17 ≤ top → top < 28 → (top ≡ 23 → ⊥) → wordsTaken top ≡ 1
+unfolding wordsTaken
+taken-one top l h n =
+    simp (ne-eqb top 0x17 n, ne-eqb top 0x1C (omega arith), le-leb 0x11 top l, le-leb top 0x1B (omega arith))
+
 pub taken-high : (top : ℕ) → 28 < top → wordsTaken top ≡ 0
 unfolding wordsTaken
 taken-high top h =

@@ -94,7 +94,8 @@ callAt w rest = pick (eqb (topBits w) 1) (callOf (callNumber w) (subject w) (arg
 abbrev pub topByte : ℕ → ℕ
 topByte w = w / 2 ^ 24
 
--- "Words taken by a call": 0x17 begins a send, 0x1C an abort; "0 where no call begins so"
+-- "the words taken by cases on the top byte": 0x17 begins a send, 0x1C an abort, 0x11 to 0x1B the other calls, and all
+-- else none
 unfoldable pub wordsTaken : ℕ → ℕ
 wordsTaken top = pick (eqb top 0x17) 3 (pick (eqb top 0x1C) 2 (pick (leb 0x11 top && leb top 0x1B) 1 0))
 

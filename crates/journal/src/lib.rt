@@ -1,8 +1,6 @@
 // Journal words and calls: what the words at a place read as, and the words of a call.
-pub mod taken;
 pub mod types;
 
-use crate::taken::words_taken;
 use crate::types::Named;
 use crate::types::Read;
 use crate::types::Written;
@@ -14,7 +12,7 @@ ghost use mathlib.Core.Bool.{true};
 ghost use mathlib.Core.List.{_∷_, []};
 ghost use Prim.Native.Nat.{_<_};
 ghost use Rattle.machine.specs.Calls.{inRange};
-ghost use Rattle.journal.specs.Words.{numberIn, unused, sendOf, abortOf, callOf, callAt, judged, readAt};
+ghost use Rattle.journal.specs.Words.{numberIn, unused, sendOf, abortOf, callOf, callAt, wordsTaken, judged, readAt};
 ghost use Rattle.journal.specs.Words.{callWord, badgeWord, messageWord, asWritten, wordsOf, written};
 ghost use Rattle.journal.specs.Steps.{asNamed, callNamed, asNumber};
 
@@ -24,7 +22,9 @@ enum Number {
     Wrong,
 }
 
-// The top bits of the words after a call word.
+// The top bits of a call word, and of the words after it.
+const CALL: u32 = 1;
+
 const BADGE: u32 = 2;
 
 const MESSAGE: u32 = 3;
@@ -129,7 +129,7 @@ fn call_of(number: u32, subject: u32, argument: u32, rest: &[u32]) -> Named
 fn call_at(word: u32, rest: &[u32]) -> Named
     ensures { λ r. ⌜ r ≡ asNamed (callAt word (now (rest .entry))) ⌝ }
 {
-    if words_taken(word >> 24) == 0 {
+    if word >> 28 != CALL {
         return Named::Nothing;
     }
     call_of((word >> 24) % 16, (word >> 16) % 256, word % 0x1_0000, rest)
@@ -146,6 +146,20 @@ fn answer(words: Named, at: usize, next: usize) -> Read
         Read::Found { call, next }
     } else {
         Read::Refused { code: RANGE, at }
+    }
+}
+
+// The words that a call takes, by the top byte of its first word; 0 where no call begins so.
+pub fn words_taken(top: u32) -> usize
+    ensures { λ r. ⌜ r ≡ wordsTaken top ⌝ }
+{
+    match top {
+        0x11..=0x16 | 0x18..=0x1B => 1,
+        // an abort: a badge word after it
+        0x1C => 2,
+        // a send: a badge and a message word after it
+        0x17 => 3,
+        _ => 0,
     }
 }
 

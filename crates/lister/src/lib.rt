@@ -16,7 +16,7 @@ ghost use Rattle.lister.specs.Buffers.{progressOf, withByte, emptied, st
 
 mod add;
 
-use journal::taken::words_taken;
+use journal::words_taken;
 use rows::Turn;
 
 // How a call is told: a line of numbers, or a sentence.

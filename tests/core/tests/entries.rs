@@ -154,3 +154,25 @@ fn reading_stays_where_it_refuses() {
     assert_eq!(Core::read(&[0x16000000, 0x1B000000], 1), Read::Refused { code: 19, at: 1 });
     assert_eq!(Core::read(&[0x1C000001], 0), Read::Refused { code: 18, at: 0 });
 }
+
+/// How many words a call takes, by the top byte of its first: 0x11 to 0x1C, in
+/// their order; no call begins with another.
+#[test]
+fn every_top_byte_takes_its_words() {
+    const TAKEN: [usize; 12] = [1, 1, 1, 1, 1, 1, 3, 1, 1, 1, 1, 2];
+    for top in 0..=255u32 {
+        let taken = top.checked_sub(0x11).and_then(|n| TAKEN.get(n as usize).copied());
+        let allowance = u32::from(top == 0x1B || top == 0x1C);
+        let words = [top << 24 | allowance, 0x20000000, 0x30000000];
+        for present in 1..=3 {
+            let next = match Core::read(&words[..present], 0) {
+                Read::Found { next, .. } => Some(next),
+                read => {
+                    assert_eq!(read, Read::Refused { code: 18, at: 0 });
+                    None
+                }
+            };
+            assert_eq!(next, taken.filter(|&taken| taken <= present), "{top:02X}");
+        }
+    }
+}

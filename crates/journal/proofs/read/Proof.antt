@@ -1,4 +1,4 @@
--- A word is below 2 ^ 32, so its top byte is in the table, and at most three words are taken, so the sum fits.
+-- At most three words are taken, so the sum fits.
 use mathlib.Core.Path.{sym, _∙_}
 use native.Mathlib.Omega.{arith}
 use lib.ListN.{getD}
@@ -38,10 +38,7 @@ call-at-requires : tie.Need-call-at-requires
 call-at-requires c κs = search needs
 
 words-taken-requires : tie.Need-words-taken-requires
-words-taken-requires c κs =
-    let at-shared-slice-known2 = c .before .before in
-    let at-start = at-shared-slice-known2 .before .before .before in
-    omega (arith, at-shared-slice-known2 .shared-slice-known2 .given (at-start .args .at))
+words-taken-requires c κs = search needs
 
 add-answer : tie.Need-add-answer
 add-answer c =

@@ -112,6 +112,19 @@ impl Report<'_> {
         text
     }
 
+    /// The calls read from their words, and words that begin none.
+    fn readings(&self, unit: Unit) -> String {
+        let mut text = head(&["Call", "core", "second machine", "core : second"]);
+        for (number, name) in (1..).zip(CALLS) {
+            let name = if number == CALLS.len() { "no call, refused by 18" } else { name };
+            let works = [Work::Read, Work::SecondRead];
+            let [core, second] = works.map(|work| (unit.work)(self.call(0, number), work));
+            let cells = [whole(core), whole(second), ratio(core, second)];
+            text += &row(once(String::from(name)).chain(cells));
+        }
+        text
+    }
+
     /// Steps at a queue, by its length.
     fn queues(&self, unit: Unit) -> String {
         let mut text = head(&[&["Senders", "check"], &AT_QUEUE[..]].concat());
@@ -149,6 +162,10 @@ impl Report<'_> {
         for &unit in units {
             text += &format!("\n## Steps at a queue of senders, {}\n\n", unit.name);
             text += &self.queues(unit);
+        }
+        for &unit in units {
+            text += &format!("\n## Reading a call, {}\n\n", unit.name);
+            text += &self.readings(unit);
         }
         text
     }

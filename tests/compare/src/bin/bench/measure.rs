@@ -2,7 +2,7 @@
 
 use crate::scenes::Scene;
 use comparison::numbers;
-use core_c::{Core, Numbers};
+use core_c::{Core, Numbers, Read};
 use second::Machine;
 use std::hint::black_box;
 use std::time::Instant;
@@ -26,9 +26,13 @@ pub enum Work {
     SecondCall,
     /// The second machine's call alone.
     SecondStep,
+    /// The call read from its words.
+    Read,
+    /// The second machine's reading.
+    SecondRead,
 }
 
-pub const WORKS: [Work; 9] = [
+pub const WORKS: [Work; 11] = [
     Work::Nothing,
     Work::Pass,
     Work::Sum,
@@ -38,6 +42,8 @@ pub const WORKS: [Work; 9] = [
     Work::SecondCheck,
     Work::SecondCall,
     Work::SecondStep,
+    Work::Read,
+    Work::SecondRead,
 ];
 
 /// Both sides, with the tables of a scene.
@@ -75,15 +81,20 @@ impl Bench {
                 seen(self.machine.call(black_box(&scene.call)));
             }
             Work::SecondStep => seen(self.machine.call(black_box(&scene.call))),
+            Work::Read => seen(Core::read(black_box(&scene.journal), 0)),
+            Work::SecondRead => seen(second::read(black_box(&scene.journal), 0)),
         }
     }
 
-    /// Both sides answer the scene's call, and as the scene wants it.
+    /// Both sides answer the scene's call, and as the scene wants it; the core
+    /// reads it.
     pub fn agree(&mut self, scene: &Scene) {
         self.load(scene);
         let (core, second) = (self.core.call(&self.numbers), self.machine.call(&scene.call));
         assert_eq!((core.code, core.count), (second.code, second.count), "{:?}", scene.call);
         assert_eq!(second.accepted(), scene.call.in_range(), "{:?}: {second:?}", scene.call);
+        let read = matches!(Core::read(&scene.journal, 0), Read::Found { .. });
+        assert_eq!(read, scene.call.in_range(), "{:08X?}", scene.journal);
     }
 
     /// The time of the work, in nanoseconds: the least of many runs.

@@ -1,6 +1,6 @@
 //! The tables that calls are measured on, built by calls.
 
-use second::{memory, Call, Machine};
+use second::{memory, write, Call, Machine};
 use std::ops::RangeInclusive;
 
 /// Tables and a call on them.
@@ -8,6 +8,8 @@ pub struct Scene {
     pub machine: Machine,
     pub words: Vec<u32>,
     pub call: Call,
+    /// The call's words; zeros, which begin no call, where it is out of range.
+    pub journal: [u32; 3],
 }
 
 /// How many threads there are; a quarter as many endpoints, an eighth lines.
@@ -68,7 +70,8 @@ impl Stage {
     }
 
     fn scene(self, call: Call) -> Scene {
-        Scene { words: memory(&self.0), machine: self.0, call }
+        let journal = write(&call).words;
+        Scene { words: memory(&self.0), machine: self.0, call, journal }
     }
 }
 
