@@ -47,10 +47,10 @@ module _ (f : Form) (m : Lent) (z : Sized m) where
       subst (λ (t : Told). Streams f t (textOf f (joined parts))) (sym (parts-joined f parts (startingFresh m)))
       (in-one (joined parts) few)
 
-  begins :
+  a-front :
       (parts : List (List ℕ)) (behind : List ℕ) → length (joined parts ++ behind) < 2 ^ 64
       → Prefix (fedParts f parts (startingFresh m) .text) (wholeOf (textOf f (joined parts ++ behind)))
-  begins parts behind few =
+  a-front parts behind few =
       let s = startingFresh m in
       let t = fedParts f parts s in
       let u = fed f behind (t .after) in
@@ -106,7 +106,7 @@ pub no-more :
     (parts : List (List ℕ)) (behind : List ℕ) (m : Lent) → Sized m → length (joined parts ++ behind) < 2 ^ 64
     → Prefix (header ++ fedParts Lines parts (startingFresh m) .text) (listingOf (joined parts ++ behind))
 no-more parts behind m z few =
-    let p = begins Lines m z parts behind few in
+    let p = a-front Lines m z parts behind few in
     record {
       more = p .more;
       whole =
@@ -154,4 +154,4 @@ pub no-more-told :
     → Prefix (fedParts Sentences parts (startingFresh m) .text) (tellingOf (joined parts ++ behind))
 no-more-told parts behind m z few =
     subst (Prefix (fedParts Sentences parts (startingFresh m) .text)) (told (joined parts ++ behind))
-    (begins Sentences m z parts behind few)
+    (a-front Sentences m z parts behind few)

@@ -1,7 +1,7 @@
 -- One byte: whether the bytes held are ready with it, and that they are held or taken; and a part, byte by byte.
 use Prim.Native.Nat.{ℕ, suc, _+_, _*_, _≤_, _<_}
 use mathlib.Core.Path.{_≡_, refl, sym, _∙_, ap, subst}
-use mathlib.Core.Bool.{Bool, true, false, _&&_, not}
+use mathlib.Core.Bool.{Bool, true, false, not, true≢false, and-eq-true-iff}
 use mathlib.Core.List.{List, [], _∷_, _++_, append-nil, append-assoc}
 use native.Mathlib.Omega.{arith}
 use borrow.Author.Tests.{le-leb, lt-leb, leb-true, leb-false}
@@ -24,30 +24,6 @@ use Rattle.lister.specs.Feeding.{Progress, Told, ready, holding, toldOf,
 use Rattle.lister.specs.Buffers.{progressOf, withByte, takesCall, Feeds}
 use Rattle.lister.proofs.Taking.{fedTo}
 
--- Tests.
-
-bit : Bool → ℕ
-bit true = 1
-bit false = 0
-
-pub not-so : (b : Bool) → not b ≡ true → b ≡ false
-unfolding bit
-not-so true e = let z : _≡_ {A = ℕ} 0 1 = ap bit e in absurd (omega (arith, z))
-not-so false e = refl
-
-pub so : (b : Bool) → not b ≡ false → b ≡ true
-unfolding bit
-so true e = refl
-so false e = let z : _≡_ {A = ℕ} 1 0 = ap bit e in absurd (omega (arith, z))
-
-not-both : (b : Bool) → b ≡ true → b ≡ false → ⊥
-unfolding bit
-not-both b t f = let z : _≡_ {A = ℕ} 1 0 = ap bit (sym t ∙ f) in omega (arith, z)
-
-left-too : (a b : Bool) → (a && b) ≡ true → a ≡ true
-left-too true b e = refl
-left-too false b e = e
-
 -- Bytes that are ready, and those that are not.
 
 pub too-short : (bytes : List ℕ) → length bytes < 4 → false ≡ ready bytes
@@ -68,13 +44,13 @@ all-ready bytes h =
     rw (le-leb 4 (length bytes) (omega (arith, h)), le-leb (n * 4) (length bytes) enough)
 
 ready-four : (bytes : List ℕ) → ready bytes ≡ true → 4 ≤ length bytes
-ready-four bytes e = leb-true 4 (length bytes) (left-too (leb 4 (length bytes)) _ e)
+ready-four bytes e = leb-true 4 (length bytes) (and-eq-true-iff _ _ .0 e .0)
 
 few : (bytes : List ℕ) → ready bytes ≡ false → length bytes < 12
 few bytes e = go (leb 12 (length bytes)) refl
   where
     go : (b : Bool) → leb 12 (length bytes) ≡ b → length bytes < 12
-    go true t = absurd (not-both (ready bytes) (all-ready bytes (leb-true 12 (length bytes) t)) e)
+    go true t = absurd (true≢false (sym (all-ready bytes (leb-true 12 (length bytes) t)) ∙ e))
     go false f = leb-false 12 (length bytes) f
 
 -- A turn's text and what follows it do not depend on the bytes held before.

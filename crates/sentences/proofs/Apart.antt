@@ -12,16 +12,17 @@ use Rattle.machine.specs.Lists.{pick}
 use Rattle.machine.proofs.Answers.{same-answer}
 use Rattle.texts.specs.Text.{bytes}
 use Rattle.texts.specs.Decimal.{decimal}
-use Rattle.texts.proofs.Apart.{isDigit, isPlain, all, Stops, plain-is, begins, begins-same, numbersIn}
+use Rattle.texts.proofs.Apart.{isDigit, isPlain, all, Stops, plain-is, opensWith, opens-same, numbersIn}
 use Rattle.texts.proofs.Apart.{numbers-plain, numbers-decimal, same-front, read-apart, reading}
 use Rattle.sentences.specs.Sentence.{request, cause, outcome, told, asksCount, asksMessage, details}
 use Rattle.sentences.specs.Sentence.{sentence}
 use Rattle.sentences.proofs.Causes.{each-cause}
-use Rattle.sentences.proofs.Requests.{callIn, call-read}
+use Rattle.sentences.proofs.Parts.{fromDetails, fromOutcome, sentence-is, told-said, told-left, told-cases}
+use Rattle.sentences.proofs.Requests.{callSaid, call-read}
 
 -- The first number that a text says.
-abbrev numberIn : List ℕ → ℕ
-numberIn l = getD (numbersIn l) 0 0
+abbrev numberSaid : List ℕ → ℕ
+numberSaid l = getD (numbersIn l) 0 0
 
 -- The outcome
 
@@ -42,8 +43,8 @@ cause-stops n t q = plain-stops (cause n) t (each-cause opensPlain n refl refl) 
 -- The code that an outcome says.
 abbrev codeIn : List ℕ → ℕ
 codeIn l =
-    pick (begins (bytes "done") l) 0
-    (pick (begins (bytes "blocked") l) 1 (pick (begins (bytes "broken off") l) 2 (numberIn l)))
+    pick (opensWith (bytes "done") l) 0
+    (pick (opensWith (bytes "blocked") l) 1 (pick (opensWith (bytes "broken off") l) 2 (numberSaid l)))
 
 code-read : (n : ℕ) (t : List ℕ) → Stops isDigit t → codeIn (outcome n ++ t) ≡ n
 unfolding outcome bytes
@@ -57,11 +58,11 @@ code-read (suc (suc (suc n))) t q =
 
 -- The number behind the name, 0 where the text does not begin with it.
 abbrev toldIn : List ℕ → List ℕ → ℕ
-toldIn name l = pick (begins name l) (numberIn l) 0
+toldIn name l = pick (opensWith name l) (numberSaid l) 0
 
 -- What may follow a number that is told: no digit, and not the same name.
 abbrev Ends : List ℕ → List ℕ → Type 0
-Ends name t = Stops isDigit t × (begins name t ≡ false)
+Ends name t = Stops isDigit t × (opensWith name t ≡ false)
 
 -- What is not told is 0.
 not-told : (asked : Bool) (n : ℕ) → (asked || not (eqb n 0)) ≡ false → n ≡ 0
@@ -72,24 +73,21 @@ not-told false (suc n) e = absurd (true≢false (rw eqb·suc-zero at e))
 told-read :
     (asked : Bool) (name : List ℕ) (n : ℕ) (t : List ℕ) → all isPlain name ≡ true → Ends name t
     → toldIn name (told asked name n ++ t) ≡ n
-unfolding told
 told-read asked name n t p q = go (asked || not (eqb n 0)) refl
   where
-    go : (b : Bool) → (asked || not (eqb n 0)) ≡ b → toldIn name (pick b (name ++ decimal n) [] ++ t) ≡ n
-    go true e =
-        rw (append-assoc, begins-same, numbers-plain name (decimal n ++ t) p, numbers-decimal n t (q .0))
-    go false e = rw (q .1) (sym (not-told asked n e))
+    said : toldIn name (name ++ (decimal n ++ t)) ≡ n
+    said = rw (opens-same, numbers-plain name (decimal n ++ t) p, numbers-decimal n t (q .0))
+
+    go : (b : Bool) → (asked || not (eqb n 0)) ≡ b → toldIn name (told asked name n ++ t) ≡ n
+    go true e = rw (told-said asked name n e, append-assoc) said
+    go false e = rw (told-left asked name n e, q .1) (sym (not-told asked n e))
 
 -- What holds of every text that begins with the name, and of what follows, holds whether the number is told or not.
 told-then :
     (P : List ℕ → Type 0) (asked : Bool) (name : List ℕ) (n : ℕ) (t : List ℕ) → ((s : List ℕ) → P (name ++ s)) → P t
     → P (told asked name n ++ t)
-unfolding told
-told-then P asked name n t f h = go (asked || not (eqb n 0))
-  where
-    go : (b : Bool) → P (pick b (name ++ decimal n) [] ++ t)
-    go true = rw append-assoc (f (decimal n ++ t))
-    go false = h
+told-then P asked name n t f h =
+    told-cases asked name n (λ (l : List ℕ). P (l ++ t)) (rw append-assoc (f (decimal n ++ t))) h
 
 told-apart :
     (asked : Bool) (name : List ℕ) {n n′ : ℕ} {t t′ : List ℕ} → all isPlain name ≡ true → Ends name t → Ends name t′
@@ -97,7 +95,7 @@ told-apart :
 told-apart asked name p q q′ e =
     read-apart (told asked name) (toldIn name) (told-read asked name _ _ p q) (told-read asked name _ _ p q′) e
 
--- The parts of a line, in turn
+-- The details, in turn
 
 abbrev fromMessage : Bool → Answer → List ℕ
 fromMessage asked a = told asked (bytes ", message ") (a .message) ++ bytes ".\n"
@@ -109,12 +107,9 @@ abbrev fromCount : ℕ → ℕ → Answer → List ℕ
 fromCount call code a =
     told (asksCount call code) (bytes ", count ") (a .count) ++ fromBadge (asksMessage call code) a
 
-abbrev fromOutcome : ℕ → Answer → List ℕ
-fromOutcome call a = outcome (a .code) ++ fromCount call (a .code) a
-
-sentence-said : (c : Call) (a : Answer) → sentence c a ≡ request c ++ (bytes ": " ++ fromOutcome (numberOf c) a)
-unfolding sentence details
-sentence-said c a = simp append-assoc
+details-said : (call : ℕ) (a : Answer) → fromDetails call a ≡ fromCount call (a .code) a
+unfolding details
+details-said call a = simp append-assoc
 
 -- What follows the outcome, the count and the badge.
 
@@ -147,18 +142,19 @@ details-apart call code a a′ e =
     (h₁ .0, (h₂ .0, h₃ .0))
 
 outcome-read : (call : ℕ) (a : Answer) → codeIn (fromOutcome call a) ≡ a .code
-outcome-read call a = code-read (a .code) _ (count-stops call (a .code) a)
+outcome-read call a = rw (details-said call a) (code-read (a .code) _ (count-stops call (a .code) a))
 
 answers-apart : (call : ℕ) (a a′ : Answer) → fromOutcome call a ≡ fromOutcome call a′ → a ≡ a′
 answers-apart call a a′ e =
     let h = read-apart outcome codeIn (outcome-read call a) (outcome-read call a′) e in
-    let g = details-apart call (a .code) a a′ (h .1 ∙ ap (λ (n : ℕ). fromCount call n a′) (sym (h .0))) in
+    let d = sym (details-said call a) ∙ h .1 ∙ details-said call a′ in
+    let g = details-apart call (a .code) a a′ (d ∙ ap (λ (n : ℕ). fromCount call n a′) (sym (h .0))) in
     same-answer a a′ (h .0) (g .0) (g .1 .0) (g .1 .1)
 
 -- Two pairs whose lines are the same bytes are the same.
 pub sentences-apart : (c c′ : Call) (a a′ : Answer) → sentence c a ≡ sentence c′ a′ → (c ≡ c′) × (a ≡ a′)
 sentences-apart c c′ a a′ e =
-    let parts = sym (sentence-said c a) ∙ e ∙ sentence-said c′ a′ in
-    let h = read-apart request callIn (call-read c _) (call-read c′ _) parts in
+    let parts = sym (sentence-is c a) ∙ e ∙ sentence-is c′ a′ in
+    let h = read-apart request callSaid (call-read c _) (call-read c′ _) parts in
     let g = same-front (bytes ": ") _ _ (h .1) in
     (h .0, answers-apart (numberOf c) a a′ (g ∙ ap (λ (d : Call). fromOutcome (numberOf d) a′) (sym (h .0))))

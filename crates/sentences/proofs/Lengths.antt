@@ -1,10 +1,10 @@
 -- How long a line is: that of a call in range fits 160 bytes, whatever words the answer is.
 use Prim.Native.Nat.{ℕ, zero, suc, _+_, _^_, _≤_, _<_}
 use mathlib.Core.Path.{_≡_, refl}
-use mathlib.Core.Bool.{Bool, true, false, _||_, not}
+use mathlib.Core.Bool.{Bool, true, false}
 use mathlib.Core.List.{List}
 use native.Mathlib.Omega.{arith}
-use lib.Dec.{eqb, leb}
+use lib.Dec.{leb}
 use lib.ListN.{length, length-append}
 use borrow.Author.Tests.{leb-true, leb-false}
 use Rattle.machine.specs.declared.Answer.{Answer}
@@ -21,6 +21,7 @@ use Rattle.sentences.specs.Sentence.{request, cause, outcome, told, asks
 use Rattle.sentences.specs.Sentence.{sentence, stopLine}
 use Rattle.sentences.specs.Entry.{sentenceRoom}
 use Rattle.sentences.proofs.Causes.{each-cause, uncaused-above}
+use Rattle.sentences.proofs.Parts.{told-cases}
 
 -- Digits
 
@@ -87,12 +88,9 @@ outcome-short (suc (suc (suc n))) h = simp length-append (omega (arith, numbered
 -- Count, badge and message
 
 told-short : (asked : Bool) (name : List ℕ) (n : ℕ) → n < 2 ^ 32 → length (told asked name n) ≤ length name + 10
-unfolding told
-told-short asked name n h = go (asked || not (eqb n 0)) refl
-  where
-    go : (b : Bool) → (asked || not (eqb n 0)) ≡ b → length (told asked name n) ≤ length name + 10
-    go true e = rw (e, length-append) (omega (arith, word-short n h))
-    go false e = rw e (omega arith)
+told-short asked name n h =
+    told-cases asked name n (λ (l : List ℕ). length l ≤ length name + 10)
+    (rw length-append (omega (arith, word-short n h))) (omega arith)
 
 details-short : (call : ℕ) (a : Answer) → Words a → length (details call a) ≤ 56
 unfolding bytes details

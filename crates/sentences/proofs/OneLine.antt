@@ -1,23 +1,23 @@
 -- A sentence is one line: printable ASCII, and a newline at its end.
 use Prim.Native.Nat.{ℕ, zero, suc}
-use mathlib.Core.Path.{_≡_, refl, sym, _∙_, ap}
-use mathlib.Core.Bool.{Bool, true, false, _&&_, _||_, not, and-assoc, and-eq-true-iff}
+use mathlib.Core.Path.{_≡_, refl}
+use mathlib.Core.Bool.{Bool, true, _&&_, and-eq-true-iff}
 use mathlib.Core.List.{List, [], _∷_, _++_, append-assoc}
 use native.Mathlib.Omega.{arith}
-use lib.Dec.{eqb, leb}
+use lib.Dec.{leb}
 use borrow.Author.Tests.{le-leb, leb-true}
 use Rattle.machine.specs.declared.Answer.{Answer}
 use Rattle.machine.specs.declared.Call.{Call}
 use Rattle.machine.specs.declared.Call.the-variants.{CreateThread, DestroyThread, SetPriority, CreateEndpoint}
 use Rattle.machine.specs.declared.Call.the-variants.{Interrupt, Tick, Send, Receive, Yield, Wait, Delete, Abort}
 use Rattle.machine.specs.Calls.{numberOf}
-use Rattle.machine.specs.Lists.{pick}
 use Rattle.texts.specs.Text.{bytes}
 use Rattle.texts.specs.Decimal.{decimal}
-use Rattle.texts.proofs.Apart.{all, isDigit, decimal-digits}
+use Rattle.texts.proofs.Apart.{all, all-append, isDigit, decimal-digits}
 use Rattle.sentences.specs.Sentence.{request, cause, outcome, told, asksCount, asksMessage, details}
 use Rattle.sentences.specs.Sentence.{sentence}
 use Rattle.sentences.proofs.Causes.{each-cause}
+use Rattle.sentences.proofs.Parts.{told-cases}
 
 -- From the space to the tilde.
 abbrev pub isPrintable : ℕ → Bool
@@ -27,10 +27,6 @@ pub record OneLine (line : List ℕ) : Type 0 where
   pub text : List ℕ
   pub whole : line ≡ text ++ (10 ∷ [])
   pub printable : all isPrintable text ≡ true
-
-all-is : (f : ℕ → Bool) (l r : List ℕ) → all f (l ++ r) ≡ (all f l && all f r)
-all-is f [] r = refl
-all-is f (d ∷ l) r = ap (λ (b : Bool). f d && b) (all-is f l r) ∙ sym (and-assoc (f d) (all f l) (all f r))
 
 -- A kind that a wider one has.
 all-wider :
@@ -53,18 +49,18 @@ decimal-printable n = all-wider isDigit isPrintable (decimal n) digit-printable 
 
 request-printable : (c : Call) → all isPrintable (request c) ≡ true
 unfolding request bytes
-request-printable (CreateThread t p) = simp (all-is, decimal-printable)
-request-printable (DestroyThread t) = simp (all-is, decimal-printable)
-request-printable (SetPriority t p) = simp (all-is, decimal-printable)
-request-printable (CreateEndpoint e) = simp (all-is, decimal-printable)
-request-printable (Interrupt l) = simp (all-is, decimal-printable)
+request-printable (CreateThread t p) = simp (all-append, decimal-printable)
+request-printable (DestroyThread t) = simp (all-append, decimal-printable)
+request-printable (SetPriority t p) = simp (all-append, decimal-printable)
+request-printable (CreateEndpoint e) = simp (all-append, decimal-printable)
+request-printable (Interrupt l) = simp (all-append, decimal-printable)
 request-printable Tick = refl
-request-printable (Send e b m) = simp (all-is, decimal-printable)
-request-printable (Receive e) = simp (all-is, decimal-printable)
+request-printable (Send e b m) = simp (all-append, decimal-printable)
+request-printable (Receive e) = simp (all-append, decimal-printable)
 request-printable Yield = refl
-request-printable (Wait l) = simp (all-is, decimal-printable)
-request-printable (Delete e a) = simp (all-is, decimal-printable)
-request-printable (Abort e a b) = simp (all-is, decimal-printable)
+request-printable (Wait l) = simp (all-append, decimal-printable)
+request-printable (Delete e a) = simp (all-append, decimal-printable)
+request-printable (Abort e a b) = simp (all-append, decimal-printable)
 
 cause-printable : (n : ℕ) → all isPrintable (cause n) ≡ true
 unfolding bytes
@@ -75,16 +71,12 @@ unfolding bytes outcome
 outcome-printable zero = refl
 outcome-printable (suc zero) = refl
 outcome-printable (suc (suc zero)) = refl
-outcome-printable (suc (suc (suc n))) = simp (all-is, decimal-printable, cause-printable)
+outcome-printable (suc (suc (suc n))) = simp (all-append, decimal-printable, cause-printable)
 
 told-printable :
     (asked : Bool) (name : List ℕ) (n : ℕ) → all isPrintable name ≡ true → all isPrintable (told asked name n) ≡ true
-unfolding told
-told-printable asked name n h = go (asked || not (eqb n 0))
-  where
-    go : (b : Bool) → all isPrintable (pick b (name ++ decimal n) []) ≡ true
-    go true = simp (all-is, h, decimal-printable)
-    go false = refl
+told-printable asked name n h =
+    told-cases asked name n (λ (l : List ℕ). all isPrintable l ≡ true) (simp (all-append, h, decimal-printable)) refl
 
 details-printable : (call : ℕ) (a : Answer) → all isPrintable (details call a) ≡ true
 unfolding bytes details
@@ -92,7 +84,7 @@ details-printable call a =
     let count = told-printable (asksCount call (a .code)) (bytes ", count ") (a .count) refl in
     let badge = told-printable (asksMessage call (a .code)) (bytes ", badge ") (a .badge) refl in
     let message = told-printable (asksMessage call (a .code)) (bytes ", message ") (a .message) refl in
-    simp (all-is, count, badge, message)
+    simp (all-append, count, badge, message)
 
 pub one-line : (c : Call) (a : Answer) → OneLine (sentence c a)
 unfolding bytes sentence
@@ -101,5 +93,5 @@ one-line c a =
       text = request c ++ (bytes ": " ++ (outcome (a .code) ++ (details (numberOf c) a ++ bytes ".")));
       whole = simp append-assoc;
       printable =
-          simp (all-is, request-printable, outcome-printable, details-printable);
+          simp (all-append, request-printable, outcome-printable, details-printable);
     }

@@ -14,18 +14,18 @@ use Rattle.sentences.specs.Sentence.{request, cause, outcome, told, asks
 use Rattle.sentences.specs.Sentence.{sentence, stopLine}
 use Rattle.sentences.proofs.Causes.{NoneOf}
 
--- What follows each part
+-- From each part on, by the call's number.
 
-abbrev pub fromDetails : Call → Answer → List ℕ
-fromDetails c a = details (numberOf c) a ++ bytes ".\n"
+abbrev pub fromDetails : ℕ → Answer → List ℕ
+fromDetails call a = details call a ++ bytes ".\n"
 
-abbrev pub fromOutcome : Call → Answer → List ℕ
-fromOutcome c a = outcome (a .code) ++ fromDetails c a
+abbrev pub fromOutcome : ℕ → Answer → List ℕ
+fromOutcome call a = outcome (a .code) ++ fromDetails call a
 
-abbrev pub fromColon : Call → Answer → List ℕ
-fromColon c a = bytes ": " ++ fromOutcome c a
+abbrev pub fromColon : ℕ → Answer → List ℕ
+fromColon call a = bytes ": " ++ fromOutcome call a
 
-pub sentence-is : (c : Call) (a : Answer) → sentence c a ≡ request c ++ fromColon c a
+pub sentence-is : (c : Call) (a : Answer) → sentence c a ≡ request c ++ fromColon (numberOf c) a
 unfolding sentence
 sentence-is c a = simp append-assoc
 
@@ -69,6 +69,14 @@ module _ (asked : Bool) (name : List ℕ) (n : ℕ) where
   pub told-left : (asked || not (eqb n 0)) ≡ false → told asked name n ≡ []
   unfolding told
   told-left e = rw e
+
+  -- What holds of the number behind its name, and of nothing, holds whether it is told or not.
+  pub told-cases : (P : List ℕ → Type 0) → P (name ++ decimal n) → P [] → P (told asked name n)
+  told-cases P said left = go (asked || not (eqb n 0)) refl
+    where
+      go : (b : Bool) → (asked || not (eqb n 0)) ≡ b → P (told asked name n)
+      go true e = rw (told-said e) said
+      go false e = rw (told-left e) left
 
 -- The calls of three numbers: a text and a number, and then two.
 

@@ -8,7 +8,7 @@ use Rattle.machine.specs.declared.Call.the-variants.{CreateThread, DestroyThrea
 use Rattle.machine.specs.declared.Call.the-variants.{Interrupt, Tick, Send, Receive, Yield, Wait, Delete, Abort}
 use Rattle.machine.specs.Lists.{pick}
 use Rattle.texts.specs.Text.{bytes}
-use Rattle.texts.proofs.Apart.{begins, numbersIn, reading}
+use Rattle.texts.proofs.Apart.{opensWith, numbersIn, reading}
 use Rattle.sentences.specs.Sentence.{request}
 
 -- How the requests begin, and the calls that they are, of the numbers in the order that they are said in.
@@ -31,13 +31,13 @@ readings x y z =
 -- The first that the text begins with.
 abbrev firstOf : List ℕ → List (List ℕ × Call) → Call
 firstOf l [] = Tick
-firstOf l (r ∷ rs) = pick (begins (r .0) l) (r .1) (firstOf l rs)
+firstOf l (r ∷ rs) = pick (opensWith (r .0) l) (r .1) (firstOf l rs)
 
-abbrev pub callIn : List ℕ → Call
-callIn l = firstOf l (readings (getD (numbersIn l) 0 0) (getD (numbersIn l) 1 0) (getD (numbersIn l) 2 0))
+abbrev pub callSaid : List ℕ → Call
+callSaid l = firstOf l (readings (getD (numbersIn l) 0 0) (getD (numbersIn l) 1 0) (getD (numbersIn l) 2 0))
 
 -- Reading the request gives the call, whatever follows its colon.
-pub call-read : (c : Call) (t : List ℕ) → callIn (request c ++ (bytes ": " ++ t)) ≡ c
+pub call-read : (c : Call) (t : List ℕ) → callSaid (request c ++ (bytes ": " ++ t)) ≡ c
 unfolding request bytes
 call-read (CreateThread x y) t = simp reading
 call-read (DestroyThread x) t = simp reading

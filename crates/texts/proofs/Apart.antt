@@ -1,7 +1,7 @@
 -- Numbers can be read back: two numbers, each followed by a byte that is no digit, are never the same bytes.
 use Prim.Native.Nat.{ℕ, zero, suc, _+_, _-_, _*_, _/_, _%_, _<_}
 use mathlib.Core.Path.{_≡_, refl, sym, _∙_, ap, subst}
-use mathlib.Core.Bool.{Bool, true, false, cond, _&&_, not, false≢true, and-eq-true-iff}
+use mathlib.Core.Bool.{Bool, true, false, cond, _&&_, not, false≢true, and-assoc, and-eq-true-iff, Bool·not-not}
 use mathlib.Core.Option.{Option, none, some}
 use mathlib.Core.List.{List, [], _∷_, _++_, append-assoc}
 use native.Mathlib.Omega.{arith}
@@ -12,6 +12,10 @@ use lib.Seq.{drop-append-seam}
 use borrow.Author.Tests.{le-leb, eq-eqb}
 use Rattle.texts.specs.Decimal.{digit, decimal, spaced}
 use Rattle.texts.proofs.Digits.{Digits, one, more, digits?, decimal-one, decimal-more, length-some}
+
+-- A test that fails where its opposite holds, and holds where that fails.
+pub opposite : (b : Bool) {c : Bool} → not b ≡ c → b ≡ not c
+opposite b e = sym (Bool·not-not b) ∙ ap not e
 
 -- Reading digits
 
@@ -56,11 +60,10 @@ abbrev pub Stops : (ℕ → Bool) → List ℕ → Type 0
 Stops f [] = Unit {0}
 Stops f (d ∷ l) = f d ≡ false
 
-all-append : (f : ℕ → Bool) (l r : List ℕ) → all f l ≡ true → all f r ≡ true → all f (l ++ r) ≡ true
-all-append f [] r p q = q
-all-append f (d ∷ l) r p q =
-    let h = and-eq-true-iff (f d) (all f l) .0 p in
-    rw (h .0) (all-append f l r (h .1) q)
+pub all-append : (f : ℕ → Bool) (l r : List ℕ) → all f (l ++ r) ≡ (all f l && all f r)
+all-append f [] r = refl
+all-append f (d ∷ l) r =
+    ap (λ (b : Bool). f d && b) (all-append f l r) ∙ sym (and-assoc (f d) (all f l) (all f r))
 
 -- The kind cannot both go on and stop.
 goes-on : (f : ℕ → Bool) (d : ℕ) (s t t′ : List ℕ) → all f (d ∷ s) ≡ true → Stops f t → t ≡ d ∷ (s ++ t′) → ⊥
@@ -94,8 +97,7 @@ digits-below (suc k) n h = go (digits? n) (digits-below k (n / 10))
     go : Digits n → (n / 10 < k → all isDigit (decimal (n / 10)) ≡ true) → all isDigit (decimal n) ≡ true
     go (one s) ih = rw (decimal-one n s) (digit-is n s)
     go (more l) ih =
-        rw (decimal-more n l)
-        (all-append isDigit (decimal (n / 10)) _ (ih (omega arith)) (digit-is (n % 10) (omega arith)))
+        rw (decimal-more n l, all-append, ih (omega arith)) (digit-is (n % 10) (omega arith))
 
 -- A number in decimal is digits alone.
 pub decimal-digits : (n : ℕ) → all isDigit (decimal n) ≡ true
@@ -132,14 +134,14 @@ read-apart write read {a} {a′} {t} {t′} p p′ e =
     (h, same-front (write a) t t′ (e ∙ ap (λ b. write b ++ t′) (sym h)))
 
 -- The text l begins with x.
-abbrev pub begins : List ℕ → List ℕ → Bool
-begins [] l = true
-begins (d ∷ x) [] = false
-begins (d ∷ x) (d′ ∷ l) = eqb d d′ && begins x l
+abbrev pub opensWith : List ℕ → List ℕ → Bool
+opensWith [] l = true
+opensWith (d ∷ x) [] = false
+opensWith (d ∷ x) (d′ ∷ l) = eqb d d′ && opensWith x l
 
-pub begins-same : (x t : List ℕ) → begins x (x ++ t) ≡ true
-begins-same [] t = refl
-begins-same (d ∷ x) t = rw (eq-eqb d d refl) (begins-same x t)
+pub opens-same : (x t : List ℕ) → opensWith x (x ++ t) ≡ true
+opens-same [] t = refl
+opens-same (d ∷ x) t = rw (eq-eqb d d refl) (opens-same x t)
 
 -- The numbers that a text says, in turn, the first of them begun by the digits before the text, if there were any.
 abbrev numbersFrom : Option ℕ → List ℕ → List ℕ
@@ -160,11 +162,7 @@ abbrev pub isPlain : ℕ → Bool
 isPlain d = not (isDigit d)
 
 pub plain-is : (d : ℕ) → isPlain d ≡ true → isDigit d ≡ false
-plain-is d e = go (isDigit d) e
-  where
-    go : (b : Bool) → not b ≡ true → b ≡ false
-    go true e = sym e
-    go false e = refl
+plain-is d e = opposite (isDigit d) e
 
 -- nor does a text without digits.
 pub numbers-plain : (x t : List ℕ) → all isPlain x ≡ true → numbersIn (x ++ t) ≡ numbersIn t

@@ -7,7 +7,8 @@ use lib.ListN.{length, take}
 use borrow.Author.Needs.{needs}
 use Rattle.lent_tables.specs.Entries.{lent}
 use Rattle.lister.specs.Feeding.{ready}
-use Rattle.lister.proofs.Holding.{not-so, so, stays, one-held, as-long, many, still-few, enough}
+use Rattle.texts.proofs.Apart.{opposite}
+use Rattle.lister.proofs.Holding.{stays, one-held, as-long, many, still-few, enough}
 use Rattle.lister.proofs.Holding.{not-yet, now-taken}
 use Rattle.lister.proofs.byte.Statement.{statement}
 use Rattle.lister.proofs.byte.Tie as tie
@@ -31,7 +32,7 @@ long c =
 
 -- where the bytes are ready, there are four
 yes : (c : tie.Else2) → ready (take (held c .hold .result .held) (held c .hold .result .bytes)) ≡ true
-yes c = sym (c .before .whole .ensures) ∙ so (c .before .whole .result) (c .if2 .left)
+yes c = sym (c .before .whole .ensures) ∙ opposite (c .before .whole .result) (c .if2 .left)
 
 four : (c : tie.Else2) → 4 ≤ held c .hold .result .held
 four c =
@@ -49,7 +50,7 @@ returns c =
         omega arith,
         stays (args .form) (args .from) (args .byte) (lent (args .tables .now) (args .scratch .now)) (args .out .now)
             (args .used)
-            (not-so (args .from .going) (c .if1 .taken)),
+            (opposite (args .from .going) (c .if1 .taken)),
       ),
     )
 
@@ -77,8 +78,8 @@ returns-2 c =
     let at-if1 = at-hold .before in
     let at-start = start at-hold in
     let args = at-start .args in
-    let going = so (args .from .going) (at-if1 .if1 .left) in
-    let no = sym (at-whole .whole .ensures) ∙ not-so (at-whole .whole .result) (c .if2 .taken) in (
+    let going = opposite (args .from .going) (at-if1 .if1 .left) in
+    let no = sym (at-whole .whole .ensures) ∙ opposite (at-whole .whole .result) (c .if2 .taken) in (
       (
         still-few (args .from) (args .byte) (at-start .pre .0) (at-start .pre .1) _ (at-hold .hold .ensures) no,
         long at-hold,
@@ -118,7 +119,7 @@ returns-3 c =
     let at-start = start at-hold in
     let args = at-start .args in
     let told = at-answer .answer .ensures in
-    let going = so (args .from .going) (at-if1 .if1 .left) in (
+    let going = opposite (args .from .going) (at-if1 .if1 .left) in (
       (omega (arith, told .0 .0), ap length (told .0 .1) ∙ long at-hold),
       (
         omega (arith, told .0 .0, told .0 .2, one at-hold, four at-if2),

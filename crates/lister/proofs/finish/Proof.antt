@@ -3,7 +3,7 @@ use mathlib.Core.List.{[]}
 use borrow.Author.Needs.{needs}
 use Rattle.lent_tables.specs.Entries.{lent}
 use Rattle.texts.proofs.Writing.{counts}
-use Rattle.lister.proofs.Holding.{not-so, so}
+use Rattle.texts.proofs.Apart.{opposite}
 use Rattle.lister.proofs.Taking.{stopped-ends, nothing-ends, held-ends}
 use Rattle.lister.proofs.finish.Statement.{statement}
 use Rattle.lister.proofs.finish.Tie as tie
@@ -14,7 +14,7 @@ returns c =
     let args = at-start .args in (
       counts (search needs),
       stopped-ends (args .form) (args .l) (lent (args .tables .now) []) (args .out .now)
-          (not-so (args .l .going) (c .if1 .taken)),
+          (opposite (args .l .going) (c .if1 .taken)),
     )
 
 returns-2 : tie.Need-returns-2
@@ -24,7 +24,7 @@ returns-2 c =
     let args = at-start .args in (
       counts (search needs),
       nothing-ends (args .form) (args .l) (lent (args .tables .now) []) (args .out .now)
-          (so (args .l .going) (at-if1 .if1 .left))
+          (opposite (args .l .going) (at-if1 .if1 .left))
           (c .if2 .taken),
     )
 
@@ -47,7 +47,7 @@ returns-3 c =
     let args = at-start .args in (
       counts (search needs),
       held-ends (args .form) (args .l) (lent (args .tables .now) []) (args .out .now)
-          (so (args .l .going) (at-if1 .if1 .left)) (at-if2 .if2 .left) (at-start .pre .1) _
+          (opposite (args .l .going) (at-if1 .if1 .left)) (at-if2 .if2 .left) (at-start .pre .1) _
           (at-running .running .ensures) _ _ (at-stop .stop .ensures .1),
     )
 

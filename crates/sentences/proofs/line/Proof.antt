@@ -31,25 +31,26 @@ fourth c = c .before .before
 
 room :
     (c : tie.Start)
-    → Room (c .args .out .now) 0 (request (c .args .call) ++ fromColon (c .args .call) (c .args .answer))
+    → Room (c .args .out .now) 0 (request (c .args .call) ++ fromColon (numberOf (c .args .call)) (c .args .answer))
 room c = room-is (sentence-is (c .args .call) (c .args .answer)) (c .pre)
 
 room₁ :
     (c : tie.After-request)
-    → Room (c .request .last .0) (c .request .result) (fromColon (start c .args .call) (start c .args .answer))
+    → Room (c .request .last .0) (c .request .result)
+    (fromColon (numberOf (start c .args .call)) (start c .args .answer))
 room₁ c = rest-room _ _ (room (start c)) (c .request .ensures)
 
 room₂ :
     (c : tie.After-say)
     → Room (c .say .last .0) (c .say .result)
-    (fromOutcome (start (first c) .args .call) (start (first c) .args .answer))
+    (fromOutcome (numberOf (start (first c) .args .call)) (start (first c) .args .answer))
 unfolding bytes
 room₂ c = rest-room _ _ (room₁ (first c)) (c .say .ensures)
 
 room₃ :
     (c : tie.After-outcome)
     → Room (c .outcome .last .0) (c .outcome .result)
-    (fromDetails (start (first (second c)) .args .call) (start (first (second c)) .args .answer))
+    (fromDetails (numberOf (start (first (second c)) .args .call)) (start (first (second c)) .args .answer))
 room₃ c = rest-room _ _ (room₂ (second c)) (c .outcome .ensures)
 
 -- The details go by the call's number.

@@ -1,11 +1,12 @@
 -- A buffer too short, a call out of range, and the line.
 use mathlib.Core.Path.{_≡_, sym, _∙_}
-use mathlib.Core.Bool.{Bool, true, false, not, false≢true}
+use mathlib.Core.Bool.{true}
 use native.Mathlib.Omega.{arith}
 use borrow.Author.Needs.{needs}
 use Rattle.machine.specs.Calls.{inRange}
 use Rattle.machine.proofs.Answers.{Words}
 use Rattle.texts.specs.Buffer.{Room}
+use Rattle.texts.proofs.Apart.{opposite}
 use Rattle.texts.proofs.Filing.{refused-files, refused-counts, wrote-files, wrote-counts}
 use Rattle.sentences.specs.Sentence.{sentence}
 use Rattle.sentences.proofs.Lengths.{sentence-fits}
@@ -22,18 +23,8 @@ words c =
     let told = c .good .1 .1 .0 .1 .1 in
     record { code = told .0 .1; count = told .1 .0 .1; badge = told .1 .1 .0 .1; message = told .1 .1 .1 .0 .1 }
 
--- What the test says of the call.
-
-denied : (b g : Bool) → b ≡ g → not b ≡ true → g ≡ false
-denied true g e h = absurd (false≢true h)
-denied false g e h = sym e
-
-granted : (b g : Bool) → b ≡ g → not b ≡ false → g ≡ true
-granted true g e h = sym e
-granted false g e h = absurd (false≢true (sym h))
-
 ranged : (c : tie.Else2) → inRange (start (c .before) .args .call) ≡ true
-ranged c = granted _ _ (c .before .in-range .ensures) (c .if2 .left)
+ranged c = sym (c .before .in-range .ensures) ∙ opposite _ (c .if2 .left)
 
 room :
     (c : tie.Else2)
@@ -72,7 +63,7 @@ returns-2 c =
     let is = c .refused2 .ensures in (
       refused-files _ is
           ∙ range-for _ _ _ (at-in-range .before .if1 .left)
-          (denied _ _ (at-in-range .in-range .ensures) (at-if2 .if2 .taken)),
+          (sym (at-in-range .in-range .ensures) ∙ opposite _ (at-if2 .if2 .taken)),
       refused-counts _ is,
     )
 
