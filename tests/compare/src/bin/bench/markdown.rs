@@ -112,13 +112,14 @@ impl Report<'_> {
         text
     }
 
-    /// The calls read from their words, and words that begin none.
-    fn readings(&self, unit: Unit) -> String {
+    /// Instructions of reading the calls from their words, and words that begin
+    /// none: too few for the clock.
+    fn readings(&self) -> String {
         let mut text = head(&["Call", "core", "second machine", "core : second"]);
         for (number, name) in (1..).zip(CALLS) {
             let name = if number == CALLS.len() { "no call, refused by 18" } else { name };
             let works = [Work::Read, Work::SecondRead];
-            let [core, second] = works.map(|work| (unit.work)(self.call(0, number), work));
+            let [core, second] = works.map(|work| self.call(0, number).count(work));
             let cells = [whole(core), whole(second), ratio(core, second)];
             text += &row(once(String::from(name)).chain(cells));
         }
@@ -163,9 +164,9 @@ impl Report<'_> {
             text += &format!("\n## Steps at a queue of senders, {}\n\n", unit.name);
             text += &self.queues(unit);
         }
-        for &unit in units {
-            text += &format!("\n## Reading a call, {}\n\n", unit.name);
-            text += &self.readings(unit);
+        if counted {
+            text += "\n## Reading a call, instructions\n\n";
+            text += &self.readings();
         }
         text
     }
