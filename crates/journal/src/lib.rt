@@ -12,7 +12,8 @@ ghost use mathlib.Core.Bool.{true};
 ghost use mathlib.Core.List.{_∷_, []};
 ghost use Prim.Native.Nat.{_<_};
 ghost use Rattle.machine.specs.Calls.{inRange};
-ghost use Rattle.journal.specs.Words.{numberIn, unused, sendOf, abortOf, callOf, callAt, wordsTaken, judged, readAt};
+ghost use Rattle.journal.specs.Words.{numberIn, unused, sendOf, abortOf, callOf, callAt};
+ghost use Rattle.journal.specs.Words.{wordsTaken, judged, readAt};
 ghost use Rattle.journal.specs.Words.{callWord, badgeWord, messageWord, asWritten, wordsOf, written};
 ghost use Rattle.journal.specs.Steps.{asNamed, callNamed, asNumber};
 
