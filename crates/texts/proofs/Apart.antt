@@ -13,7 +13,7 @@ use borrow.Author.Tests.{le-leb, eq-eqb}
 use Rattle.texts.specs.Decimal.{digit, decimal, spaced}
 use Rattle.texts.proofs.Digits.{Digits, one, more, digits?, decimal-one, decimal-more, length-some}
 
--- A test that fails where its opposite holds, and holds where that fails.
+-- A test fails where its opposite holds, and holds where that fails.
 pub opposite : (b : Bool) {c : Bool} → not b ≡ c → b ≡ not c
 opposite b e = sym (Bool·not-not b) ∙ ap not e
 
