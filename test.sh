@@ -2,8 +2,8 @@
 # Runs all tests: the second machine's own; then every crate is proved from nothing, every must-fail edit is tried and
 # every program is run; then the journals are listed, by the program and by the host in C, and told in sentences; the
 # desk's command and the documents' listings are tried; the library is looked at as compiled, tested from Rust, lent
-# damaged tables from C, and compared with the second machine over 2,000,000 calls; sentences are tried from C. The last
-# line is 'N passed, M failed'; the exit status is 0 only where nothing failed.
+# damaged tables and grants from C, and compared with the second machine over 2,000,000 calls; sentences are tried from
+# C. The last line is 'N passed, M failed'; the exit status is 0 only where nothing failed.
 set -eu
 cd "$(dirname "$0")"
 need() {

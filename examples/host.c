@@ -67,6 +67,7 @@ static void line(size_t index, uint32_t number, const struct nazsombet_answer *a
 int main(int argc, char **argv)
 {
     static uint32_t tables[NAZSOMBET_TABLES];
+    static uint32_t grants[NAZSOMBET_GRANTS];
     static uint32_t scratch[NAZSOMBET_SCRATCH];
     FILE *file = argc < 2 ? stdin : fopen(argv[1], "rb");
     if (file == NULL)
@@ -75,7 +76,7 @@ int main(int argc, char **argv)
     unsigned char *bytes = all_bytes(file, &length);
     uint32_t *journal = all_words(bytes, length / 4);
 
-    nazsombet_fresh(tables, NAZSOMBET_TABLES);
+    nazsombet_fresh(tables, NAZSOMBET_TABLES, grants, NAZSOMBET_GRANTS);
     printf("n call code count badge message running\n");
     struct nazsombet_numbers call;
     size_t at = 0;
@@ -83,7 +84,7 @@ int main(int argc, char **argv)
     uint32_t code;
     while ((code = nazsombet_read(journal, length / 4, &at, &call)) == NAZSOMBET_DONE) {
         struct nazsombet_answer answer;
-        nazsombet_call(tables, NAZSOMBET_TABLES, scratch, NAZSOMBET_SCRATCH, &call, &answer);
+        nazsombet_call(tables, NAZSOMBET_TABLES, grants, NAZSOMBET_GRANTS, scratch, NAZSOMBET_SCRATCH, &call, &answer);
         line(index, call.number, &answer, nazsombet_running(tables, NAZSOMBET_TABLES));
         index++;
     }

@@ -9,27 +9,33 @@
  *   - write up to 128 bytes below the stack pointer (the red zone of the x86-64 ABI). An interrupt that is taken on the
  *     same stack meanwhile overwrites them. Take interrupts on another stack (an IST entry), or mask them around every
  *     call; software that pushes onto this stack by itself, as signal delivery does, has to leave 128 bytes free.
- *   - use the SSE registers xmm0 and xmm1, and no wider, x87 or MMX ones. They are the caller's to save in C, but a
+ *   - use the SSE registers xmm0 to xmm9, and no wider, x87 or MMX ones. They are the caller's to save in C, but a
  *     kernel that does not save them for its user threads has to save them around a call, and SSE has to be enabled.
  *   - take less than 1 KiB of stack, memset's own apart, call nothing but memset, make no system call and no trap.
  *   - have no unwind tables: nothing can be thrown through them, and a debugger sees no frames.
  * tests/archive.sh tries each of these on the compiled library.
  *
- * Memory. The host owns all of it. It lends the tables (4,096 words) and a scratch (256 words); the library keeps no
- * pointer and no state between two calls, allocates nothing and does no input or output. All that the core
- * knows stands in the tables: they may be copied, stored and lent again elsewhere. What the scratch holds does not
- * matter. Nobody but the library is to write the tables: a change by hand is found out, by 17, unless it happens to
- * leave them sound.
+ * Memory. The host owns all of it. It lends the tables (4,096 words), the grants (16,384 words) and a scratch (256
+ * words); the library keeps no pointer and no state between two calls, allocates nothing and does no input or output.
+ * All that the core knows stands in the tables and the grants: they may be copied, stored and lent again elsewhere, the
+ * two together. What the scratch holds does not matter. Nobody but the library is to write tables or grants: a change
+ * by hand is found out, by 17, unless it happens to leave them sound.
+ *
+ * Grants. Word 64 * thread + endpoint says what that thread may do at that endpoint: its top four bits are the rights
+ * (1 send, 2 receive, 4 delete, 8 abort), its low 28 bits the badge under which it may send. 0 is no grant; a badge
+ * without any right is unsound, and every other word is sound. The host grants by call 13: it replaces the word, by 0
+ * where it grants no right, whatever the badge. Creating a thread clears its 64 words and creating an endpoint its 256;
+ * destroying and deleting clear none.
  *
  * Pointers. No pointer is null, not even with length 0. Each points to as many words as its length says, aligned as its
  * type asks. What a function writes overlaps nothing else that it is lent. This is all that the library relies on: any
  * length and any content is answered.
  *
  * Threads. The functions may run at the same time on different memory. While one runs nobody else writes what it was
- * lent, nor reads what it writes: one caller at a time for a pair of tables and scratch.
+ * lent, nor reads what it writes: one caller at a time for tables, grants and scratch that are lent together.
  *
- * Numbers. Every function but nazsombet_running answers one of the numbers below. Those of 16 to 27 are refusals: they
- * are tried in the order of the numbers, and they leave the tables as they were.
+ * Numbers. Every function but nazsombet_running answers one of the numbers below. Those of 16 to 29 are refusals: they
+ * are tried in the order of the numbers, but 29 right after 20, and they leave the tables and the grants as they were.
  */
 #ifndef NAZSOMBET_H
 #define NAZSOMBET_H
@@ -41,16 +47,17 @@
 extern "C" {
 #endif
 
-/* The words of the tables and of the scratch. */
+/* The words of the tables, of the grants and of the scratch. */
 #define NAZSOMBET_TABLES 4096
+#define NAZSOMBET_GRANTS 16384
 #define NAZSOMBET_SCRATCH 256
 
 /* What is answered. */
 #define NAZSOMBET_DONE 0
 #define NAZSOMBET_BLOCKED 1           /* the thread that called waits now */
 #define NAZSOMBET_BROKEN_OFF 2        /* delete, abort: the allowance is used up and work is left; call again */
-#define NAZSOMBET_LENGTH 16           /* the tables are not 4,096 words, or the scratch not 256: nothing is written */
-#define NAZSOMBET_UNSOUND 17          /* the tables are not sound: the scratch is zeroed, as by all that follow */
+#define NAZSOMBET_LENGTH 16           /* not 4,096 words of tables, 16,384 of grants, 256 of scratch: none is written */
+#define NAZSOMBET_UNSOUND 17          /* tables or grants are not sound: the scratch is zeroed, as by all that follow */
 #define NAZSOMBET_NO_CALL 18          /* numbers or words that are no call: number, unused part not 0, word missing */
 #define NAZSOMBET_RANGE 19            /* a number of the call is out of its range */
 #define NAZSOMBET_NOBODY_RUNS 20      /* a thread's call, 7 to 12, and none runs */
@@ -61,9 +68,10 @@ extern "C" {
 #define NAZSOMBET_ENDPOINT_CLOSING 25 /* it is being deleted */
 #define NAZSOMBET_BADGE_ABORTED 26    /* send: that badge is under abort there */
 #define NAZSOMBET_LINE_TAKEN 27       /* wait: the line has a waiter */
+#define NAZSOMBET_NO_RIGHT 29         /* send, receive, delete, abort: the thread lacks the right, or a send's badge */
 #define NAZSOMBET_ENDED 255           /* nazsombet_read alone: no word is left */
 
-/* The twelve calls. The host makes 1 to 6; 7 to 12 are those of the thread that runs. */
+/* The thirteen calls. The host makes 1 to 6 and 13; 7 to 12 are those of the thread that runs. */
 #define NAZSOMBET_CREATE_THREAD 1   /* subject: thread 0..255; argument: priority 0..255, higher is more urgent */
 #define NAZSOMBET_DESTROY_THREAD 2  /* subject: thread */
 #define NAZSOMBET_SET_PRIORITY 3    /* subject: thread; argument: priority */
@@ -76,14 +84,22 @@ extern "C" {
 #define NAZSOMBET_WAIT 10           /* subject: line */
 #define NAZSOMBET_DELETE 11         /* subject: endpoint; argument: allowance 1..65535, the waiters it may remove */
 #define NAZSOMBET_ABORT 12          /* subject: endpoint; argument: allowance, the waiters it may look at; badge */
+#define NAZSOMBET_GRANT 13          /* subject: thread; argument: endpoint; badge; rights 0..15 */
+
+/* Rights, to be added up. A send needs its right and the badge that was granted, the other three their right alone. */
+#define NAZSOMBET_RIGHT_SEND 1
+#define NAZSOMBET_RIGHT_RECEIVE 2
+#define NAZSOMBET_RIGHT_DELETE 4
+#define NAZSOMBET_RIGHT_ABORT 8 /* of any badge there */
 
 /* A call as plain numbers. What the call does not have is 0, or it is refused by 18. */
 struct nazsombet_numbers {
-    uint32_t number; /* 1 to 12 */
+    uint32_t number; /* 1 to 13 */
     uint32_t subject;
     uint32_t argument;
     uint32_t badge;
     uint32_t message;
+    uint32_t rights;
 };
 
 /* An answer. A refusal is its number and three zeros. */
@@ -94,30 +110,34 @@ struct nazsombet_answer {
     uint32_t message; /* the same */
 };
 
-/* The library sees five words, and four: no compiler may lay them out in another way. */
-typedef char nazsombet_five_words[sizeof(struct nazsombet_numbers) == 20 ? 1 : -1];
+/* The library sees six words, and four: no compiler may lay them out in another way. */
+typedef char nazsombet_six_words[sizeof(struct nazsombet_numbers) == 24 ? 1 : -1];
 typedef char nazsombet_four_words[sizeof(struct nazsombet_answer) == 16 ? 1 : -1];
 
 /* The answer of nazsombet_running where no thread runs. */
 #define NAZSOMBET_NOBODY 256
 
 /*
- * Makes the tables fresh, whatever they held: no thread, no endpoint, no pending line. 0, or 16 and they stay.
+ * Makes tables and grants fresh, whatever they held: no thread, no endpoint, no pending line, no grant. 0; or 16, if
+ * either has another length, and both stay.
  */
-uint32_t nazsombet_fresh(uint32_t *tables, size_t tables_length);
+uint32_t nazsombet_fresh(uint32_t *tables, size_t tables_length, uint32_t *grants, size_t grants_length);
 
 /*
- * Checks the tables, which are only read: 0 if they are sound, else 17; or 16. With 0 and 17 the scratch is zeroed.
+ * Checks tables and grants, which are only read: 0 if both are sound, else 17; or 16. With 0 and 17 the scratch is
+ * zeroed.
  */
-uint32_t nazsombet_check(const uint32_t *tables, size_t tables_length, uint32_t *scratch, size_t scratch_length);
+uint32_t nazsombet_check(const uint32_t *tables, size_t tables_length, const uint32_t *grants, size_t grants_length,
+                         uint32_t *scratch, size_t scratch_length);
 
 /*
- * Takes a call. The answer is written whole, and its code is returned too. The tables are checked first, every time.
- * With code 0, 1 or 2 the call is made, and the tables hold what came of it; with 16 and more they are as they were.
+ * Takes a call. The answer is written whole, and its code is returned too. Tables and grants are checked first, every
+ * time. With code 0, 1 or 2 the call is made, and they hold what came of it; with 16 and more they are as they were.
  * The scratch is zeroed, but with 16. Afterwards another thread may run: ask nazsombet_running.
  */
-uint32_t nazsombet_call(uint32_t *tables, size_t tables_length, uint32_t *scratch, size_t scratch_length,
-                        const struct nazsombet_numbers *call, struct nazsombet_answer *answer);
+uint32_t nazsombet_call(uint32_t *tables, size_t tables_length, uint32_t *grants, size_t grants_length,
+                        uint32_t *scratch, size_t scratch_length, const struct nazsombet_numbers *call,
+                        struct nazsombet_answer *answer);
 
 /*
  * Reads the call that begins at word *at of a journal. 0: the call is written, and *at goes to the first word behind

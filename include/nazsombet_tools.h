@@ -9,8 +9,9 @@
  * It uses nothing of the C library. What the function answers and leaves, for all lengths and contents, is proved of
  * its source, crates/tools_c/src/lib.rt. That this declaration fits it is tested only.
  *
- * It asks no tables. It keeps no pointer and no state between two calls, allocates nothing and does no input or output.
- * What nazsombet.h says of pointers and threads holds here too. What it says of a kernel was tried of the core alone.
+ * It asks neither tables nor grants. It keeps no pointer and no state between two calls, allocates nothing and does no
+ * input or output. What nazsombet.h says of pointers and threads holds here too. What it says of a kernel was tried of
+ * the core alone.
  */
 #ifndef NAZSOMBET_TOOLS_H
 #define NAZSOMBET_TOOLS_H

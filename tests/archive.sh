@@ -37,7 +37,9 @@ for locals in $(sed -n 's/.*sub *\$\(0x[0-9a-f]*\),%rsp$/\1/p' "$code"); do
 done
 holds "stack of $frames bytes under 1,024" "$([ "$frames" -lt 1024 ] && echo yes)" yes
 
-holds "the SSE registers used" "$(grep -oE '%xmm[0-9]+' "$code" | sort -u | tr '\n' ' ')" "%xmm0 %xmm1 "
+used=$(grep -oE '%xmm[0-9]+' "$code" | sed 's/%xmm//' | sort -n | tail -n 1)
+named=$(sed -n 's/.* use the SSE registers xmm0 to xmm\([0-9]*\), .*/\1/p' include/nazsombet.h)
+holds "the highest SSE register used, $used, is the one that the header names" "$used" "$named"
 holds "wider, x87 and MMX registers" "$(grep -oE '%(ymm|zmm|mm|st)[0-9(]*' "$code" | sort -u | tr '\n' ' ')" ""
 holds "writes below the stack pointer" "$(grep -qE 'mov.*,-0x[0-9a-f]+\(%rsp\)' "$code" && echo yes)" yes
 far=

@@ -1,9 +1,9 @@
 /*
- * damaged JOURNAL...: damaged tables are refused by 17 and left as they are, or they are sound and stay so.
+ * damaged JOURNAL...: damaged tables and grants are refused by 17 and left as they are, or they are sound and stay so.
  *
- * The journals' calls lead to full tables, of which some are kept; these are then damaged in every kind of way, checked
- * and called on. All that the library is lent lies between pages that nobody may touch: it is not compiled with a
- * sanitizer itself, and a step out of the lent words must end the program.
+ * The journals' calls lead to full tables, of which some are kept with their grants; these are then damaged in every
+ * kind of way, checked and called on. All that the library is lent lies between pages that nobody may touch: it is not
+ * compiled with a sanitizer itself, and a step out of the lent words must end the program.
  *
  *     sh tests/damaged.sh
  *
@@ -22,6 +22,7 @@
 
 enum {
     TABLES = NAZSOMBET_TABLES,
+    GRANTS = NAZSOMBET_GRANTS,
     SCRATCH = NAZSOMBET_SCRATCH,
     THREADS = 256,
     QUEUES = 320,
@@ -30,6 +31,7 @@ enum {
     CROWD = 20000,  /* calls by chance after a journal: tables are kept of these too */
     PLACED = 8000,  /* cases of random words in random places, for each seed */
     RANDOM = 1000,  /* cases of random words everywhere, for each seed */
+    GRANTED = 1000, /* cases of random grants, for each seed */
     COMPLAINTS = 20 /* printed in all */
 };
 
@@ -73,7 +75,8 @@ static struct room room(size_t words)
     return made;
 }
 
-static struct room tables_room, scratch_room, wrong_tables_room, wrong_scratch_room;
+static struct room tables_room, grants_room, scratch_room;
+static struct room wrong_tables_room, wrong_grants_room, wrong_scratch_room;
 static struct nazsombet_numbers *call;
 static struct nazsombet_answer *answer;
 
@@ -81,8 +84,10 @@ static struct nazsombet_answer *answer;
 static void make_rooms(void)
 {
     tables_room = room(TABLES);
+    grants_room = room(GRANTS);
     scratch_room = room(SCRATCH);
     wrong_tables_room = room(TABLES + 1);
+    wrong_grants_room = room(GRANTS + 1);
     wrong_scratch_room = room(SCRATCH + 1);
     call = (void *)(room(1).end - sizeof *call / sizeof(uint32_t));
     answer = (void *)(room(1).end - sizeof *answer / sizeof(uint32_t));
@@ -94,14 +99,21 @@ static uint32_t *lent(struct room room, size_t count)
     return below(2) == 0 ? room.start : room.end - count;
 }
 
-/* The tables of the case. */
-static uint32_t words[TABLES];
+/* The tables and the grants of the case. */
+static uint32_t words[TABLES], granted[GRANTS];
 
 static uint32_t *lent_tables(void)
 {
     uint32_t *tables = lent(tables_room, TABLES);
     memcpy(tables, words, sizeof words);
     return tables;
+}
+
+static uint32_t *lent_grants(void)
+{
+    uint32_t *grants = lent(grants_room, GRANTS);
+    memcpy(grants, granted, sizeof granted);
+    return grants;
 }
 
 static uint32_t *lent_scratch(void)
@@ -111,9 +123,9 @@ static uint32_t *lent_scratch(void)
     return scratch;
 }
 
-static int unchanged(const uint32_t *tables)
+static int unchanged(const uint32_t *tables, const uint32_t *grants)
 {
-    return memcmp(tables, words, sizeof words) == 0;
+    return memcmp(tables, words, sizeof words) == 0 && memcmp(grants, granted, sizeof granted) == 0;
 }
 
 static int zeroed(const uint32_t *scratch)
@@ -132,13 +144,15 @@ struct kind {
     unsigned long wrong;
 };
 
-enum { KINDS = 5 };
+enum { KINDS = 7 };
 
 static struct kind kinds[KINDS] = {
     {"every single word", 1, 0, 0, 0},
     {"random words in random places", 1, 0, 0, 0},
     {"cycles and crossed links", 0, 0, 0, 0},
     {"random words everywhere", 0, 0, 0, 0},
+    {"every single grant", 1, 0, 0, 0},
+    {"random grants in random places", 1, 0, 0, 0},
     {"lengths", 0, 0, 0, 0},
 };
 
@@ -155,36 +169,92 @@ static void expect(int holds, const char *what)
         printf("failed: %s, case %lu: %s\n", kind->name, kind->refused + kind->sound, what);
 }
 
-/* Cases of the five kinds. */
+/* Calls. */
 
-static const struct nazsombet_numbers out_of_range = {NAZSOMBET_WAIT, 32, 0, 0, 0};
+static const struct nazsombet_numbers out_of_range = {NAZSOMBET_WAIT, 32, 0, 0, 0, 0};
 
 /* Any call that is in range. */
 static struct nazsombet_numbers any_call(void)
 {
-    static const uint16_t subjects[] = {1, 256, 256, 256, 64, 32, 1, 64, 64, 1, 32, 64, 64};
-    uint32_t number = 1 + below(12);
-    struct nazsombet_numbers any = {number, below(subjects[number]), 0, 0, 0};
+    static const uint16_t subjects[] = {1, 256, 256, 256, 64, 32, 1, 64, 64, 1, 32, 64, 64, 256};
+    uint32_t number = 1 + below(13);
+    struct nazsombet_numbers any = {number, below(subjects[number]), 0, 0, 0, 0};
     if (number == NAZSOMBET_CREATE_THREAD || number == NAZSOMBET_SET_PRIORITY)
         any.argument = below(256);
     if (number == NAZSOMBET_DELETE || number == NAZSOMBET_ABORT)
         any.argument = 1 + below(below(2) ? 3 : 65535);
-    if (number == NAZSOMBET_SEND || number == NAZSOMBET_ABORT)
+    if (number == NAZSOMBET_SEND || number == NAZSOMBET_ABORT || number == NAZSOMBET_GRANT)
         any.badge = below(4);
     if (number == NAZSOMBET_SEND)
         any.message = below(1 << 28);
+    if (number == NAZSOMBET_GRANT) {
+        any.argument = below(ENDPOINTS);
+        any.rights = below(16);
+    }
     return any;
 }
 
-/* Whether a call on tables that were checked so may be answered so. */
-static int may_answer(uint32_t checked, uint32_t code)
+/* The right that a call needs, or 0. */
+static uint32_t right_for(uint32_t number)
+{
+    switch (number) {
+    case NAZSOMBET_SEND:
+        return NAZSOMBET_RIGHT_SEND;
+    case NAZSOMBET_RECEIVE:
+        return NAZSOMBET_RIGHT_RECEIVE;
+    case NAZSOMBET_DELETE:
+        return NAZSOMBET_RIGHT_DELETE;
+    case NAZSOMBET_ABORT:
+        return NAZSOMBET_RIGHT_ABORT;
+    default:
+        return 0;
+    }
+}
+
+static uint32_t *grant_of(uint32_t *grants, uint32_t thread, uint32_t endpoint)
+{
+    return grants + ENDPOINTS * thread + endpoint;
+}
+
+/* Whether the call, which is in range, must be refused by 29 on the case's tables and grants, which are sound. */
+static int lacks(uint32_t running)
+{
+    uint32_t right = right_for(call->number);
+    if (right == 0 || running == NAZSOMBET_NOBODY)
+        return 0;
+    uint32_t grant = *grant_of(granted, running, call->subject);
+    int other = call->number == NAZSOMBET_SEND && grant % (1 << 28) != call->badge;
+    return (grant >> 28 & right) == 0 || other;
+}
+
+/* Whether a call on tables and grants that were checked so may be answered so. */
+static int may_answer(uint32_t checked, uint32_t running, uint32_t code)
 {
     if (checked == NAZSOMBET_UNSOUND)
         return code == NAZSOMBET_UNSOUND;
     if (memcmp(call, &out_of_range, sizeof *call) == 0)
         return code == NAZSOMBET_RANGE;
+    if (lacks(running))
+        return code == NAZSOMBET_NO_RIGHT;
     return code <= NAZSOMBET_BROKEN_OFF || (code >= NAZSOMBET_NOBODY_RUNS && code <= NAZSOMBET_LINE_TAKEN);
 }
+
+/* The grants after the call was made on those of the case. */
+static const uint32_t *grants_left(void)
+{
+    static uint32_t left[GRANTS];
+    memcpy(left, granted, sizeof left);
+    if (call->number == NAZSOMBET_CREATE_THREAD)
+        memset(grant_of(left, call->subject, 0), 0, ENDPOINTS * sizeof *left);
+    if (call->number == NAZSOMBET_CREATE_ENDPOINT)
+        for (uint32_t thread = 0; thread < THREADS; thread++)
+            *grant_of(left, thread, call->subject) = 0;
+    if (call->number == NAZSOMBET_GRANT)
+        *grant_of(left, call->subject, call->argument) = call->rights == 0 ? 0 : call->rights << 28 | call->badge;
+    return left;
+}
+
+/* Cases. */
 
 static void expect_refusal(uint32_t code)
 {
@@ -192,47 +262,58 @@ static void expect_refusal(uint32_t code)
            "a refusal is its number and three zeros");
 }
 
-/* One call on the case's tables. */
+/* What an accepted call has left. */
+static void expect_sound(const uint32_t *tables, const uint32_t *grants)
+{
+    uint32_t *scratch = lent_scratch();
+    uint32_t code = nazsombet_check(tables, TABLES, grants, GRANTS, scratch, SCRATCH);
+    expect(code == NAZSOMBET_DONE, "tables and grants after a call");
+    expect(zeroed(scratch), "the scratch after the second check");
+    expect(memcmp(grants, grants_left(), sizeof granted) == 0, "the grants after a call");
+}
+
+/* One call on the case's tables and grants. */
 static void try_call(uint32_t checked, struct nazsombet_numbers numbers)
 {
     uint32_t *tables = lent_tables();
+    uint32_t *grants = lent_grants();
     uint32_t *scratch = lent_scratch();
+    uint32_t running = nazsombet_running(tables, TABLES);
     *call = numbers;
     memset(answer, 0xA5, sizeof *answer);
-    uint32_t code = nazsombet_call(tables, TABLES, scratch, SCRATCH, call, answer);
-    expect(may_answer(checked, code), "the answer");
+    uint32_t code = nazsombet_call(tables, TABLES, grants, GRANTS, scratch, SCRATCH, call, answer);
+    expect(may_answer(checked, running, code), "the answer");
     expect(answer->code == code, "the answer that is written");
     expect(memcmp(call, &numbers, sizeof *call) == 0, "the call is left as it was");
     expect(zeroed(scratch), "the scratch after the call");
     if (code >= NAZSOMBET_LENGTH) {
         expect_refusal(code);
-        expect(unchanged(tables), "the tables after a refusal");
+        expect(unchanged(tables, grants), "tables and grants after a refusal");
     } else {
-        scratch = lent_scratch();
-        expect(nazsombet_check(tables, TABLES, scratch, SCRATCH) == NAZSOMBET_DONE, "the tables after a call");
-        expect(zeroed(scratch), "the scratch after the second check");
+        expect_sound(tables, grants);
     }
 }
 
 static uint32_t try_check(void)
 {
     uint32_t *tables = lent_tables();
+    uint32_t *grants = lent_grants();
     uint32_t *scratch = lent_scratch();
-    uint32_t code = nazsombet_check(tables, TABLES, scratch, SCRATCH);
+    uint32_t code = nazsombet_check(tables, TABLES, grants, GRANTS, scratch, SCRATCH);
     expect(code == NAZSOMBET_DONE || code == NAZSOMBET_UNSOUND, "the check");
-    expect(unchanged(tables), "the tables after the check");
+    expect(unchanged(tables, grants), "tables and grants after the check");
     expect(zeroed(scratch), "the scratch after the check");
     uint32_t running = nazsombet_running(tables, TABLES);
     expect(running <= NAZSOMBET_NOBODY, "the thread that runs");
     return code;
 }
 
-/* Checks the case's tables and calls on them. */
-static void try(void)
+/* Checks the case's tables and grants and calls on them; the check's answer. */
+static uint32_t try(void)
 {
-    static const struct nazsombet_numbers tick = {NAZSOMBET_TICK, 0, 0, 0, 0};
-    static const struct nazsombet_numbers yield = {NAZSOMBET_YIELD, 0, 0, 0, 0};
-    struct nazsombet_numbers an_abort = {NAZSOMBET_ABORT, below(ENDPOINTS), 2, 0, 0};
+    static const struct nazsombet_numbers tick = {NAZSOMBET_TICK, 0, 0, 0, 0, 0};
+    static const struct nazsombet_numbers yield = {NAZSOMBET_YIELD, 0, 0, 0, 0, 0};
+    struct nazsombet_numbers an_abort = {NAZSOMBET_ABORT, below(ENDPOINTS), 2, 0, 0, 0};
     an_abort.badge = below(4);
     uint32_t checked = try_check();
     try_call(checked, tick);
@@ -244,6 +325,7 @@ static void try(void)
         kind->sound++;
     else
         kind->refused++;
+    return checked;
 }
 
 /* Every single word. */
@@ -457,15 +539,72 @@ static void links(const uint32_t *seed)
         abort_marks(seed, endpoint);
 }
 
+/* Grants, beside sound tables. */
+
+static int sound_grant(uint32_t word)
+{
+    return word == 0 || word >= 1 << 28;
+}
+
+/* The seed's number from 0, and how many there are: together they go through every single grant. */
+static int seed_number, seeds_number;
+
+static void single_grants(const uint32_t *seed)
+{
+    static const uint32_t others[] = {0, 1, (1 << 28) - 1, 1 << 28, UINT32_MAX};
+    (void)seed;
+    for (int at = seed_number; at < GRANTS; at += seeds_number) {
+        uint32_t kept = granted[at];
+        for (size_t n = 0; n < sizeof others / sizeof *others; n++) {
+            granted[at] = others[n];
+            expect((try() == NAZSOMBET_DONE) == sound_grant(others[n]), "whether the grant is sound");
+        }
+        granted[at] = kept;
+    }
+}
+
+/* A word of any size, one that grants nothing, or one that stands elsewhere in the grants. */
+static uint32_t some_grant(void)
+{
+    switch (below(8)) {
+    case 0:
+        return below(1 << 28);
+    case 1:
+        return granted[below(GRANTS)];
+    default:
+        return chance();
+    }
+}
+
+static void random_grants(const uint32_t *seed)
+{
+    static uint32_t kept[GRANTS];
+    (void)seed;
+    memcpy(kept, granted, sizeof kept);
+    for (int n = 0; n < GRANTED; n++) {
+        int sound = 1;
+        for (uint32_t changes = 1 + below(6); changes > 0; changes--) {
+            uint32_t word = some_grant();
+            sound &= sound_grant(word);
+            /* Never twice into the same word. */
+            granted[8 * below(GRANTS / 8) + changes] = word;
+        }
+        expect((try() == NAZSOMBET_DONE) == sound, "whether the grants are sound");
+        memcpy(granted, kept, sizeof kept);
+    }
+}
+
 /* Lengths. */
 
-/* What is lent, as far as it goes: the case's tables and a word more, and junk. */
-static uint32_t tables_copy[TABLES + 1], scratch_copy[SCRATCH + 1];
+/* What is lent, as far as it goes: the case's tables and grants and a word more of each, and junk. */
+static uint32_t tables_copy[TABLES + 1], grants_copy[GRANTS + 1], scratch_copy[SCRATCH + 1];
 
 static void make_copies(void)
 {
     memcpy(tables_copy, words, sizeof words);
     tables_copy[TABLES] = chance();
+    memcpy(grants_copy, granted, sizeof granted);
+    grants_copy[GRANTS] = chance();
     for (int at = 0; at <= SCRATCH; at++)
         scratch_copy[at] = chance();
 }
@@ -477,37 +616,57 @@ static uint32_t *lent_copy(struct room room, const uint32_t *copy, size_t count)
     return to;
 }
 
-static void try_lengths(size_t tables_length, size_t scratch_length)
+/* Memory that is lent, between guard pages, and what it holds. */
+struct memory {
+    struct room room;
+    const uint32_t *copy;
+    size_t length;
+    uint32_t *lent;
+};
+
+static void try_lengths(struct memory t, struct memory g, struct memory s)
 {
-    uint32_t *tables = lent_copy(wrong_tables_room, tables_copy, tables_length);
-    uint32_t *scratch = lent_copy(wrong_scratch_room, scratch_copy, scratch_length);
+    struct memory *all[] = {&t, &g, &s};
+    for (int n = 0; n < 3; n++)
+        all[n]->lent = lent_copy(all[n]->room, all[n]->copy, all[n]->length);
     *call = any_call();
     memset(answer, 0xA5, sizeof *answer);
-    expect(nazsombet_check(tables, tables_length, scratch, scratch_length) == NAZSOMBET_LENGTH, "the check");
-    uint32_t code = nazsombet_call(tables, tables_length, scratch, scratch_length, call, answer);
+    uint32_t code = nazsombet_check(t.lent, t.length, g.lent, g.length, s.lent, s.length);
+    expect(code == NAZSOMBET_LENGTH, "the check");
+    code = nazsombet_call(t.lent, t.length, g.lent, g.length, s.lent, s.length, call, answer);
     expect(code == NAZSOMBET_LENGTH, "the call");
     expect_refusal(NAZSOMBET_LENGTH);
-    if (tables_length != TABLES) {
-        expect(nazsombet_fresh(tables, tables_length) == NAZSOMBET_LENGTH, "make fresh");
-        expect(nazsombet_running(tables, tables_length) == NAZSOMBET_NOBODY, "the thread that runs");
-    }
-    expect(memcmp(tables, tables_copy, tables_length * sizeof *tables) == 0, "the tables");
-    expect(memcmp(scratch, scratch_copy, scratch_length * sizeof *scratch) == 0, "the scratch");
+    if (t.length != TABLES || g.length != GRANTS)
+        expect(nazsombet_fresh(t.lent, t.length, g.lent, g.length) == NAZSOMBET_LENGTH, "make fresh");
+    if (t.length != TABLES)
+        expect(nazsombet_running(t.lent, t.length) == NAZSOMBET_NOBODY, "the thread that runs");
+    for (int n = 0; n < 3; n++)
+        expect(memcmp(all[n]->lent, all[n]->copy, all[n]->length * sizeof(uint32_t)) == 0, "what was lent");
     kind->refused++;
+}
+
+/* Each of the three of every length, but for all of the right one. */
+static void all_lengths(void)
+{
+    static const size_t tables[] = {0, 1, TABLES - 1, TABLES, TABLES + 1};
+    static const size_t grants[] = {0, 1, GRANTS - 1, GRANTS, GRANTS + 1};
+    static const size_t scratches[] = {0, 1, SCRATCH - 1, SCRATCH, SCRATCH + 1};
+    for (int n = 0; n < 125; n++) {
+        struct memory t = {wrong_tables_room, tables_copy, tables[n / 25], NULL};
+        struct memory g = {wrong_grants_room, grants_copy, grants[n / 5 % 5], NULL};
+        struct memory s = {wrong_scratch_room, scratch_copy, scratches[n % 5], NULL};
+        if (t.length != TABLES || g.length != GRANTS || s.length != SCRATCH)
+            try_lengths(t, g, s);
+    }
 }
 
 /* On sound tables and on unsound ones: 16 comes before 17. */
 static void lengths(const uint32_t *seed)
 {
-    static const size_t tables[] = {0, 1, TABLES - 1, TABLES, TABLES + 1};
-    static const size_t scratches[] = {0, 1, SCRATCH - 1, SCRATCH, SCRATCH + 1};
     for (int sound = 0; sound < 2; sound++) {
         words[0] = sound ? seed[0] : UINT32_MAX;
         make_copies();
-        for (int t = 0; t < 5; t++)
-            for (int s = 0; s < 5; s++)
-                if (tables[t] != TABLES || scratches[s] != SCRATCH)
-                    try_lengths(tables[t], scratches[s]);
+        all_lengths();
     }
 }
 
@@ -534,10 +693,11 @@ static size_t read_journal(const char *name)
     return count;
 }
 
-/* Sound tables that calls have led to. */
+/* Sound tables and grants that calls have led to. */
 struct seed {
     unsigned depth;
     uint32_t words[TABLES];
+    uint32_t grants[GRANTS];
 };
 
 /* How much is going on in the tables: the words in use, and an abort under way for many. */
@@ -547,20 +707,36 @@ static unsigned depth(const uint32_t *tables)
     for (int at = 0; at < TABLES; at++)
         sum += tables[at] != 0;
     for (int endpoint = 0; endpoint < ENDPOINTS; endpoint++)
-        sum += 20 * (tables[endpoint_word(endpoint, CURSOR)] != 0);
+        sum += 100 * (tables[endpoint_word(endpoint, CURSOR)] != 0);
     return sum;
 }
 
-/* Makes the call; the tables that it leaves are kept if more is going on in them. */
+/* Makes the call; tables and grants that it leaves are kept if more is going on in the tables. */
 static void make_call(struct seed *seed)
 {
     uint32_t *tables = tables_room.start;
-    nazsombet_call(tables, TABLES, scratch_room.start, SCRATCH, call, answer);
+    uint32_t *grants = grants_room.start;
+    nazsombet_call(tables, TABLES, grants, GRANTS, scratch_room.start, SCRATCH, call, answer);
     unsigned found = depth(tables);
     if (found > seed->depth) {
         seed->depth = found;
         memcpy(seed->words, tables, sizeof seed->words);
+        memcpy(seed->grants, grants, sizeof seed->grants);
     }
+}
+
+/* A call by chance. Whoever runs is granted first what it needs: else hardly any thread would come to wait. */
+static void make_any_call(struct seed *seed)
+{
+    struct nazsombet_numbers any = any_call();
+    uint32_t running = nazsombet_running(tables_room.start, TABLES);
+    if (right_for(any.number) != 0 && running != NAZSOMBET_NOBODY) {
+        struct nazsombet_numbers grant = {NAZSOMBET_GRANT, running, any.subject, any.badge, 0, 15};
+        *call = grant;
+        make_call(seed);
+    }
+    *call = any;
+    make_call(seed);
 }
 
 /* Makes a journal's calls from fresh tables, then calls by chance: a seed of each part, and one of the crowd. */
@@ -568,35 +744,44 @@ static void run_journal(const char *name, struct seed seeds[PARTS + 1])
 {
     size_t count = read_journal(name);
     const uint32_t *journal = journal_room.end - count;
-    nazsombet_fresh(tables_room.start, TABLES);
+    nazsombet_fresh(tables_room.start, TABLES, grants_room.start, GRANTS);
     for (size_t at = 0; nazsombet_read(journal, count, &at, call) == NAZSOMBET_DONE;)
         make_call(&seeds[(at - 1) * PARTS / count]);
-    for (int n = 0; n < CROWD; n++) {
-        *call = any_call();
-        make_call(&seeds[PARTS]);
-    }
+    for (int n = 0; n < CROWD; n++)
+        make_any_call(&seeds[PARTS]);
 }
 
-static void print_seed(const char *name, const uint32_t *tables)
+static void print_seed(const char *name, const struct seed *seed)
 {
     int threads = 0;
     int aborts = 0;
+    int grants = 0;
     for (int thread = 0; thread < THREADS; thread++)
-        threads += tables[thread_word(thread, 0)] != 0;
+        threads += seed->words[thread_word(thread, 0)] != 0;
     for (int endpoint = 0; endpoint < ENDPOINTS; endpoint++)
-        aborts += tables[endpoint_word(endpoint, CURSOR)] != 0;
-    printf("%s: threads %d, aborts under way %d\n", name, threads, aborts);
+        aborts += seed->words[endpoint_word(endpoint, CURSOR)] != 0;
+    for (int at = 0; at < GRANTS; at++)
+        grants += seed->grants[at] != 0;
+    printf("%s: threads %d, aborts under way %d, grants %d\n", name, threads, aborts, grants);
 }
 
-static void damage(const uint32_t *seed)
+/* The seed's grants; where there is none, every right under a badge by chance, so that calls are made. */
+static void make_grants(const uint32_t *grants)
+{
+    for (int at = 0; at < GRANTS; at++)
+        granted[at] = grants[at] != 0 ? grants[at] : 0xF0000000 | below(4);
+}
+
+static void damage(const struct seed *seed)
 {
     static void (*const ways[KINDS])(const uint32_t *) = {
-        single_words, random_places, links, random_everywhere, lengths,
+        single_words, random_places, links, random_everywhere, single_grants, random_grants, lengths,
     };
+    make_grants(seed->grants);
     for (int n = 0; n < KINDS; n++) {
         kind = &kinds[n];
-        memcpy(words, seed, sizeof words);
-        ways[n](seed);
+        memcpy(words, seed->words, sizeof words);
+        ways[n](seed->words);
     }
 }
 
@@ -613,8 +798,9 @@ static void damage_all(const char *name)
     memset(seeds, 0, sizeof seeds);
     run_journal(name, seeds);
     for (int n = 0; n <= PARTS; n++) {
-        print_seed(name, seeds[n].words);
-        damage(seeds[n].words);
+        print_seed(name, &seeds[n]);
+        damage(&seeds[n]);
+        seed_number++;
     }
 }
 
@@ -623,6 +809,7 @@ int main(int argc, char **argv)
     if (argc < 2)
         complain("usage: damaged JOURNAL...");
     make_rooms();
+    seeds_number = (argc - 1) * (PARTS + 1);
     for (int n = 1; n < argc; n++)
         damage_all(argv[n]);
     int right = 0;

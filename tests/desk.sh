@@ -58,7 +58,7 @@ to_closed_pipe() {
 }
 told_to_full() { desk tell "$example.words" >/dev/full; }
 words_to_full() { desk words 11030064 >/dev/full; }
-words_listed() { desk words 11030064 14070000 18070000 | desk list; }
+words_listed() { desk words 11030064 14070000 1D030207 20000000 18070000 | desk list; }
 
 # By somebody who may not read all files: for the superuser every file is readable. The command stands in a folder that
 # anybody may enter, with the program built.
@@ -78,7 +78,10 @@ chmod -R a+rX "$work"
 chmod 000 "$work/secret"
 cat "$example.txt" tests/journals/incident.txt >"$work/both"
 cat "$example.told" tests/journals/incident.told >"$work/both_told"
-printf 'n call code count badge message running\n0 1 0 0 0 0 3\n1 4 0 0 0 0 3\n2 8 1 0 0 0 -\n' >"$work/three"
+{
+    echo 'n call code count badge message running'
+    printf '%s\n' '0 1 0 0 0 0 3' '1 4 0 0 0 0 3' '2 13 0 0 0 0 3' '3 8 1 0 0 0 -'
+} >"$work/listed"
 printf '\144\000\003\021' >"$work/word"
 : >"$work/empty"
 
@@ -117,7 +120,7 @@ for shell in sh bash; do
     status_is "words" 0 desk words 11030064
     output_is "$work/word"
     status_is "words listed" 0 words_listed
-    output_is "$work/three"
+    output_is "$work/listed"
     status_is "seven digits" 2 desk words 1103006
     output_is "$work/empty"
     status_is "no digit" 2 desk words 1103006G

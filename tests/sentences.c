@@ -7,7 +7,7 @@
  *
  *     sh tests/sentences.sh
  *
- * Given a file's name, it writes each case there with its line: the five numbers and the four, a tab and the line.
+ * Given a file's name, it writes each case there with its line: the six numbers and the four, a tab and the line.
  * Prints how often each thing was judged; the last line is 'sentences: N passed, M failed', by kinds of judgement, and
  * the exit status is 0 only where none failed.
  */
@@ -22,7 +22,7 @@ enum {
     ROOM = NAZSOMBET_SENTENCE_ROOM,
     LARGE = 300,     /* a buffer with more room than is asked for */
     MARGIN = 64,     /* known bytes before the buffer and behind it */
-    LINES = 36720,   /* 40 calls, 34 codes, 27 triples of count, badge and message */
+    LINES = 51408,   /* 56 calls, 34 codes, 27 triples of count, badge and message */
     COMPLAINTS = 20  /* printed in all */
 };
 
@@ -75,6 +75,15 @@ static struct {
 static struct nazsombet_numbers call;
 static struct nazsombet_answer answer;
 
+/* The six numbers of the call and the four of the answer. */
+static void write_numbers(FILE *file)
+{
+    fprintf(file, "%" PRIu32 " %" PRIu32 " %" PRIu32 " %" PRIu32 " %" PRIu32 " %" PRIu32, call.number, call.subject,
+            call.argument, call.badge, call.message, call.rights);
+    fprintf(file, " %" PRIu32 " %" PRIu32 " %" PRIu32 " %" PRIu32, answer.code, answer.count, answer.badge,
+            answer.message);
+}
+
 static void judge(enum judgement kind, int holds)
 {
     static int complaints;
@@ -82,11 +91,11 @@ static void judge(enum judgement kind, int holds)
     if (holds)
         return;
     judged[kind].wrong++;
-    if (complaints++ < COMPLAINTS)
-        printf("failed: %s: call %" PRIu32 " %" PRIu32 " %" PRIu32 " %" PRIu32 " %" PRIu32 ", answer %" PRIu32
-               " %" PRIu32 " %" PRIu32 " %" PRIu32 "\n",
-               judged[kind].name, call.number, call.subject, call.argument, call.badge, call.message, answer.code,
-               answer.count, answer.badge, answer.message);
+    if (complaints++ < COMPLAINTS) {
+        printf("failed: %s: ", judged[kind].name);
+        write_numbers(stdout);
+        printf("\n");
+    }
 }
 
 /* The buffer and what is around it; it begins at each of eight alignments in turn. */
@@ -126,47 +135,49 @@ static uint32_t ask(size_t length)
     return code;
 }
 
-/* The twelve calls, by nazsombet.h. */
+/* The thirteen calls, by nazsombet.h. */
 
-enum part { NONE, THREAD, PRIORITY, ENDPOINT, LINE, ALLOWANCE, BADGE, MESSAGE };
+enum part { NONE, THREAD, PRIORITY, ENDPOINT, LINE, ALLOWANCE, BADGE, MESSAGE, RIGHTS };
 
 /* Both are inside. */
 static const struct {
     uint32_t lowest;
     uint32_t largest;
 } ranges[] = {
-    {0, 0}, {0, 255}, {0, 255}, {0, 63}, {0, 31}, {1, 65535}, {0, (1 << 28) - 1}, {0, (1 << 28) - 1},
+    {0, 0}, {0, 255}, {0, 255}, {0, 63}, {0, 31}, {1, 65535}, {0, (1 << 28) - 1}, {0, (1 << 28) - 1}, {0, 15},
 };
 
-enum { CALLS = 12, PARTS = 4 };
+enum { CALLS = 13, PARTS = 5 };
 
-/* Of each call subject, argument, badge and message. */
+/* Of each call subject, argument, badge, message and rights. */
 static const enum part shapes[CALLS + 1][PARTS] = {
-    {NONE, NONE, NONE, NONE},
-    {THREAD, PRIORITY, NONE, NONE},
-    {THREAD, NONE, NONE, NONE},
-    {THREAD, PRIORITY, NONE, NONE},
-    {ENDPOINT, NONE, NONE, NONE},
-    {LINE, NONE, NONE, NONE},
-    {NONE, NONE, NONE, NONE},
-    {ENDPOINT, NONE, BADGE, MESSAGE},
-    {ENDPOINT, NONE, NONE, NONE},
-    {NONE, NONE, NONE, NONE},
-    {LINE, NONE, NONE, NONE},
-    {ENDPOINT, ALLOWANCE, NONE, NONE},
-    {ENDPOINT, ALLOWANCE, BADGE, NONE},
+    {NONE, NONE, NONE, NONE, NONE},
+    {THREAD, PRIORITY, NONE, NONE, NONE},
+    {THREAD, NONE, NONE, NONE, NONE},
+    {THREAD, PRIORITY, NONE, NONE, NONE},
+    {ENDPOINT, NONE, NONE, NONE, NONE},
+    {LINE, NONE, NONE, NONE, NONE},
+    {NONE, NONE, NONE, NONE, NONE},
+    {ENDPOINT, NONE, BADGE, MESSAGE, NONE},
+    {ENDPOINT, NONE, NONE, NONE, NONE},
+    {NONE, NONE, NONE, NONE, NONE},
+    {LINE, NONE, NONE, NONE, NONE},
+    {ENDPOINT, ALLOWANCE, NONE, NONE, NONE},
+    {ENDPOINT, ALLOWANCE, BADGE, NONE, NONE},
+    {THREAD, ENDPOINT, BADGE, NONE, RIGHTS},
 };
 
 static uint32_t *part_of(struct nazsombet_numbers *numbers, int part)
 {
-    uint32_t *parts[PARTS] = {&numbers->subject, &numbers->argument, &numbers->badge, &numbers->message};
+    uint32_t *parts[PARTS] = {&numbers->subject, &numbers->argument, &numbers->badge, &numbers->message,
+                              &numbers->rights};
     return parts[part];
 }
 
 /* A call with each part at an edge: the largest where its bit is set, else the lowest. */
 static struct nazsombet_numbers at_edges(uint32_t number, unsigned bits)
 {
-    struct nazsombet_numbers made = {number, 0, 0, 0, 0};
+    struct nazsombet_numbers made = {number, 0, 0, 0, 0, 0};
     for (int part = 0; part < PARTS; part++) {
         enum part shape = shapes[number][part];
         *part_of(&made, part) = bits >> part & 1 ? ranges[shape].largest : ranges[shape].lowest;
@@ -206,9 +217,8 @@ static void write_case(const struct line *line)
 {
     if (cases == NULL)
         return;
-    fprintf(cases, "%" PRIu32 " %" PRIu32 " %" PRIu32 " %" PRIu32 " %" PRIu32 " %" PRIu32 " %" PRIu32 " %" PRIu32
-            " %" PRIu32 "\t%.*s", call.number, call.subject, call.argument, call.badge, call.message, answer.code,
-            answer.count, answer.badge, answer.message, ROOM, line->text);
+    write_numbers(cases);
+    fprintf(cases, "\t%.*s", ROOM, line->text);
 }
 
 static void try_line(void)
@@ -278,14 +288,19 @@ static void try_known(void)
         struct nazsombet_answer answer;
         const char *text;
     } cases[] = {
-        {{1, 3, 100, 0, 0}, {0, 0, 0, 0}, "Create thread 3 with priority 100: done.\n"},
-        {{7, 0, 0, 7, 100}, {1, 0, 0, 0}, "Send message 100 under badge 7 to endpoint 0: blocked.\n"},
-        {{12, 0, 1, 7, 0}, {2, 1, 0, 0}, "Abort badge 7 at endpoint 0 with allowance 1: broken off, count 1.\n"},
-        {{8, 0, 0, 0, 0}, {0, 0, 8, 200}, "Receive at endpoint 0: done, badge 8, message 200.\n"},
-        {{7, 0, 0, 7, 101},
+        {{1, 3, 100, 0, 0, 0}, {0, 0, 0, 0}, "Create thread 3 with priority 100: done.\n"},
+        {{7, 0, 0, 7, 100, 0}, {1, 0, 0, 0}, "Send message 100 under badge 7 to endpoint 0: blocked.\n"},
+        {{12, 0, 1, 7, 0, 0}, {2, 1, 0, 0}, "Abort badge 7 at endpoint 0 with allowance 1: broken off, count 1.\n"},
+        {{8, 0, 0, 0, 0, 0}, {0, 0, 8, 200}, "Receive at endpoint 0: done, badge 8, message 200.\n"},
+        {{7, 0, 0, 7, 101, 0},
          {26, 0, 0, 0},
          "Send message 101 under badge 7 to endpoint 0: refused by 26, badge is under abort.\n"},
-        {{6, 0, 0, 0, 0}, {77, 5, UINT32_MAX, 0}, "Tick: refused by 77, count 5, badge 4294967295.\n"},
+        {{6, 0, 0, 0, 0, 0}, {77, 5, UINT32_MAX, 0}, "Tick: refused by 77, count 5, badge 4294967295.\n"},
+        {{13, 3, 0, 7, 0, 11}, {0, 0, 0, 0}, "Grant thread 3 rights 11 at endpoint 0 under badge 7: done.\n"},
+        {{13, 0, 63, 7, 0, 0}, {0, 0, 0, 0}, "Grant thread 0 rights 0 at endpoint 63 under badge 7: done.\n"},
+        {{11, 5, 9, 0, 0, 0},
+         {29, 0, 0, 0},
+         "Delete endpoint 5 with allowance 9: refused by 29, lacks right or badge.\n"},
     };
     for (size_t n = 0; n < sizeof cases / sizeof *cases; n++) {
         call = cases[n].call;
@@ -297,21 +312,24 @@ static void try_known(void)
 /* Calls taken by the core, which is linked too. */
 static void try_core(void)
 {
-    static uint32_t tables[NAZSOMBET_TABLES], scratch[NAZSOMBET_SCRATCH];
+    static uint32_t tables[NAZSOMBET_TABLES], grants[NAZSOMBET_GRANTS], scratch[NAZSOMBET_SCRATCH];
     static const struct {
         struct nazsombet_numbers call;
         const char *text;
     } cases[] = {
-        {{NAZSOMBET_CREATE_THREAD, 3, 100, 0, 0}, "Create thread 3 with priority 100: done.\n"},
-        {{NAZSOMBET_CREATE_ENDPOINT, 0, 0, 0, 0}, "Create endpoint 0: done.\n"},
-        {{NAZSOMBET_ABORT, 0, 1, 7, 0}, "Abort badge 7 at endpoint 0 with allowance 1: done, count 0.\n"},
-        {{NAZSOMBET_RECEIVE, 0, 0, 0, 0}, "Receive at endpoint 0: blocked.\n"},
-        {{NAZSOMBET_YIELD, 0, 0, 0, 0}, "Yield: refused by 20, no thread runs.\n"},
+        {{NAZSOMBET_CREATE_THREAD, 3, 100, 0, 0, 0}, "Create thread 3 with priority 100: done.\n"},
+        {{NAZSOMBET_CREATE_ENDPOINT, 0, 0, 0, 0, 0}, "Create endpoint 0: done.\n"},
+        {{NAZSOMBET_RECEIVE, 0, 0, 0, 0, 0}, "Receive at endpoint 0: refused by 29, lacks right or badge.\n"},
+        {{NAZSOMBET_GRANT, 3, 0, 8, 0, NAZSOMBET_RIGHT_RECEIVE | NAZSOMBET_RIGHT_ABORT},
+         "Grant thread 3 rights 10 at endpoint 0 under badge 8: done.\n"},
+        {{NAZSOMBET_ABORT, 0, 1, 7, 0, 0}, "Abort badge 7 at endpoint 0 with allowance 1: done, count 0.\n"},
+        {{NAZSOMBET_RECEIVE, 0, 0, 0, 0, 0}, "Receive at endpoint 0: blocked.\n"},
+        {{NAZSOMBET_YIELD, 0, 0, 0, 0, 0}, "Yield: refused by 20, no thread runs.\n"},
     };
-    judge(CORE, nazsombet_fresh(tables, NAZSOMBET_TABLES) == NAZSOMBET_DONE);
+    judge(CORE, nazsombet_fresh(tables, NAZSOMBET_TABLES, grants, NAZSOMBET_GRANTS) == NAZSOMBET_DONE);
     for (size_t n = 0; n < sizeof cases / sizeof *cases; n++) {
         call = cases[n].call;
-        nazsombet_call(tables, NAZSOMBET_TABLES, scratch, NAZSOMBET_SCRATCH, &call, &answer);
+        nazsombet_call(tables, NAZSOMBET_TABLES, grants, NAZSOMBET_GRANTS, scratch, NAZSOMBET_SCRATCH, &call, &answer);
         try_text(CORE, cases[n].text);
     }
 }
@@ -350,7 +368,7 @@ static void try_refused(struct nazsombet_numbers numbers, enum judgement kind, u
 /* Call numbers that there are not, alone and with each part. */
 static void try_no_number(uint32_t number)
 {
-    struct nazsombet_numbers numbers = {number, 0, 0, 0, 0};
+    struct nazsombet_numbers numbers = {number, 0, 0, 0, 0, 0};
     try_refused(numbers, NO_CALL, NAZSOMBET_NO_CALL);
     for (int part = 0; part < PARTS; part++) {
         struct nazsombet_numbers with = numbers;
@@ -380,7 +398,7 @@ static void try_out_of_range(uint32_t number, int part)
     enum part shape = shapes[number][part];
     uint32_t outside[] = {ranges[shape].largest + 1, UINT32_MAX, ranges[shape].lowest - 1};
     for (int n = 0; n < 3; n++) {
-        struct nazsombet_numbers with = at_edges(number, n == 0 ? 15 : 0);
+        struct nazsombet_numbers with = at_edges(number, n == 0 ? (1 << PARTS) - 1 : 0);
         *part_of(&with, part) = outside[n];
         try_refused(with, RANGE, NAZSOMBET_RANGE);
     }

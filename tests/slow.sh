@@ -14,8 +14,8 @@ listing=$(mktemp) || exit 2
 seen=$listing.seen
 trap 'rm -f "$listing" "$seen"' EXIT
 
-# The lines before those of the last eight calls.
-first=$(($(wc -l <"$expected") - 8))
+# The lines before those of the last eleven calls.
+first=$(($(wc -l <"$expected") - 11))
 
 # The first four calls have a word each. The rest comes when their lines have been seen, or is held back for twice as
 # long as they are waited for.

@@ -26,16 +26,16 @@ refusal-kept (suc n) h = refl
 
 module _ (l : Lent) {x : List ℕ} {code : ℕ} (e : checkedOf code x ≡ checked l) where
   -- a refusal in place of the check's number
-  refused : {a : Answer} → a ≡ plain (refusal code) → calledOf a (lent (l .tables) x) ≡ calledFor none l
+  refused : {a : Answer} → a ≡ plain (refusal code) → calledOf a (lent (l .tables) (l .grants) x) ≡ calledFor none l
   refused {a} p =
-      ap (λ (b : Answer). calledOf b (lent (l .tables) x)) p
-      ∙ ap (λ (r : Checked). calledOf (plain (refusal (r .code))) (lent (l .tables) (r .scratch))) e
+      ap (λ (b : Answer). calledOf b (lent (l .tables) (l .grants) x)) p
+      ∙ ap (λ (r : Checked). calledOf (plain (refusal (r .code))) (lent (l .tables) (l .grants) (r .scratch))) e
 
   pub check-refused :
-      {a : Answer} → (code ≡ 0 → ⊥) → a ≡ plain code → calledOf a (lent (l .tables) x) ≡ calledFor none l
+      {a : Answer} → (code ≡ 0 → ⊥) → a ≡ plain code → calledOf a (lent (l .tables) (l .grants) x) ≡ calledFor none l
   check-refused h p = refused (p ∙ ap plain (sym (refusal-kept code h)))
 
-  pub none-refused : {a : Answer} → code ≡ 0 → a ≡ plain 18 → calledOf a (lent (l .tables) x) ≡ calledFor none l
+  pub none-refused : {a : Answer} → code ≡ 0 → a ≡ plain 18 → calledOf a (lent (l .tables) (l .grants) x) ≡ calledFor none l
   none-refused h p = refused (p ∙ ap (λ (n : ℕ). plain (refusal n)) (sym h))
 
 -- by whether a call is asNamed

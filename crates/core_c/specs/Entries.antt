@@ -26,12 +26,12 @@ abbrev pub refusal : ℕ → ℕ
 refusal zero = 18
 refusal (suc n) = suc n
 
--- A call is taken as the core takes it. Where none is named, the tables are checked and stay, and the scratch is left
--- as the check leaves it.
+-- A call is taken as the core takes it. Where none is named, tables and grants are checked and stay, and the scratch is
+-- left as the check leaves it.
 abbrev pub calledFor : Option Call → Lent → Called
 calledFor (some c) l = called l c
 calledFor none l =
-    record { answer = plain (refusal (checked l .code)); left = lent (l .tables) (checked l .scratch) }
+    record { answer = plain (refusal (checked l .code)); left = lent (l .tables) (l .grants) (checked l .scratch) }
 
 -- code, count, badge, message
 abbrev pub four : Answer → List ℕ
@@ -40,7 +40,7 @@ four a = a .code ∷ a .count ∷ a .badge ∷ a .message ∷ []
 abbrev pub asAnswered : Called → Answered
 asAnswered r = record { code = r .answer .code; answer = four (r .answer); left = r .left }
 
--- Take a call that passes as five numbers.
+-- Take a call that passes as six numbers.
 unfoldable pub answered : Lent → List ℕ → Answered
 answered l numbers = asAnswered (calledFor (callIn numbers) l)
 
@@ -48,8 +48,8 @@ answered l numbers = asAnswered (calledFor (callIn numbers) l)
 -- of the journal 255, the place as it was and zeros.
 abbrev pub asReading : ℕ → Read → Reading
 asReading at (Found c next) = record { code = 0; at = next; call = numbersOf c }
-asReading at (Refused code place) = record { code = code; at = place; call = 0 ∷ 0 ∷ 0 ∷ 0 ∷ 0 ∷ [] }
-asReading at Ended = record { code = 255; at = at; call = 0 ∷ 0 ∷ 0 ∷ 0 ∷ 0 ∷ [] }
+asReading at (Refused code place) = record { code = code; at = place; call = 0 ∷ 0 ∷ 0 ∷ 0 ∷ 0 ∷ 0 ∷ [] }
+asReading at Ended = record { code = 255; at = at; call = 0 ∷ 0 ∷ 0 ∷ 0 ∷ 0 ∷ 0 ∷ [] }
 
 unfoldable pub reading : List ℕ → ℕ → Reading
 reading journal at = asReading at (readAt journal at)

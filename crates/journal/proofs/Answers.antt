@@ -4,22 +4,22 @@ use mathlib.Core.Bool.{true}
 use mathlib.Core.List.{List, []}
 use mathlib.Core.Logic.{_≢_}
 use mathlib.Core.Option.{Option, none, some}
-use Prim.Native.Nat.{ℕ, _+_, _-_, _<_}
+use Prim.Native.Nat.{ℕ, _+_, _-_, _^_, _/_, _%_, _<_}
 use native.Mathlib.Omega.{arith}
 use native.Mathlib.Numerals.{add-one}
 use lib.ListN.{length, getD, take, drop, length-drop}
 use lib.Seq.{drop-cons, take-all}
 use Rattle.machine.specs.declared.Call.{Call}
-use Rattle.machine.specs.declared.Call.the-variants.{Send, Abort}
+use Rattle.machine.specs.declared.Call.the-variants.{Send, Abort, Grant}
 use Rattle.machine.specs.Calls.{inRange}
 use Rattle.journal.specs.declared.types.Named.{Named}
 use Rattle.journal.specs.declared.types.Named.the-variants.{One, Nothing}
 use Rattle.journal.specs.declared.Number.the-variants.{Is, Wrong}
 use Rattle.journal.specs.Steps.{asNamed, callNamed, asNumber}
-use Rattle.journal.specs.Words.{topByte, wordsTaken, unused, numberIn, sendOf, abortOf}
+use Rattle.journal.specs.Words.{topByte, wordsTaken, unused, numberIn, sendOf, abortOf, grantOf}
 use Rattle.journal.specs.Words.{callOf, callAt, judged, readFrom, readAt}
 use Rattle.journal.proofs.Numbers.{by-number}
-use Rattle.journal.proofs.Options.{unused-none}
+use Rattle.journal.proofs.Options.{unused-none, unused-both-none}
 use Rattle.journal.proofs.Naming.{NumbersFit, in-range-fits}
 
 pub named-name : (x : Named) → x ≡ asNamed (callNamed x)
@@ -66,27 +66,29 @@ no-short s a =
     (λ h. absurd (h .0 .1 refl))
     (λ h. absurd (h .1 refl))
     (λ h. refl)
+    (λ h. unused-both-none (a / 2 ^ 6 % 2 ^ 2) (a / 2 ^ 12))
     (λ k h. refl)
 
--- but for a send and an abort, the words after a call word say nothing
-pub rest-unused : (s a : ℕ) (rest : List ℕ) (n : ℕ) → n ≢ 7 → n ≢ 12 → callOf n s a [] ≡ callOf n s a rest
+-- but for a send, an abort and a grant, the words after a call word say nothing
+pub rest-unused : (s a : ℕ) (rest : List ℕ) (n : ℕ) → n ≢ 7 → n ≢ 12 → n ≢ 13 → callOf n s a [] ≡ callOf n s a rest
 unfolding callOf
 rest-unused s a rest =
-    by-number (λ n. n ≢ 7 → n ≢ 12 → callOf n s a [] ≡ callOf n s a rest)
-    (λ h k. refl)
-    (λ h k. refl)
-    (λ h k. refl)
-    (λ h k. refl)
-    (λ h k. refl)
-    (λ h k. refl)
-    (λ h k. refl)
-    (λ h k. absurd (h refl))
-    (λ h k. refl)
-    (λ h k. refl)
-    (λ h k. refl)
-    (λ h k. refl)
-    (λ h k. absurd (k refl))
-    (λ m h k. refl)
+    by-number (λ n. n ≢ 7 → n ≢ 12 → n ≢ 13 → callOf n s a [] ≡ callOf n s a rest)
+    (λ h k j. refl)
+    (λ h k j. refl)
+    (λ h k j. refl)
+    (λ h k j. refl)
+    (λ h k j. refl)
+    (λ h k j. refl)
+    (λ h k j. refl)
+    (λ h k j. absurd (h refl))
+    (λ h k j. refl)
+    (λ h k j. refl)
+    (λ h k j. refl)
+    (λ h k j. refl)
+    (λ h k j. absurd (k refl))
+    (λ h k j. absurd (j refl))
+    (λ m h k j. refl)
 
 -- the part of a list from a place on
 pub part-is : (l : List ℕ) (n : ℕ) → take (length l - n) (drop n l) ≡ drop n l
@@ -101,13 +103,22 @@ unfolding readAt readFrom
 read-word-at j at n words h e t =
     rw (e, part-is j (at + 1), name-named (callAt (getD j at 0) (drop (at + 1) j)), drop-cons j at 0 h, t, add-one at)
 
--- what `abort` and `send` find in the words after a call word
+-- what `abort`, `grant` and `send` find in the words after a call word
 pub abort-nothing : (e a : ℕ) (rest : List ℕ) → numberIn 2 rest ≡ none → Nothing ≡ asNamed (abortOf e a rest)
 abort-nothing e a rest b = rw b
 
 pub abort-one :
     (e a : ℕ) (rest : List ℕ) (b : ℕ) → numberIn 2 rest ≡ some b → One (Abort e a b) ≡ asNamed (abortOf e a rest)
 abort-one e a rest b h = rw h
+
+pub grant-nothing : (t a : ℕ) (rest : List ℕ) → numberIn 2 rest ≡ none → Nothing ≡ asNamed (grantOf t a rest)
+grant-nothing t a rest b = rw (b, unused-both-none (a / 2 ^ 6 % 2 ^ 2) (a / 2 ^ 12))
+
+pub grant-one :
+    (t a : ℕ) (rest : List ℕ) (b : ℕ) (inner r : Named) → numberIn 2 rest ≡ some b →
+    inner ≡ asNamed (unused (a / 2 ^ 12) (some (Grant t (a % 2 ^ 6) (a / 2 ^ 8 % 2 ^ 4) b))) →
+    r ≡ asNamed (unused (a / 2 ^ 6 % 2 ^ 2) (callNamed inner)) → r ≡ asNamed (grantOf t a rest)
+grant-one t a rest b inner r h e f = rw h (unused-above (a / 2 ^ 6 % 2 ^ 2) _ inner r e f)
 
 pub send-nothing : (e : ℕ) (rest : List ℕ) → numberIn 2 rest ≡ none → Nothing ≡ asNamed (sendOf e rest)
 send-nothing e rest b = rw b

@@ -15,7 +15,7 @@ use Rattle.machine.specs.Calls.{inRange}
 use Rattle.machine.specs.Lists.{pick}
 use Rattle.journal.specs.declared.types.Read.{Read}
 use Rattle.journal.specs.declared.types.Read.the-variants.{Found, Refused, Ended}
-use Rattle.journal.specs.Words.{topBits, topByte, callNumber, subject, argument, unused, sendOf, abortOf}
+use Rattle.journal.specs.Words.{topBits, topByte, callNumber, subject, argument, unused, sendOf, abortOf, grantOf}
 use Rattle.journal.specs.Words.{wordsTaken, callOf, callAt, judged, readFrom, readAt}
 use Rattle.journal.proofs.Parts.{byte-of}
 use Rattle.journal.proofs.Numbers.{by-number}
@@ -43,6 +43,7 @@ number-appended s a rest more =
     (λ h. refl)
     (λ h. refl)
     (abort rest)
+    (grant rest)
     (λ k h. refl)
   where
     send :
@@ -54,6 +55,10 @@ number-appended s a rest more =
     abort : (l : List ℕ) → 2 ≤ suc (length l) → abortOf s a (l ++ more) ≡ abortOf s a l
     abort [] h = absurd (omega (arith, h))
     abort (u ∷ l) h = refl
+
+    grant : (l : List ℕ) → 2 ≤ suc (length l) → grantOf s a (l ++ more) ≡ grantOf s a l
+    grant [] h = absurd (omega (arith, h))
+    grant (u ∷ l) h = refl
 
 call-appended :
     (w : ℕ) (rest more : List ℕ) → wordsTaken (topByte w) ≤ suc (length rest) →

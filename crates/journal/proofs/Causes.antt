@@ -2,9 +2,9 @@
 use mathlib.Core.Path.{_≡_, refl, sym, ap, _∙_}
 use mathlib.Core.Bool.{Bool, true, false, not, _||_}
 use mathlib.Core.List.{List, [], _∷_}
-use mathlib.Core.Logic.{⊎-elim, _≢_}
+use mathlib.Core.Logic.{_⊎_, inl, inr, ⊎-elim, _≢_}
 use mathlib.Core.Option.{Option, none, some, Option·none-ne-some}
-use Prim.Native.Nat.{ℕ, suc, _+_, _≤_, _<_}
+use Prim.Native.Nat.{ℕ, suc, _+_, _^_, _/_, _%_, _≤_, _<_}
 use native.Mathlib.Omega.{arith}
 use borrow.Author.Tests.{eqb-true, eqb-false, leb-true, leb-false}
 use lib.Dec.{eqb, leb}
@@ -13,21 +13,22 @@ use lib.Seq.{getD-drop}
 use Rattle.machine.specs.declared.Call.{Call}
 use Rattle.machine.specs.declared.Call.the-variants.{CreateThread, DestroyThread, SetPriority, CreateEndpoint}
 use Rattle.machine.specs.declared.Call.the-variants.{Interrupt, Tick, Send, Receive, Yield, Wait, Delete, Abort}
+use Rattle.machine.specs.declared.Call.the-variants.{Grant}
 use Rattle.machine.specs.Lists.{pick}
 use Rattle.journal.specs.Words.{topBits, topByte, callNumber, subject, argument, wordsTaken, unused}
-use Rattle.journal.specs.Words.{numberIn, withMessage, sendOf, abortOf, callOf, callAt}
+use Rattle.journal.specs.Words.{numberIn, withMessage, sendOf, abortOf, grantOf, callOf, callAt}
 use Rattle.journal.proofs.Parts.{byte-of}
 use Rattle.journal.proofs.Numbers.{by-number, taken-low, taken-high, taken-most}
-use Rattle.journal.proofs.Options.{unused-none, unused-not-0, unused-which, given-none, given-which}
-use Rattle.journal.proofs.Options.{number-other, number-which}
+use Rattle.journal.proofs.Options.{unused-none, unused-both-none, unused-not-0, unused-which}
+use Rattle.journal.proofs.Options.{given-none, given-which, number-other, number-which}
 
 -- calls 6 and 9 use no subject
 abbrev pub usesSubject : ℕ → Bool
 usesSubject n = not (eqb n 6 || eqb n 9)
 
--- calls 1, 3, 11 and 12 use an argument
+-- calls 1, 3, 11, 12 and 13 use an argument
 abbrev pub usesArgument : ℕ → Bool
-usesArgument n = eqb n 1 || eqb n 3 || eqb n 11 || eqb n 12
+usesArgument n = eqb n 1 || eqb n 3 || eqb n 11 || eqb n 12 || eqb n 13
 
 -- the causes of 18, in a word where a call should begin and the words after it
 pub data Cause (w : ℕ) (rest : List ℕ) : Type 0 where
@@ -38,6 +39,9 @@ pub data Cause (w : ℕ) (rest : List ℕ) : Type 0 where
   -- "unused part not 0"
   subject-not-0 : usesSubject (callNumber w) ≡ false → subject w ≢ 0 → Cause w rest
   argument-not-0 : usesArgument (callNumber w) ≡ false → argument w ≢ 0 → Cause w rest
+  -- a grant's argument has two unused parts, bits 7..6 and 15..12
+  bits-not-0 :
+      callNumber w ≡ 13 → (argument w / 2 ^ 6 % 2 ^ 2 ≢ 0) ⊎ (argument w / 2 ^ 12 ≢ 0) → Cause w rest
   -- "word missing"
   missing : length (w ∷ rest) < wordsTaken (topByte w) → Cause w rest
 
@@ -51,6 +55,7 @@ module _ (s a : ℕ) (rest : List ℕ) where
   none-taken =
       by-number (λ n. wordsTaken (16 + n) ≡ 0 → callOf n s a rest ≡ none)
       (λ e. refl)
+      (λ e. absurd (omega arith))
       (λ e. absurd (omega arith))
       (λ e. absurd (omega arith))
       (λ e. absurd (omega arith))
@@ -82,6 +87,7 @@ module _ (s a : ℕ) (rest : List ℕ) where
       no-one
       no-one
       no-one
+      no-one
       (λ k e. refl)
 
   argument-wrong : a ≢ 0 → (n : ℕ) → usesArgument n ≡ false → callOf n s a rest ≡ none
@@ -99,6 +105,7 @@ module _ (s a : ℕ) (rest : List ℕ) where
       (λ e. unused-not-0 a _ h)
       (λ e. rw (unused-not-0 a _ h) (unused-none s))
       (λ e. unused-not-0 a _ h)
+      no-one
       no-one
       no-one
       (λ k e. refl)
@@ -120,6 +127,7 @@ module _ (s a : ℕ) (rest : List ℕ) where
       (λ e. absurd (omega arith))
       (λ e. absurd (omega arith))
       (λ e. rw h)
+      (λ e. rw h (unused-both-none (a / 2 ^ 6 % 2 ^ 2) (a / 2 ^ 12)))
       (λ k e. refl)
 
   message-wrong : numberIn 3 (drop 1 rest) ≡ none → (n : ℕ) → 3 ≤ wordsTaken (16 + n) → callOf n s a rest ≡ none
@@ -139,7 +147,13 @@ module _ (s a : ℕ) (rest : List ℕ) where
       (λ e. absurd (omega arith))
       (λ e. absurd (omega arith))
       (λ e. absurd (omega arith))
+      (λ e. absurd (omega arith))
       (λ k e. refl)
+
+  bits-wrong : (a / 2 ^ 6 % 2 ^ 2 ≢ 0) ⊎ (a / 2 ^ 12 ≢ 0) → (n : ℕ) → n ≡ 13 → callOf n s a rest ≡ none
+  unfolding callOf
+  bits-wrong (inl h) n e = rw e (unused-not-0 (a / 2 ^ 6 % 2 ^ 2) _ h)
+  bits-wrong (inr h) n e = rw (e, unused-not-0 (a / 2 ^ 12) _ h) (unused-none (a / 2 ^ 6 % 2 ^ 2))
 
 -- the words after a call word are too few
 word-missing : (s a : ℕ) (rest : List ℕ) (n : ℕ) → suc (length rest) < wordsTaken (16 + n) → callOf n s a rest ≡ none
@@ -177,6 +191,8 @@ caused w rest (subject-not-0 u h) =
     unless-one w rest (λ b. subject-wrong (subject w) (argument w) rest h (callNumber w) u)
 caused w rest (argument-not-0 u h) =
     unless-one w rest (λ b. argument-wrong (subject w) (argument w) rest h (callNumber w) u)
+caused w rest (bits-not-0 n h) =
+    unless-one w rest (λ b. bits-wrong (subject w) (argument w) rest h (callNumber w) n)
 caused w rest (missing h) =
     unless-one w rest (λ b. word-missing (subject w) (argument w) rest (callNumber w) (rw b at h))
 
@@ -236,6 +252,21 @@ module _ (w : ℕ) (rest : List ℕ) where
       ⊎-elim (badge-cause 12 b (omega arith)) (λ n. not-none (Abort (subject w) (argument w) (n .0)) (n .1))
       (given-which (numberIn 2 rest) (λ b. some (Abort (subject w) (argument w) b)) e)
 
+  grant-cause : Begins 13 → grantOf (subject w) (argument w) rest ≡ none → Cause w rest
+  unfolding wordsTaken
+  grant-cause b e =
+      ⊎-elim (λ h. bits-not-0 (b .0) (inl h))
+      (λ e₁.
+      ⊎-elim (λ h. bits-not-0 (b .0) (inr h))
+      (λ e₂.
+      ⊎-elim (badge-cause 13 b (omega arith)) (λ n. not-none (grant (n .0)) (n .1))
+      (given-which (numberIn 2 rest) (λ b. some (grant b)) e₂))
+      (unused-which (argument w / 2 ^ 12) _ e₁))
+      (unused-which (argument w / 2 ^ 6 % 2 ^ 2) _ e)
+    where
+      grant : ℕ → Call
+      grant b = Grant (subject w) (argument w % 2 ^ 6) (argument w / 2 ^ 8 % 2 ^ 4) b
+
   number-cause : (n : ℕ) → Begins n → callOf n (subject w) (argument w) rest ≡ none → Cause w rest
   unfolding callOf wordsTaken
   number-cause =
@@ -253,6 +284,7 @@ module _ (w : ℕ) (rest : List ℕ) where
       (only-argument 10 (Wait (subject w)) refl)
       (λ b. not-none (Delete (subject w) (argument w)))
       abort-cause
+      grant-cause
       (λ k b e. wrong-word (taken-high (topByte w) (omega arith)))
 
   pub cause-of : callAt w rest ≡ none → Cause w rest

@@ -1,9 +1,9 @@
 -- The words of a call name that call, and words that name a call are its words.
 use mathlib.Core.Path.{_≡_, refl, ap, _∙_, subst, subst⁻¹}
 use mathlib.Core.Bool.{Bool, true, false}
-use mathlib.Core.List.{List, _∷_, _++_}
+use mathlib.Core.List.{List, [], _∷_, _++_}
 use mathlib.Core.Option.{none, some, Option·none-ne-some, Option·some-injective}
-use Prim.Native.Nat.{ℕ, _+_, _^_, _<_}
+use Prim.Native.Nat.{ℕ, _+_, _*_, _^_, _/_, _%_, _<_}
 use native.Mathlib.Omega.{arith}
 use borrow.Author.Tests.{eqb-true}
 use lib.Dec.{eqb, lit<}
@@ -11,14 +11,15 @@ use lib.ListN.{length, take, drop}
 use Rattle.machine.specs.declared.Call.{Call}
 use Rattle.machine.specs.declared.Call.the-variants.{CreateThread, DestroyThread, SetPriority, CreateEndpoint}
 use Rattle.machine.specs.declared.Call.the-variants.{Interrupt, Tick, Send, Receive, Yield, Wait, Delete, Abort}
+use Rattle.machine.specs.declared.Call.the-variants.{Grant}
 use Rattle.machine.specs.Calls.{inRange}
 use Rattle.machine.specs.Lists.{pick}
 use Rattle.machine.proofs.Ranges.{bounds}
 use Rattle.journal.specs.Words.{topBits, topByte, callNumber, subject, argument, wordsTaken, unused}
-use Rattle.journal.specs.Words.{numberIn, withMessage, sendOf, abortOf, callOf, callAt, judged, readFrom}
-use Rattle.journal.specs.Words.{callWord, badgeWord, messageWord, wordsOf}
+use Rattle.journal.specs.Words.{numberIn, withMessage, sendOf, abortOf, grantOf, callOf, callAt}
+use Rattle.journal.specs.Words.{judged, readFrom, callWord, badgeWord, messageWord, wordsOf}
 use Rattle.journal.proofs.Parts.{top-bits, top-byte, call-number, its-subject, its-argument, call-word}
-use Rattle.journal.proofs.Parts.{byte-of}
+use Rattle.journal.proofs.Parts.{byte-of, its-endpoint, its-rights, its-bits, its-rest, grant-argument}
 use Rattle.journal.proofs.Numbers.{by-number}
 use Rattle.journal.proofs.Options.{unused-some, given-some, number-read, number-some}
 
@@ -36,6 +37,7 @@ NumbersFit Yield = Unit {0}
 NumbersFit (Wait l) = l < 2 ^ 8
 NumbersFit (Delete e a) = (e < 2 ^ 8) × (a < 2 ^ 16)
 NumbersFit (Abort e a b) = (e < 2 ^ 8) × (a < 2 ^ 16) × (b < 2 ^ 28)
+NumbersFit (Grant t e r b) = (t < 2 ^ 8) × (e < 2 ^ 6) × (r < 2 ^ 4) × (b < 2 ^ 28)
 
 pub in-range-fits : (c : Call) → inRange c ≡ true → NumbersFit c
 in-range-fits (CreateThread t p) e = let h = bounds (CreateThread t p) e in (omega (arith, h .0), omega (arith, h .1))
@@ -50,6 +52,8 @@ in-range-fits Yield e = tt
 in-range-fits (Wait l) e = omega (arith, bounds (Wait l) e)
 in-range-fits (Delete x a) e = let h = bounds (Delete x a) e in (omega (arith, h .0), omega (arith, h .1 .1))
 in-range-fits (Abort x a b) e = let h = bounds (Abort x a b) e in (omega (arith, h .0), omega (arith, h .1 .1), h .2)
+in-range-fits (Grant t x r b) e =
+    let h = bounds (Grant t x r b) e in (omega (arith, h .0), omega (arith, h .1), omega (arith, h .2), h .3)
 
 -- what a call word reads as, by its parts
 pub read-word :
@@ -85,6 +89,15 @@ call-read at (Wait l) h after = read-word at 10 l 0 after (lit< tt) h (lit< tt)
 call-read at (Delete x a) h after = read-word at 11 x a after (lit< tt) (h .0) (h .1)
 call-read at (Abort x a b) h after =
     read-word at 12 x a (badgeWord b ∷ after) (lit< tt) (h .0) (h .1) ∙ rw (number-read 2 b after (h .2))
+call-read at (Grant t x r b) h after =
+    read-word at 13 t (r * 2 ^ 8 + x) (badgeWord b ∷ after) (lit< tt) (h .0) (omega (arith, h .1, h .2))
+    ∙ rw (
+      its-bits r x (h .1) (h .2),
+      its-rest r x (h .1) (h .2),
+      its-endpoint r x (h .1) (h .2),
+      its-rights r x (h .1) (h .2),
+      number-read 2 b after (h .3),
+    )
 
 -- the words that begin with the call word of these parts are the call's
 pub record CallRow (n s a : ℕ) (rest : List ℕ) (c : Call) : Type 0 where
@@ -98,6 +111,27 @@ zero-argument n s a rest c h r = subst⁻¹ (λ (x : ℕ). CallRow n s x rest c)
 
 zero-subject : (n s a : ℕ) (rest : List ℕ) (c : Call) → s ≡ 0 → CallRow n 0 a rest c → CallRow n s a rest c
 zero-subject n s a rest c h r = subst⁻¹ (λ (x : ℕ). CallRow n x a rest c) h r
+
+-- the grant that words name: the other bits of its argument are 0, and its badge stands in the badge word
+pub record Granted (s a : ℕ) (rest : List ℕ) (c : Call) : Type 0 where
+  pub bits : a / 2 ^ 6 % 2 ^ 2 ≡ 0
+  pub above : a / 2 ^ 12 ≡ 0
+  pub badge : ℕ
+  pub word : (badge < 2 ^ 28) × (rest ≡ badgeWord badge ∷ drop 1 rest)
+  pub is : Grant s (a % 2 ^ 6) (a / 2 ^ 8 % 2 ^ 4) badge ≡ c
+
+pub granted : (s a : ℕ) (rest : List ℕ) (c : Call) → grantOf s a rest ≡ some c → Granted s a rest c
+granted s a rest c e =
+    let (h, e₁) = unused-some (a / 2 ^ 6 % 2 ^ 2) _ c e in
+    let (k, e₂) = unused-some (a / 2 ^ 12) _ c e₁ in
+    let (b, eb, e₃) = given-some (numberIn 2 rest) (λ b. some (Grant s (a % 2 ^ 6) (a / 2 ^ 8 % 2 ^ 4) b)) c e₂ in
+    record {
+      bits = h;
+      above = k;
+      badge = b;
+      word = number-some 2 rest b eb;
+      is = Option·some-injective _ c e₃;
+    }
 
 module _ (s a : ℕ) (hs : s < 2 ^ 8) (ha : a < 2 ^ 16) (rest : List ℕ) (c : Call) where
   -- the number takes a subject and an argument
@@ -137,6 +171,18 @@ module _ (s a : ℕ) (hs : s < 2 ^ 8) (ha : a < 2 ^ 16) (rest : List ℕ) (c : C
     taken = refl;
   }
 
+  -- the argument of a grant whose other bits are 0
+  grant-row :
+      (b : ℕ) → a / 2 ^ 6 % 2 ^ 2 ≡ 0 → a / 2 ^ 12 ≡ 0 → (b < 2 ^ 28) × (rest ≡ badgeWord b ∷ drop 1 rest) →
+      CallRow 13 s a rest (Grant s (a % 2 ^ 6) (a / 2 ^ 8 % 2 ^ 4) b)
+  unfolding wordsOf wordsTaken
+  grant-row b h k fb = record {
+    fits = (hs, omega arith, omega arith, fb .0);
+    words = ap (λ (l : List ℕ). callWord 13 s a ∷ take 1 l) (fb .1)
+        ∙ ap (λ (x : ℕ). callWord 13 s x ∷ badgeWord b ∷ []) (grant-argument a h k);
+    taken = refl;
+  }
+
   with-send : sendOf s rest ≡ some c → CallRow 7 s 0 rest c
   with-send e =
       let (b, eb, e₁) = given-some (numberIn 2 rest) (λ b. withMessage rest (λ m. some (Send s b m))) c e in
@@ -148,6 +194,11 @@ module _ (s a : ℕ) (hs : s < 2 ^ 8) (ha : a < 2 ^ 16) (rest : List ℕ) (c : C
   with-abort e =
       let (b, eb, e₁) = given-some (numberIn 2 rest) (λ b. some (Abort s a b)) c e in
       subst (CallRow 12 s a rest) (Option·some-injective (Abort s a b) c e₁) (abort-row b (number-some 2 rest b eb))
+
+  with-grant : grantOf s a rest ≡ some c → CallRow 13 s a rest c
+  with-grant e =
+      let g = granted s a rest c e in
+      subst (CallRow 13 s a rest) (g .is) (grant-row (g .badge) (g .bits) (g .above) (g .word))
 
   pub row : (n : ℕ) → callOf n s a rest ≡ some c → CallRow n s a rest c
   unfolding callOf wordsOf wordsTaken
@@ -168,6 +219,7 @@ module _ (s a : ℕ) (hs : s < 2 ^ 8) (ha : a < 2 ^ 16) (rest : List ℕ) (c : C
       (subject-used 10 (Wait s) (record { fits = hs; words = refl; taken = refl }))
       (both-used 11 (Delete s a) (record { fits = (hs, ha); words = refl; taken = refl }))
       with-abort
+      with-grant
       (λ k e. absurd (Option·none-ne-some c e))
 
 -- words that name a call are its words, and as many as the top byte says

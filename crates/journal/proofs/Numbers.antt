@@ -1,6 +1,6 @@
 -- Call numbers: the calls go by cases on them, and so do the words that a top byte takes.
 use mathlib.Core.Path.{_≡_}
-use mathlib.Core.Bool.{Bool, true, false, _&&_}
+use mathlib.Core.Bool.{Bool, true, false, _&&_, and-false}
 use Prim.Native.Nat.{ℕ, zero, suc, _≤_, _<_}
 use native.Mathlib.Omega.{arith}
 use borrow.Author.Tests.{ne-eqb, le-leb, lt-leb}
@@ -8,13 +8,13 @@ use lib.Dec.{eqb, leb}
 use Rattle.machine.specs.Lists.{pick}
 use Rattle.journal.specs.Words.{wordsTaken}
 
--- what holds at 0, at the twelve numbers and above them holds at every number
+-- what holds at 0, at the thirteen numbers and above them holds at every number
 pub by-number :
     (P : ℕ → Type 0) →
-    P 0 → P 1 → P 2 → P 3 → P 4 → P 5 → P 6 → P 7 → P 8 → P 9 → P 10 → P 11 → P 12 →
-    ((k : ℕ) → P (suc (suc (suc (suc (suc (suc (suc (suc (suc (suc (suc (suc (suc k)))))))))))))) →
+    P 0 → P 1 → P 2 → P 3 → P 4 → P 5 → P 6 → P 7 → P 8 → P 9 → P 10 → P 11 → P 12 → P 13 →
+    ((k : ℕ) → P (suc (suc (suc (suc (suc (suc (suc (suc (suc (suc (suc (suc (suc (suc k))))))))))))))) →
     (n : ℕ) → P n
-by-number P p0 p1 p2 p3 p4 p5 p6 p7 p8 p9 p10 p11 p12 more n =
+by-number P p0 p1 p2 p3 p4 p5 p6 p7 p8 p9 p10 p11 p12 p13 more n =
     elim n [
       | zero ↦ p0
       | suc n1 ↦
@@ -54,7 +54,11 @@ by-number P p0 p1 p2 p3 p4 p5 p6 p7 p8 p9 p10 p11 p12 more n =
                                                                             elim n12 [
                                                                               | zero ↦ p12
                                                                               | suc n13 ↦
-                                                                                  more n13
+                                                                                  elim n13 [
+                                                                                    | zero ↦ p13
+                                                                                    | suc n14 ↦
+                                                                                        more n14
+                                                                                  ]
                                                                             ]
                                                                       ]
                                                                 ]
@@ -71,18 +75,21 @@ by-number P p0 p1 p2 p3 p4 p5 p6 p7 p8 p9 p10 p11 p12 more n =
 
 pub taken-low : (top : ℕ) → top < 17 → wordsTaken top ≡ 0
 unfolding wordsTaken
-taken-low top h = simp (ne-eqb top 0x17 (omega arith), ne-eqb top 0x1C (omega arith), lt-leb 0x11 top h)
+taken-low top h = simp (ne-eqb top 0x17 (omega arith), lt-leb 0x1C top (omega arith), lt-leb 0x11 top h)
 
 pub taken-one : (top : ℕ) → 17 ≤ top → top < 28 → (top ≡ 23 → ⊥) → wordsTaken top ≡ 1
 unfolding wordsTaken
 taken-one top l h n =
-    simp (ne-eqb top 0x17 n, ne-eqb top 0x1C (omega arith), le-leb 0x11 top l, le-leb top 0x1B (omega arith))
+    simp (ne-eqb top 0x17 n, lt-leb 0x1C top (omega arith), le-leb 0x11 top l, le-leb top 0x1B (omega arith))
 
-pub taken-high : (top : ℕ) → 28 < top → wordsTaken top ≡ 0
+pub taken-two : (top : ℕ) → 28 ≤ top → top < 30 → wordsTaken top ≡ 2
+unfolding wordsTaken
+taken-two top l h = simp (ne-eqb top 0x17 (omega arith), le-leb 0x1C top l, le-leb top 0x1D (omega arith))
+
+pub taken-high : (top : ℕ) → 29 < top → wordsTaken top ≡ 0
 unfolding wordsTaken
 taken-high top h =
-    let over = lt-leb top 0x1B (omega arith) in
-    simp (ne-eqb top 0x17 (omega arith), ne-eqb top 0x1C (omega arith), le-leb 0x11 top (omega arith), over)
+    simp (ne-eqb top 0x17 (omega arith), lt-leb top 0x1D (omega arith), lt-leb top 0x1B (omega arith), and-false)
 
 most : (b : Bool) (x y : ℕ) → x ≤ 3 → y ≤ 3 → pick b x y ≤ 3
 most true x y hx hy = hx
@@ -92,5 +99,5 @@ pub taken-most : (top : ℕ) → wordsTaken top ≤ 3
 unfolding wordsTaken
 taken-most top =
     let one = most (leb 0x11 top && leb top 0x1B) 1 0 (omega arith) (omega arith) in
-    let two = most (eqb top 0x1C) 2 (pick (leb 0x11 top && leb top 0x1B) 1 0) (omega arith) one in
-    most (eqb top 0x17) 3 (pick (eqb top 0x1C) 2 (pick (leb 0x11 top && leb top 0x1B) 1 0)) (omega arith) two
+    let two = most (leb 0x1C top && leb top 0x1D) 2 _ (omega arith) one in
+    most (eqb top 0x17) 3 _ (omega arith) two

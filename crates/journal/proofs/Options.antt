@@ -22,6 +22,10 @@ pub unused-none : (part : ℕ) → unused part none ≡ none
 unused-none zero = refl
 unused-none (suc part) = refl
 
+pub unused-both-none : (part other : ℕ) → unused part (unused other none) ≡ none
+unused-both-none zero other = unused-none other
+unused-both-none (suc part) other = refl
+
 pub unused-not-0 : (part : ℕ) (o : Option Call) → part ≢ 0 → unused part o ≡ none
 unused-not-0 zero o h = absurd (h refl)
 unused-not-0 (suc part) o h = refl

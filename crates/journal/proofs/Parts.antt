@@ -1,6 +1,6 @@
 -- The parts of the words that calls are written with, and a word put together from its parts.
 use mathlib.Core.Path.{_≡_}
-use Prim.Native.Nat.{ℕ, _+_, _*_, _^_, _%_, _<_}
+use Prim.Native.Nat.{ℕ, _+_, _*_, _^_, _/_, _%_, _<_}
 use native.Mathlib.Omega.{arith}
 use Rattle.journal.specs.Words.{topBits, topByte, callNumber, subject, argument, callWord}
 
@@ -19,6 +19,23 @@ module _ (n s a : ℕ) (hn : n < 16) (hs : s < 256) (ha : a < 65536) where
 
   pub its-argument : argument (callWord n s a) ≡ a
   its-argument = omega arith
+
+-- the parts of a grant's argument, and the argument put together from them
+module _ (r e : ℕ) (he : e < 2 ^ 6) (hr : r < 2 ^ 4) where
+  pub its-endpoint : (r * 2 ^ 8 + e) % 2 ^ 6 ≡ e
+  its-endpoint = omega arith
+
+  pub its-rights : (r * 2 ^ 8 + e) / 2 ^ 8 % 2 ^ 4 ≡ r
+  its-rights = omega arith
+
+  pub its-bits : (r * 2 ^ 8 + e) / 2 ^ 6 % 2 ^ 2 ≡ 0
+  its-bits = omega arith
+
+  pub its-rest : (r * 2 ^ 8 + e) / 2 ^ 12 ≡ 0
+  its-rest = omega arith
+
+pub grant-argument : (a : ℕ) → a / 2 ^ 6 % 2 ^ 2 ≡ 0 → a / 2 ^ 12 ≡ 0 → a ≡ a / 2 ^ 8 % 2 ^ 4 * 2 ^ 8 + a % 2 ^ 6
+grant-argument a h k = omega arith
 
 pub number-top : (k x : ℕ) → x < 2 ^ 28 → topBits (k * 2 ^ 28 + x) ≡ k
 number-top k x h = omega arith

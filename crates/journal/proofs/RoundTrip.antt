@@ -9,6 +9,7 @@ use lib.Seq.{take-append-seam, drop-append-seam}
 use Rattle.machine.specs.declared.Call.{Call}
 use Rattle.machine.specs.declared.Call.the-variants.{CreateThread, DestroyThread, SetPriority, CreateEndpoint}
 use Rattle.machine.specs.declared.Call.the-variants.{Interrupt, Tick, Send, Receive, Yield, Wait, Delete, Abort}
+use Rattle.machine.specs.declared.Call.the-variants.{Grant}
 use Rattle.machine.specs.Calls.{inRange}
 use Rattle.journal.specs.declared.types.Read.{Read}
 use Rattle.journal.specs.declared.types.Read.the-variants.{Found}
@@ -70,6 +71,7 @@ spare Yield = refl
 spare (Wait l) = refl
 spare (Delete x a) = refl
 spare (Abort x a b) = refl
+spare (Grant t x r b) = refl
 
 -- A call in range is written as its words, with how many they are, and spare words 0.
 pub writes-the-words :

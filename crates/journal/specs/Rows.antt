@@ -1,5 +1,5 @@
--- The rows of the listing of a journal: each call that reads is made in turn from fresh tables; a word that does
--- not read as a call stops the listing with a last row.
+-- The rows of the listing of a journal: each call that reads is made in turn from fresh tables and grants; a word
+-- that does not read as a call stops the listing with a last row.
 use Prim.Native.Nat.{ℕ, zero, suc}
 use mathlib.Core.Option.{Option}
 use mathlib.Core.List.{List, [], _∷_}
@@ -7,6 +7,7 @@ use lib.ListN.{length}
 use Rattle.machine.specs.declared.Answer.{Answer}
 use Rattle.machine.specs.Calls.{numberOf}
 use Rattle.machine.specs.State.{State, freshState}
+use Rattle.machine.specs.Grants.{Grants, grantsAfter, freshGrants}
 use Rattle.machine.specs.Machine.{step}
 use Rattle.journal.specs.declared.types.Read.{Read}
 use Rattle.journal.specs.declared.types.Read.the-variants.{Found, Refused, Ended}
@@ -21,16 +22,16 @@ pub record Row : Type 0 where
   pub running : Option ℕ
 
 -- The rows from a reading on: the calls still to be read are at most n, the first argument.
-unfoldable pub rowsFrom : ℕ → Read → ℕ → List ℕ → State → List Row
-rowsFrom zero r i journal s = []
-rowsFrom (suc n) (Found c next) i journal s =
-    record { index = i; call = numberOf c; answer = step s c .answer; running = step s c .state .runs }
-    ∷ rowsFrom n (readAt journal next) (suc i) journal (step s c .state)
+unfoldable pub rowsFrom : ℕ → Read → ℕ → List ℕ → Grants → State → List Row
+rowsFrom zero r i journal g s = []
+rowsFrom (suc n) (Found c next) i journal g s =
+    record { index = i; call = numberOf c; answer = step g s c .answer; running = step g s c .state .runs }
+    ∷ rowsFrom n (readAt journal next) (suc i) journal (grantsAfter (step g s c .answer) c g) (step g s c .state)
 -- "the next index, call 0, the reader's 18 or 19, three zeros, running thread"
-rowsFrom (suc n) (Refused code at) i journal s =
+rowsFrom (suc n) (Refused code at) i journal g s =
     record { index = i; call = 0; answer = plain code; running = s .runs } ∷ []
-rowsFrom (suc n) Ended i journal s = []
+rowsFrom (suc n) Ended i journal g s = []
 
 -- Each call takes a word at least, so the journal has no more calls than words.
 unfoldable pub rowsOf : List ℕ → List Row
-rowsOf journal = rowsFrom (suc (length journal)) (readAt journal 0) 0 journal freshState
+rowsOf journal = rowsFrom (suc (length journal)) (readAt journal 0) 0 journal freshGrants freshState

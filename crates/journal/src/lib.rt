@@ -12,7 +12,7 @@ ghost use mathlib.Core.Bool.{true};
 ghost use mathlib.Core.List.{_∷_, []};
 ghost use Prim.Native.Nat.{_<_};
 ghost use Rattle.machine.specs.Calls.{inRange};
-ghost use Rattle.journal.specs.Words.{numberIn, unused, sendOf, abortOf, callOf, callAt};
+ghost use Rattle.journal.specs.Words.{numberIn, unused, sendOf, abortOf, grantOf, callOf, callAt};
 ghost use Rattle.journal.specs.Words.{wordsTaken, judged, readAt};
 ghost use Rattle.journal.specs.Words.{callWord, badgeWord, messageWord, asWritten, wordsOf, written};
 ghost use Rattle.journal.specs.Steps.{asNamed, callNamed, asNumber};
@@ -81,6 +81,22 @@ fn abort(endpoint: u32, allowance: u32, rest: &[u32]) -> Named
     })
 }
 
+// The endpoint and the rights are parts of the argument, whose other bits are unused.
+fn grant(thread: u32, argument: u32, rest: &[u32]) -> Named
+    ensures { λ r. ⌜ r ≡ asNamed (grantOf thread argument (now (rest .entry))) ⌝ }
+{
+    let Number::Is(badge) = number_in(rest, BADGE) else {
+        return Named::Nothing;
+    };
+    let call = Named::One(Call::Grant {
+        thread,
+        endpoint: argument % 64,
+        rights: (argument >> 8) % 16,
+        badge,
+    });
+    if_unused((argument >> 6) % 4, if_unused(argument >> 12, call))
+}
+
 // The call of a number, a subject and an argument alone.
 pub fn short_call(number: u32, subject: u32, argument: u32) -> Named
     ensures { λ r. ⌜ r ≡ asNamed (callOf number subject argument []) ⌝ }
@@ -122,6 +138,7 @@ fn call_of(number: u32, subject: u32, argument: u32, rest: &[u32]) -> Named
     match number {
         7 => if_unused(argument, send(subject, rest)),
         12 => abort(subject, argument, rest),
+        13 => grant(subject, argument, rest),
         _ => short_call(number, subject, argument),
     }
 }
@@ -156,8 +173,8 @@ pub fn words_taken(top: u32) -> usize
 {
     match top {
         0x11..=0x16 | 0x18..=0x1B => 1,
-        // an abort: a badge word after it
-        0x1C => 2,
+        // an abort and a grant: a badge word after it
+        0x1C..=0x1D => 2,
         // a send: a badge and a message word after it
         0x17 => 3,
         _ => 0,
@@ -208,11 +225,12 @@ fn send_words(endpoint: u32, badge: u32, message: u32) -> Written
     }
 }
 
-fn abort_words(endpoint: u32, allowance: u32, badge: u32) -> Written
-    requires { ⌜ (endpoint < 256) × (allowance < 65536) × (badge < 0x10000000) ⌝ }
-    ensures { λ r. ⌜ r ≡ asWritten (callWord 12 endpoint allowance ∷ badgeWord badge ∷ []) ⌝ }
+// A call that is its call word and a badge word.
+fn two_words(number: u32, subject: u32, argument: u32, badge: u32) -> Written
+    requires { ⌜ (number < 16) × (subject < 256) × (argument < 65536) × (badge < 0x10000000) ⌝ }
+    ensures { λ r. ⌜ r ≡ asWritten (callWord number subject argument ∷ badgeWord badge ∷ []) ⌝ }
 {
-    let first = call_word(12, endpoint, allowance);
+    let first = call_word(number, subject, argument);
     Written {
         code: 0,
         count: 2,
@@ -247,7 +265,13 @@ fn words_of(call: Call) -> Written
             endpoint,
             allowance,
             badge,
-        } => abort_words(endpoint, allowance, badge),
+        } => two_words(12, endpoint, allowance, badge),
+        Call::Grant {
+            thread,
+            endpoint,
+            rights,
+            badge,
+        } => two_words(13, thread, rights * 0x100 + endpoint, badge),
     }
 }
 

@@ -1,10 +1,11 @@
-// Reads and writes the journal's edge cases and prints what comes back; stdout was worked out from document 01.
+// Reads and writes the journal's edge cases and prints what comes back; stdout was worked out from document 01
+// and T-04.
 use journal::types::Read;
 use machine::Call;
 ghost use Prim.Native.Nat.{_<_};
 
 // Every word stands where a call may be looked for, so each is read as one.
-const JOURNAL: [u32; 54] = [
+const JOURNAL: [u32; 68] = [
     0x1100_00FF, // 0: priority 255
     0x11FF_0100, // priority 256
     0x11FF_FFFF,
@@ -53,20 +54,36 @@ const JOURNAL: [u32; 54] = [
     0x1C40_0001, // 45
     0x2000_000A,
     0x1000_0000, // no call has number 0
-    0x1D00_0000, // nor 13
+    0x1E00_0000, // nor 14
     0x0000_0000,
     0x4100_0000, // 50: other top bits
     0xF100_0000,
+    0x1DFF_0F3F, // every number of a grant at its largest
+    0x2FFF_FFFF,
+    0x1D00_0000, // rights 0 with a badge
+    0x2000_0007, // 55
+    0x1D03_0140, // bit 6 of the argument
+    0x2000_0007,
+    0x1D03_0180, // bit 7
+    0x2000_0007,
+    0x1D03_1100, // 60: bit 12
+    0x2000_0007,
+    0x1D03_8100, // bit 15
+    0x2000_0007,
+    0x1D03_0100, // a message word for the badge word
+    0x3000_0007, // 65
     0x1700_0000, // the message word is missing
     0x2000_0007,
 ];
 
-// A call on the last word; then two whose next word is missing, both with a number out of range besides.
+// A call on the last word; then three whose next word is missing, the first two with a number out of range besides.
 const LAST: [u32; 1] = [0x1900_0000];
 
 const SEND_CUT: [u32; 1] = [0x1740_0000];
 
 const ABORT_CUT: [u32; 1] = [0x1C40_0000];
+
+const GRANT_CUT: [u32; 1] = [0x1D03_0100];
 
 fn text(bytes: &[u8]) {
     io::write_all(1, bytes);
@@ -81,45 +98,53 @@ fn place(n: usize) {
 }
 
 // The numbers that a call carries, in order, with zeros for those that it has not.
-struct Triple {
+struct Quadruple {
     first: u32,
     second: u32,
     third: u32,
+    fourth: u32,
 }
 
-fn three(first: u32, second: u32, third: u32) -> Triple {
-    Triple {
+fn four(first: u32, second: u32, third: u32, fourth: u32) -> Quadruple {
+    Quadruple {
         first,
         second,
         third,
+        fourth,
     }
 }
 
-fn numbers(call: Call) -> Triple {
+fn numbers(call: Call) -> Quadruple {
     match call {
-        Call::CreateThread { thread, priority } => three(thread, priority, 0),
-        Call::DestroyThread { thread } => three(thread, 0, 0),
-        Call::SetPriority { thread, priority } => three(thread, priority, 0),
-        Call::CreateEndpoint { endpoint } => three(endpoint, 0, 0),
-        Call::Interrupt { line } => three(line, 0, 0),
-        Call::Tick => three(0, 0, 0),
+        Call::CreateThread { thread, priority } => four(thread, priority, 0, 0),
+        Call::DestroyThread { thread } => four(thread, 0, 0, 0),
+        Call::SetPriority { thread, priority } => four(thread, priority, 0, 0),
+        Call::CreateEndpoint { endpoint } => four(endpoint, 0, 0, 0),
+        Call::Interrupt { line } => four(line, 0, 0, 0),
+        Call::Tick => four(0, 0, 0, 0),
         Call::Send {
             endpoint,
             badge,
             message,
-        } => three(endpoint, badge, message),
-        Call::Receive { endpoint } => three(endpoint, 0, 0),
-        Call::Yield => three(0, 0, 0),
-        Call::Wait { line } => three(line, 0, 0),
+        } => four(endpoint, badge, message, 0),
+        Call::Receive { endpoint } => four(endpoint, 0, 0, 0),
+        Call::Yield => four(0, 0, 0, 0),
+        Call::Wait { line } => four(line, 0, 0, 0),
         Call::Delete {
             endpoint,
             allowance,
-        } => three(endpoint, allowance, 0),
+        } => four(endpoint, allowance, 0, 0),
         Call::Abort {
             endpoint,
             allowance,
             badge,
-        } => three(endpoint, allowance, badge),
+        } => four(endpoint, allowance, badge, 0),
+        Call::Grant {
+            thread,
+            endpoint,
+            rights,
+            badge,
+        } => four(thread, endpoint, rights, badge),
     }
 }
 
@@ -134,6 +159,7 @@ fn show_call(call: Call) {
     show_number(n.first);
     show_number(n.second);
     show_number(n.third);
+    show_number(n.fourth);
 }
 
 // The code, for a call its number and its numbers, and the place to go on from.
@@ -311,6 +337,15 @@ fn write_deletes() {
     });
 }
 
+fn show_grant(thread: u32, endpoint: u32, rights: u32, badge: u32) {
+    show_written(Call::Grant {
+        thread,
+        endpoint,
+        rights,
+        badge,
+    });
+}
+
 fn write_aborts() {
     show_written(Call::Abort {
         endpoint: 63,
@@ -339,12 +374,23 @@ fn write_aborts() {
     });
 }
 
+// A badge with rights 0; then each number too large by one.
+fn write_grants() {
+    show_grant(255, 63, 15, 0x0FFF_FFFF);
+    show_grant(0, 0, 0, 7);
+    show_grant(256, 0, 1, 0);
+    show_grant(0, 64, 1, 0);
+    show_grant(0, 0, 16, 0);
+    show_grant(0, 0, 0, 0x1000_0000);
+}
+
 fn show_writing() {
     write_threads();
     write_lines();
     write_sends();
     write_deletes();
     write_aborts();
+    write_grants();
 }
 
 fn main() {
@@ -352,6 +398,7 @@ fn main() {
     show_all(&LAST);
     show_all(&SEND_CUT);
     show_all(&ABORT_CUT);
+    show_all(&GRANT_CUT);
     show_tops(0);
     show_tops(1);
     show_writing();

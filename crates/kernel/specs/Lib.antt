@@ -1,4 +1,5 @@
 -- What a call comes to on the lent memory, said as demand 1 says it, and calls made in turn.
 pub mod Kept
+pub mod Rights
 pub mod InTurn
 pub mod Steps

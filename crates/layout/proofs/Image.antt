@@ -26,7 +26,7 @@ use Rattle.layout.proofs.Chains.{chain-first, chain-last, chain-after, 
 use Rattle.layout.proofs.Chains.{before-none}
 use Rattle.layout.proofs.Standing.{stands, stands-there, queue-distinct, queue-small, queue-apart}
 
-length-tabulate : (n : ℕ) (f : ℕ → ℕ) → length (tabulate n f) ≡ n
+pub length-tabulate : (n : ℕ) (f : ℕ → ℕ) → length (tabulate n f) ≡ n
 unfolding tabulate
 length-tabulate zero f = refl
 length-tabulate (suc n) f = ap suc (length-tabulate n (λ i. f (suc i)))

@@ -5,15 +5,19 @@ use mathlib.Core.List.{List}
 use mathlib.Core.Option.{none, some}
 use mathlib.Core.Path.{_≡_, refl, ap, sym, _∙_}
 use lib.ListN.{length, replicate, length-replicate}
+use lib.Dec.{eqb}
 use borrow.Author.Tests.{eq-eqb, ne-eqb}
 use Rattle.machine.specs.Lists.{pick}
 use Rattle.machine.specs.State.{freshState}
+use Rattle.machine.specs.Grants.{freshGrants}
 use Rattle.layout.proofs.Image.{image-fresh}
 use Rattle.layout.specs.Addresses.{tableWords, scratchWords}
 use Rattle.layout.specs.Words.{image}
 use Rattle.layout.specs.Decode.{decode}
 use Rattle.layout.specs.Tests.{all}
 use Rattle.soundness.specs.Tables.{stateOf}
+use Rattle.grants.specs.Memory.{grantWords, grantImage, grantsTest}
+use Rattle.grants.proofs.Memory.{fresh-image}
 use Rattle.soundness.specs.Checks.{blockTest, levelTest, endpointTest, lineTest, summaryTest, runningTest}
 use Rattle.soundness.specs.Checks.{unusedTest, placedTest, goodTest, metBelow}
 use Rattle.lent_tables.specs.Entries.{lent, zeros, Freshened, Checked, freshened, verdict, checked}
@@ -63,59 +67,98 @@ module _ (m : List ℕ) {b : Bool} (blocks : b ≡ all 256 (blockTest m)) where
 
 -- Check
 
+-- Where the lengths are right, by both tests.
 verdict-of :
-    (m : List ℕ) → length m ≡ tableWords
-    → _≡_ {A = Checked} (verdict (stateOf m))
-    (pick (goodTest m) (record { code = 0; scratch = zeros }) (record { code = 17; scratch = zeros }))
-verdict-of m size = rw (good-state m size) (go (goodTest m))
+    (m g : List ℕ) → length m ≡ tableWords
+    → _≡_ {A = Checked} (verdict (stateOf m) (grantsTest g))
+    (pick (goodTest m && grantsTest g) (record { code = 0; scratch = zeros }) (record { code = 17; scratch = zeros }))
+verdict-of m g size = rw (good-state m size) (go (goodTest m) (grantsTest g))
   where
-    go : (b : Bool) → _≡_ {A = Checked} (verdict (pick b (some (decode m)) none))
-        (pick b (record { code = 0; scratch = zeros }) (record { code = 17; scratch = zeros }))
-    go true = refl
-    go false = refl
+    go : (a b : Bool) → _≡_ {A = Checked} (verdict (pick a (some (decode m)) none) b)
+        (pick (a && b) (record { code = 0; scratch = zeros }) (record { code = 17; scratch = zeros }))
+    go true true = refl
+    go true false = refl
+    go false b = refl
 
-module _ (m s : List ℕ) where
+never : (a b : Bool) → a && false && b ≡ false
+never true b = refl
+never false b = refl
+
+module _ (m g s : List ℕ) where
   pub size-bad :
-      (length m ≡ tableWords → ⊥) → _≡_ {A = Checked} (record { code = 16; scratch = s }) (checked (lent m s))
+      (length m ≡ tableWords → ⊥) → _≡_ {A = Checked} (record { code = 16; scratch = s }) (checked (lent m g s))
   unfolding checked
   size-bad n = rw (ne-eqb (length m) tableWords n)
 
-  module _ (size : length m ≡ tableWords) where
-    pub scratch-bad :
-        (length s ≡ scratchWords → ⊥) → _≡_ {A = Checked} (record { code = 16; scratch = s }) (checked (lent m s))
+  pub grants-bad :
+      (length g ≡ grantWords → ⊥) → _≡_ {A = Checked} (record { code = 16; scratch = s }) (checked (lent m g s))
+  unfolding checked
+  grants-bad n =
+      ap (λ (b : Bool). pick b (verdict (stateOf m) (grantsTest g)) (record { code = 16; scratch = s }))
+      (sym
+      (ap (λ (b : Bool). eqb (length m) tableWords && b && eqb (length s) scratchWords)
+      (ne-eqb (length g) grantWords n) ∙ never (eqb (length m) tableWords) (eqb (length s) scratchWords)))
+
+  pub scratch-bad :
+      (length s ≡ scratchWords → ⊥) → _≡_ {A = Checked} (record { code = 16; scratch = s }) (checked (lent m g s))
+  unfolding checked
+  scratch-bad n = rw (ne-eqb (length s) scratchWords n, and-false)
+
+  module _ (size : length m ≡ tableWords) (rights : length g ≡ grantWords) (room : length s ≡ scratchWords)
+      {q : Bool} (granted : q ≡ grantsTest g) {after : List ℕ} (clear : after ≡ zeros) where
+    checked-is :
+        checked (lent m g s)
+        ≡ pick (goodTest m && q) (record { code = 0; scratch = zeros }) (record { code = 17; scratch = zeros })
     unfolding checked
-    scratch-bad n = rw (ne-eqb (length s) scratchWords n, and-false)
+    checked-is =
+        rw (
+          eq-eqb (length m) tableWords size,
+          eq-eqb (length g) grantWords rights,
+          eq-eqb (length s) scratchWords room,
+          granted,
+        )
+        (verdict-of m g size)
 
-    module _ (room : length s ≡ scratchWords) {g : Bool} (is : g ≡ goodTest m) {after : List ℕ} (clear : after ≡ zeros)
-      where
-        checked-is :
-            checked (lent m s) ≡ pick g (record { code = 0; scratch = zeros }) (record { code = 17; scratch = zeros })
-        unfolding checked
-        checked-is = rw (eq-eqb (length m) tableWords size, eq-eqb (length s) scratchWords room, is) (verdict-of m size)
+    pub check-ungranted :
+        q ≡ false → _≡_ {A = Checked} (record { code = 17; scratch = after }) (checked (lent m g s))
+    check-ungranted h = rw (clear, checked-is, h, and-false)
 
-        pub check-sound : g ≡ true → _≡_ {A = Checked} (record { code = 0; scratch = after }) (checked (lent m s))
-        check-sound h = rw (clear, checked-is, h)
+    module _ {p : Bool} (is : p ≡ goodTest m) (yes : q ≡ true) where
+      pub check-sound : p ≡ true → _≡_ {A = Checked} (record { code = 0; scratch = after }) (checked (lent m g s))
+      check-sound h = rw (clear, checked-is, ← is, h, yes)
 
-        pub check-unsound : g ≡ false → _≡_ {A = Checked} (record { code = 17; scratch = after }) (checked (lent m s))
-        check-unsound h = rw (clear, checked-is, h)
+      pub check-unsound :
+          p ≡ false → _≡_ {A = Checked} (record { code = 17; scratch = after }) (checked (lent m g s))
+      check-unsound h = rw (clear, checked-is, ← is, h)
 
 -- Make fresh
 
-module _ (m : List ℕ) where
-  pub fresh-refused : (length m ≡ tableWords → ⊥) → _≡_ {A = Freshened} (record { code = 16; tables = m }) (freshened m)
+module _ (m g : List ℕ) where
+  pub fresh-refused :
+      (length m ≡ tableWords → ⊥)
+      → _≡_ {A = Freshened} (record { code = 16; tables = m; grants = g }) (freshened m g)
   unfolding freshened
   fresh-refused n = rw (ne-eqb (length m) tableWords n)
 
-  pub fresh-made :
-      {after : List ℕ} → length m ≡ tableWords → after ≡ replicate (length m) 0
-      → _≡_ {A = Freshened} (record { code = 0; tables = after }) (freshened m)
+  pub fresh-unsized :
+      (length g ≡ grantWords → ⊥)
+      → _≡_ {A = Freshened} (record { code = 16; tables = m; grants = g }) (freshened m g)
   unfolding freshened
-  fresh-made {after} h e =
-      rw (eq-eqb (length m) tableWords h)
-      (ap (λ (l : List ℕ). record { code = 0; tables = l })
-      (e ∙ ap (λ (n : ℕ). replicate n 0) h ∙ sym image-fresh))
+  fresh-unsized n = rw (ne-eqb (length g) grantWords n, and-false)
 
-  -- Tables made fresh are those of the fresh state.
-  pub fresh-tables : length m ≡ tableWords → freshened m .tables ≡ image freshState
-  unfolding freshened
-  fresh-tables h = rw (eq-eqb (length m) tableWords h)
+  module _ (h : length m ≡ tableWords) (k : length g ≡ grantWords) where
+    -- Tables and grants made fresh are those of the fresh state, and of nobody's rights.
+    pub fresh-left :
+        freshened m g ≡ record { code = 0; tables = image freshState; grants = grantImage freshGrants }
+    unfolding freshened
+    fresh-left = rw (eq-eqb (length m) tableWords h, eq-eqb (length g) grantWords k)
+
+    pub fresh-made :
+        {after rights : List ℕ} → after ≡ replicate (length m) 0 → rights ≡ replicate (length g) 0
+        → _≡_ {A = Freshened} (record { code = 0; tables = after; grants = rights }) (freshened m g)
+    fresh-made {after} {rights} e f =
+        ap (λ (x : List ℕ). record { code = 0; tables = x; grants = rights })
+        (e ∙ ap (λ (n : ℕ). replicate n 0) h ∙ sym image-fresh)
+        ∙ ap (λ (x : List ℕ). record { code = 0; tables = image freshState; grants = x })
+        (f ∙ ap (λ (n : ℕ). replicate n 0) k ∙ sym fresh-image)
+        ∙ sym fresh-left

@@ -7,13 +7,13 @@ use crate::out;
 fn fresh_part(tables: &mut [u32], n: usize) -> u32
     requires { ⌜ n ≤ length (now tables) ⌝ }
 {
-    lent_tables::fresh(&mut tables[..n])
+    memory::fresh(&mut tables[..n])
 }
 
 fn check_part(tables: &[u32], scratch: &mut [u32], n: usize, k: usize) -> u32
     requires { ⌜ (n ≤ length (now tables)) × (k ≤ length (now scratch)) ⌝ }
 {
-    lent_tables::check(&tables[..n], &mut scratch[..k])
+    memory::check(&tables[..n], &mut scratch[..k])
 }
 
 fn fresh(tables: &mut [u32], n: usize)

@@ -80,3 +80,15 @@ pub fn nonzero(words: &[u32]) -> u32 {
     }
     n
 }
+
+// The check, beside grants of nobody.
+pub fn check(tables: &[u32], scratch: &mut [u32]) -> u32 {
+    let none = [0u32; grants::GRANT_WORDS];
+    lent_tables::check(tables, &none, scratch)
+}
+
+// Making fresh, beside grants of nobody.
+pub fn fresh(tables: &mut [u32]) -> u32 {
+    let mut none = [0u32; grants::GRANT_WORDS];
+    lent_tables::fresh(tables, &mut none)
+}

@@ -68,7 +68,7 @@ fn turn(
 {
     memory::fill(scratch);
     tables[at] = word;
-    let answer = lent_tables::check(tables, scratch);
+    let answer = memory::check(tables, scratch);
     let moved = memory::unlike(tables[at], word);
     tables[at] = kept[at];
     let others = memory::differing(tables, kept);
@@ -140,7 +140,7 @@ fn show_whole(number: u64, tables: &[u32], scratch: &mut [u32]) {
     memory::fill(scratch);
     out::value(b"table", number);
     out::next(b"sum", memory::sum(tables));
-    out::next(b"answer", lent_tables::check(tables, scratch) as u64);
+    out::next(b"answer", memory::check(tables, scratch) as u64);
     out::next(b"wrong", memory::nonzero(scratch) as u64);
     out::line();
 }

@@ -5,11 +5,13 @@ use mathlib.Core.List.{List, [], _++_, append-assoc}
 use native.Mathlib.Omega.{arith}
 use lib.ListN.{length}
 use Rattle.machine.specs.State.{freshState}
+use Rattle.machine.specs.Grants.{freshGrants}
+use Rattle.machine.proofs.Granted.{fresh-grants-sound}
 use Rattle.machine.proofs.Preserved.Steps.{fresh-sound}
 use Rattle.journal.specs.Words.{readAt}
 use Rattle.journal.specs.Rows.{rowsOf}
-use Rattle.lent_tables.specs.Entries.{Lent, lent, Sized}
-use Rattle.lent_tables.proofs.Verdict.{fresh-tables}
+use Rattle.lent_tables.specs.Entries.{Lent, lent, Sized, Freshened}
+use Rattle.lent_tables.proofs.Verdict.{fresh-left}
 use Rattle.listing.specs.Line.{header}
 use Rattle.input.specs.Words.{wordsIn}
 use Rattle.lister.specs.declared.Form.{Form}
@@ -25,7 +27,7 @@ use Rattle.lister.proofs.Streams.{Streams, streams}
 -- In either form.
 
 abbrev textOf : Form → List ℕ → Text
-textOf f bytes = textOn f (suc (length (wordsIn bytes))) 0 bytes freshState
+textOf f bytes = textOn f (suc (length (wordsIn bytes))) 0 bytes freshGrants freshState
 
 -- All that is told, with what is written at the end.
 abbrev ended : Form → Told → List ℕ
@@ -35,10 +37,12 @@ module _ (f : Form) (m : Lent) (z : Sized m) where
   in-one :
       (bytes : List ℕ) → length bytes < 2 ^ 64 → Streams f (fed f bytes (startingFresh m)) (textOf f bytes)
   in-one bytes few =
-      subst (λ (l : List ℕ). Streams f (fed f bytes (starting (lent l (m .scratch)))) (textOf f bytes))
-      (sym (fresh-tables (m .tables) (z .0)))
-      (streams f bytes [] (suc (length (wordsIn bytes))) 0 freshState (m .scratch) fresh-sound (z .1) refl (omega arith)
-      (omega (arith, few)))
+      subst
+      (λ (k : Freshened).
+      Streams f (fed f bytes (starting (lent (k .tables) (k .grants) (m .scratch)))) (textOf f bytes))
+      (sym (fresh-left (m .tables) (m .grants) (z .0) (z .1)))
+      (streams f bytes [] (suc (length (wordsIn bytes))) 0 freshGrants freshState (m .scratch) fresh-grants-sound
+      fresh-sound (z .2) refl (omega arith) (omega (arith, few)))
 
   in-parts :
       (parts : List (List ℕ)) → length (joined parts) < 2 ^ 64
@@ -72,15 +76,15 @@ unfolding listingOf rowsIn rowsOf
 listed bytes =
     let words = wordsIn bytes in
     ap (λ (l : List ℕ). header ++ l)
-    (lines-whole (length bytes % 4) (suc (length words)) (readAt words 0) 0 words freshState)
+    (lines-whole (length bytes % 4) (suc (length words)) (readAt words 0) 0 words freshGrants freshState)
 
 lines-of-calls : (bytes : List ℕ) → textOf Lines bytes .calls ≡ linesOf (callRows (rowsOf (wordsIn bytes)))
 unfolding rowsOf
 lines-of-calls bytes =
     let words = wordsIn bytes in
-    lines-calls (length bytes % 4) (suc (length words)) (readAt words 0) 0 words freshState
+    lines-calls (length bytes % 4) (suc (length words)) (readAt words 0) 0 words freshGrants freshState
 
--- For every division of the bytes into parts, from whatever the lent tables held before they were made fresh, the
+-- For every division of the bytes into parts, from whatever the lent memory held before it was made fresh, the
 -- header and the bytes written, with those at the end, are the listing of the whole. The bound is there because a
 -- line's index has 64 bits.
 pub every-division :
@@ -121,7 +125,7 @@ sentences-of-calls : (bytes : List ℕ) → textOf Sentences bytes .calls ≡ se
 unfolding sentencesOf
 sentences-of-calls bytes =
     let words = wordsIn bytes in
-    sentences-calls (length bytes % 4) (suc (length words)) (readAt words 0) 0 words freshState
+    sentences-calls (length bytes % 4) (suc (length words)) (readAt words 0) 0 words freshGrants freshState
 
 told : (bytes : List ℕ) → wholeOf (textOf Sentences bytes) ≡ tellingOf bytes
 unfolding tellingOf stopOf
@@ -129,7 +133,7 @@ told bytes =
     let words = wordsIn bytes in
     ap (λ (l : List ℕ). l ++ textOf Sentences bytes .stop) (sentences-of-calls bytes)
     ∙ ap (λ (l : List ℕ). sentencesOf words ++ l)
-    (sentences-stop (length bytes % 4) (suc (length words)) (readAt words 0) 0 words freshState)
+    (sentences-stop (length bytes % 4) (suc (length words)) (readAt words 0) 0 words freshGrants freshState)
 
 -- For every division of the bytes into parts the bytes written, with those at the end, are the telling of the whole.
 pub every-division-told :

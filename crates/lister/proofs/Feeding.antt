@@ -1,5 +1,5 @@
--- Bytes fed in parts are fed in one; a byte is held or makes the bytes ready; what a call does to tables that show a
--- sound state.
+-- Bytes fed in parts are fed in one; a byte is held or makes the bytes ready; what a call does to a memory that holds a
+-- sound state and sound grants.
 use Prim.Native.Nat.{ℕ, suc, _+_, _%_, _^_, _<_}
 use mathlib.Core.Path.{_≡_, refl, sym, ap, _∙_}
 use mathlib.Core.Bool.{Bool, true, false}
@@ -11,6 +11,7 @@ use Rattle.machine.specs.declared.Call.{Call}
 use Rattle.machine.specs.Lists.{pick}
 use Rattle.machine.specs.Results.{threadOf}
 use Rattle.machine.specs.State.{State}
+use Rattle.machine.specs.Grants.{Grants, SoundGrants}
 use Rattle.machine.specs.Machine.{step}
 use Rattle.machine.specs.Sound.{Sound}
 use Rattle.journal.specs.declared.types.Read.{Read}
@@ -18,7 +19,8 @@ use Rattle.journal.specs.declared.types.Read.the-variants.{Found, Refused}
 use Rattle.journal.specs.Words.{readAt}
 use Rattle.layout.specs.Addresses.{scratchWords}
 use Rattle.layout.specs.Words.{image}
-use Rattle.lent_tables.specs.Entries.{lent, zeros, Called, runnerIn}
+use Rattle.grants.specs.Memory.{grantImage}
+use Rattle.lent_tables.specs.Entries.{lent, zeros, Called, stepped, runnerIn}
 use Rattle.machine.proofs.Preserved.Steps.{step-sound}
 use Rattle.kernel.proofs.Runner.{running-image}
 use Rattle.kernel.proofs.InTurn.{called-image}
@@ -28,7 +30,7 @@ use Rattle.lister.specs.declared.Form.{Form}
 use Rattle.lister.specs.Forms.{callText, stopText}
 use Rattle.lister.specs.Feeding.{Progress, Told, ready, holding, toldBy, offered, byteTo, fed, ending, endingWith}
 use Rattle.lister.specs.Feeding.{fedParts, joined}
-use Rattle.lister.proofs.Texts.{textFor}
+use Rattle.lister.proofs.Texts.{grantsBy, textFor}
 
 -- What is told where u is told behind t.
 abbrev pub following : Told → Told → Told
@@ -74,29 +76,29 @@ module _ (f : Form) where
   unfolding ending
   ending-stopped s e = ap (λ (g : Bool). pick g (endingWith f (s .held) s) []) e
 
--- Where the lister stands that goes on, with the tables of a state.
-abbrev pub on : List ℕ → ℕ → State → List ℕ → Progress
-on held i s x = record { held = held; index = i; going = true; lent = lent (image s) x }
+-- Where the lister stands that goes on, with the tables of a state and the memory of grants.
+abbrev pub on : List ℕ → ℕ → Grants → State → List ℕ → Progress
+on held i g s x = record { held = held; index = i; going = true; lent = lent (image s) (grantImage g) x }
 
-module _ (f : Form) (b : ℕ) (held : List ℕ) (i : ℕ) (s : State) (x : List ℕ) where
+module _ (f : Form) (b : ℕ) (held : List ℕ) (i : ℕ) (g : Grants) (s : State) (x : List ℕ) where
   abbrev offers : Bool → Told
   offers t =
-      pick t (toldBy f (turned (readAt (wordsIn (held ++ (b ∷ []))) 0) (lent (image s) x)) (on held i s x))
-      (holding (held ++ (b ∷ [])) (on held i s x))
+      pick t (toldBy f (turned (readAt (wordsIn (held ++ (b ∷ []))) 0) (lent (image s) (grantImage g) x)) (on held i g s x))
+      (holding (held ++ (b ∷ [])) (on held i g s x))
 
   -- Bytes that are not ready are held,
   pub byte-held :
-      ready (held ++ (b ∷ [])) ≡ false → byteTo f b (on held i s x) ≡ holding (held ++ (b ∷ [])) (on held i s x)
+      ready (held ++ (b ∷ [])) ≡ false → byteTo f b (on held i g s x) ≡ holding (held ++ (b ∷ [])) (on held i g s x)
   unfolding byteTo
   byte-held e = ap offers e
 
   -- and those that are ready tell what their reading comes to.
   pub byte-taken :
       ready (held ++ (b ∷ [])) ≡ true → (r : Read) → readAt (wordsIn (held ++ (b ∷ []))) 0 ≡ r
-      → byteTo f b (on held i s x) ≡ toldBy f (turned r (lent (image s) x)) (on held i s x)
+      → byteTo f b (on held i g s x) ≡ toldBy f (turned r (lent (image s) (grantImage g) x)) (on held i g s x)
   unfolding byteTo
-  byte-taken e r g =
-      ap offers e ∙ ap (λ (k : Read). toldBy f (turned k (lent (image s) x)) (on held i s x)) g
+  byte-taken e r j =
+      ap offers e ∙ ap (λ (k : Read). toldBy f (turned k (lent (image s) (grantImage g) x)) (on held i g s x)) j
 
 -- What a call tells that was answered so.
 abbrev callTold : Form → ℕ → Call → Called → ℕ → Option ℕ → Told
@@ -106,41 +108,41 @@ callTold f i c k next running =
       text = callText f i c (k .answer) running;
     }
 
--- A call that was read tells its text, and the lister goes on with the tables of the state after it.
-abbrev pub takenTold : Form → ℕ → Call → State → Told
-takenTold f i c s = record { after = on [] (suc i) (step s c .state) zeros; text = textFor f i c s }
+-- A call that was read tells its text, and the lister goes on with the tables and grants after it.
+abbrev pub takenTold : Form → ℕ → Call → Grants → State → Told
+takenTold f i c g s = record { after = on [] (suc i) (grantsBy g s c) (step g s c .state) zeros; text = textFor f i c g s }
 
 pub call-told :
-    (f : Form) (c : Call) (next : ℕ) (held : List ℕ) (i : ℕ) (s : State) (x : List ℕ) → Sound s
+    (f : Form) (c : Call) (next : ℕ) (held : List ℕ) (i : ℕ) (g : Grants) (s : State) (x : List ℕ) → SoundGrants g → Sound s
     → length x ≡ scratchWords → i + 1 < 2 ^ 64
-    → toldBy f (turned (Found c next) (lent (image s) x)) (on held i s x) ≡ takenTold f i c s
-call-told f c next held i s x S n h =
-    let s′ = step s c .state in
-    let k : Called = record { answer = step s c .answer; left = lent (image s′) zeros } in
+    → toldBy f (turned (Found c next) (lent (image s) (grantImage g) x)) (on held i g s x) ≡ takenTold f i c g s
+call-told f c next held i g s x G S n h =
+    let s′ = step g s c .state in
+    let k : Called = stepped g s c in
     let index : (i + 1) % 2 ^ 64 ≡ suc i = omega (arith, h) in
     ap (λ (k : Called). callTold f i c k ((i + 1) % 2 ^ 64) (threadOf (runnerIn (k .left .tables))))
-    (called-image s x c S n)
+    (called-image g s x c G S n)
     ∙ ap (λ (j : ℕ). callTold f i c k j (threadOf (runnerIn (image s′)))) index
-    ∙ ap (λ (running : Option ℕ). callTold f i c k (suc i) running) (running-image s′ (step-sound s c S))
+    ∙ ap (λ (running : Option ℕ). callTold f i c k (suc i) running) (running-image s′ (step-sound g s c S))
 
 -- A refusal stops the journal with its text.
-abbrev pub stopped : ℕ → State → List ℕ → Progress
-stopped i s x = record { held = []; index = i; going = false; lent = lent (image s) x }
+abbrev pub stopped : ℕ → Grants → State → List ℕ → Progress
+stopped i g s x = record { held = []; index = i; going = false; lent = lent (image s) (grantImage g) x }
 
-abbrev pub stopTold : Form → ℕ → ℕ → State → List ℕ → Told
-stopTold f i code s x = record { after = stopped i s x; text = stopText f i code (s .runs) }
+abbrev pub stopTold : Form → ℕ → ℕ → Grants → State → List ℕ → Told
+stopTold f i code g s x = record { after = stopped i g s x; text = stopText f i code (s .runs) }
 
 pub refused-told :
-    (f : Form) (code at : ℕ) (held : List ℕ) (i : ℕ) (s : State) (x : List ℕ) → Sound s
-    → toldBy f (turned (Refused code at) (lent (image s) x)) (on held i s x) ≡ stopTold f i code s x
-refused-told f code at held i s x S =
+    (f : Form) (code at : ℕ) (held : List ℕ) (i : ℕ) (g : Grants) (s : State) (x : List ℕ) → Sound s
+    → toldBy f (turned (Refused code at) (lent (image s) (grantImage g) x)) (on held i g s x) ≡ stopTold f i code g s x
+refused-told f code at held i g s x S =
     ap
-    (λ (running : Option ℕ). record { after = stopped i s x; text = stopText f i code running })
+    (λ (running : Option ℕ). record { after = stopped i g s x; text = stopText f i code running })
     (running-image s S)
 
 -- Bytes held at the end are told by 18.
 pub ending-held :
-    (f : Form) (b : ℕ) (held : List ℕ) (i : ℕ) (s : State) (x : List ℕ) → Sound s
-    → ending f (on (b ∷ held) i s x) ≡ stopText f i 18 (s .runs)
+    (f : Form) (b : ℕ) (held : List ℕ) (i : ℕ) (g : Grants) (s : State) (x : List ℕ) → Sound s
+    → ending f (on (b ∷ held) i g s x) ≡ stopText f i 18 (s .runs)
 unfolding ending
-ending-held f b held i s x S = ap (λ (running : Option ℕ). stopText f i 18 running) (running-image s S)
+ending-held f b held i g s x S = ap (λ (running : Option ℕ). stopText f i 18 running) (running-image s S)

@@ -8,10 +8,11 @@ use lib.Dec.{eqb}
 use mathlib.Core.Bool.{false}
 use Rattle.machine.specs.declared.Call.{Call}
 use Rattle.machine.specs.declared.Call.the-variants.{CreateThread, DestroyThread, SetPriority, CreateEndpoint}
-use Rattle.machine.specs.declared.Call.the-variants.{Interrupt, Tick, Send, Receive, Yield, Wait, Delete, Abort}
+use Rattle.machine.specs.declared.Call.the-variants.{Interrupt, Tick, Send, Receive, Yield, Wait, Delete, Abort, Grant}
 use Rattle.machine.specs.Calls.{numberOf}
 use Rattle.machine.specs.Lists.{pick}
 use Rattle.machine.specs.State.{State}
+use Rattle.machine.specs.Grants.{Grants, grantsAfter}
 use Rattle.machine.specs.Machine.{step}
 use Rattle.journal.specs.declared.types.Read.{Read}
 use Rattle.journal.specs.declared.types.Read.the-variants.{Found, Refused, Ended}
@@ -46,22 +47,26 @@ abbrev pub oddText : Form → ℕ → ℕ → Option ℕ → List ℕ
 oddText f zero i running = []
 oddText f (suc k) i running = stopText f i 18 running
 
+-- The grants after a call made in a state.
+abbrev pub grantsBy : Grants → State → Call → Grants
+grantsBy g s c = grantsAfter (step g s c .answer) c g
+
 -- The text of a call made in a state.
-abbrev pub textFor : Form → ℕ → Call → State → List ℕ
-textFor f i c s = callText f i c (step s c .answer) (step s c .state .runs)
+abbrev pub textFor : Form → ℕ → Call → Grants → State → List ℕ
+textFor f i c g s = callText f i c (step g s c .answer) (step g s c .state .runs)
 
 -- From a reading on, as `rowsFrom`; k odd bytes stand behind the words.
-unfoldable pub textFrom : Form → ℕ → ℕ → Read → ℕ → List ℕ → State → Text
-textFrom f k zero r i journal s = stopsWith (oddText f k i (s .runs))
-textFrom f k (suc n) (Found c next) i journal s =
-    before (textFor f i c s) (textFrom f k n (readAt journal next) (suc i) journal (step s c .state))
-textFrom f k (suc n) (Refused code at) i journal s = stopsWith (stopText f i code (s .runs))
-textFrom f k (suc n) Ended i journal s = stopsWith (oddText f k i (s .runs))
+unfoldable pub textFrom : Form → ℕ → ℕ → Read → ℕ → List ℕ → Grants → State → Text
+textFrom f k zero r i journal g s = stopsWith (oddText f k i (s .runs))
+textFrom f k (suc n) (Found c next) i journal g s =
+    before (textFor f i c g s) (textFrom f k n (readAt journal next) (suc i) journal (grantsBy g s c) (step g s c .state))
+textFrom f k (suc n) (Refused code at) i journal g s = stopsWith (stopText f i code (s .runs))
+textFrom f k (suc n) Ended i journal g s = stopsWith (oddText f k i (s .runs))
 
 -- In lines.
 
-abbrev rowFor : ℕ → Call → State → Row
-rowFor i c s = record { index = i; call = numberOf c; answer = step s c .answer; running = step s c .state .runs }
+abbrev rowFor : ℕ → Call → Grants → State → Row
+rowFor i c g s = record { index = i; call = numberOf c; answer = step g s c .answer; running = step g s c .state .runs }
 
 some-number : (c : Call) → eqb (numberOf c) 0 ≡ false
 some-number (CreateThread t p) = refl
@@ -76,15 +81,16 @@ some-number Yield = refl
 some-number (Wait l) = refl
 some-number (Delete e a) = refl
 some-number (Abort e a b) = refl
+some-number (Grant t e r b) = refl
 
 -- Behind a call's row the row of odd bytes is that of the rows behind it,
 odd-on :
-    (k i : ℕ) (running : Option ℕ) (c : Call) (s : State) (rows : List Row)
-    → oddRows k i running (rowFor i c s ∷ rows) ≡ oddRows k (suc i) (step s c .state .runs) rows
+    (k i : ℕ) (running : Option ℕ) (c : Call) (g : Grants) (s : State) (rows : List Row)
+    → oddRows k i running (rowFor i c g s ∷ rows) ≡ oddRows k (suc i) (step g s c .state .runs) rows
 unfolding oddRow
-odd-on zero i running c s rows = refl
-odd-on (suc k) i running c s rows =
-    ap (λ t. pick t [] (oddRow (suc i) (step s c .state .runs) rows)) (some-number c)
+odd-on zero i running c g s rows = refl
+odd-on (suc k) i running c g s rows =
+    ap (λ t. pick t [] (oddRow (suc i) (step g s c .state .runs) rows)) (some-number c)
 
 -- behind a last row there is none,
 odd-none :
@@ -101,39 +107,41 @@ odd-alone (suc k) i running = sym (append-nil (lineOf (lastRow i 18 running)))
 
 -- The text of the calls is the lines of their rows,
 pub lines-calls :
-    (k n : ℕ) (r : Read) (i : ℕ) (journal : List ℕ) (s : State)
-    → textFrom Lines k n r i journal s .calls ≡ linesOf (callRows (rowsFrom n r i journal s))
+    (k n : ℕ) (r : Read) (i : ℕ) (journal : List ℕ) (g : Grants) (s : State)
+    → textFrom Lines k n r i journal g s .calls ≡ linesOf (callRows (rowsFrom n r i journal g s))
 unfolding textFrom rowsFrom
-lines-calls k zero r i journal s = refl
-lines-calls k (suc n) (Found c next) i journal s =
-    let row = rowFor i c s in
-    let s′ = step s c .state in
-    let rows = rowsFrom n (readAt journal next) (suc i) journal s′ in
-    ap (λ (l : List ℕ). lineOf row ++ l) (lines-calls k n (readAt journal next) (suc i) journal s′)
+lines-calls k zero r i journal g s = refl
+lines-calls k (suc n) (Found c next) i journal g s =
+    let row = rowFor i c g s in
+    let s′ = step g s c .state in
+    let g′ = grantsBy g s c in
+    let rows = rowsFrom n (readAt journal next) (suc i) journal g′ s′ in
+    ap (λ (l : List ℕ). lineOf row ++ l) (lines-calls k n (readAt journal next) (suc i) journal g′ s′)
     ∙ ap (λ t. linesOf (pick t [] (row ∷ callRows rows))) (sym (some-number c))
-lines-calls k (suc n) (Refused code at) i journal s = refl
-lines-calls k (suc n) Ended i journal s = refl
+lines-calls k (suc n) (Refused code at) i journal g s = refl
+lines-calls k (suc n) Ended i journal g s = refl
 
 -- and the whole text that of all rows.
 pub lines-whole :
-    (k n : ℕ) (r : Read) (i : ℕ) (journal : List ℕ) (s : State)
-    → wholeOf (textFrom Lines k n r i journal s)
-    ≡ linesOf (rowsFrom n r i journal s ++ oddRows k i (s .runs) (rowsFrom n r i journal s))
+    (k n : ℕ) (r : Read) (i : ℕ) (journal : List ℕ) (g : Grants) (s : State)
+    → wholeOf (textFrom Lines k n r i journal g s)
+    ≡ linesOf (rowsFrom n r i journal g s ++ oddRows k i (s .runs) (rowsFrom n r i journal g s))
 unfolding textFrom rowsFrom
-lines-whole k zero r i journal s = odd-alone k i (s .runs)
-lines-whole k (suc n) (Found c next) i journal s =
-    let row = rowFor i c s in
-    let s′ = step s c .state in
-    let rows = rowsFrom n (readAt journal next) (suc i) journal s′ in
-    let t = textFrom Lines k n (readAt journal next) (suc i) journal s′ in
+lines-whole k zero r i journal g s = odd-alone k i (s .runs)
+lines-whole k (suc n) (Found c next) i journal g s =
+    let row = rowFor i c g s in
+    let s′ = step g s c .state in
+    let g′ = grantsBy g s c in
+    let rows = rowsFrom n (readAt journal next) (suc i) journal g′ s′ in
+    let t = textFrom Lines k n (readAt journal next) (suc i) journal g′ s′ in
     append-assoc (lineOf row) (t .calls) (t .stop)
-    ∙ ap (λ (l : List ℕ). lineOf row ++ l) (lines-whole k n (readAt journal next) (suc i) journal s′)
-    ∙ ap (λ (odd : List Row). lineOf row ++ linesOf (rows ++ odd)) (sym (odd-on k i (s .runs) c s rows))
-lines-whole k (suc n) (Refused code at) i journal s =
+    ∙ ap (λ (l : List ℕ). lineOf row ++ l) (lines-whole k n (readAt journal next) (suc i) journal g′ s′)
+    ∙ ap (λ (odd : List Row). lineOf row ++ linesOf (rows ++ odd)) (sym (odd-on k i (s .runs) c g s rows))
+lines-whole k (suc n) (Refused code at) i journal g s =
     let row = lastRow i code (s .runs) in
     sym (append-nil (lineOf row))
     ∙ ap (λ (odd : List Row). lineOf row ++ linesOf odd) (sym (odd-none k i (s .runs) code))
-lines-whole k (suc n) Ended i journal s = odd-alone k i (s .runs)
+lines-whole k (suc n) Ended i journal g s = odd-alone k i (s .runs)
 
 -- In sentences: neither index nor thread is told.
 
@@ -142,22 +150,22 @@ odd-line zero i running = refl
 odd-line (suc k) i running = refl
 
 pub sentences-calls :
-    (k n : ℕ) (r : Read) (i : ℕ) (journal : List ℕ) (s : State)
-    → textFrom Sentences k n r i journal s .calls ≡ sentencesFrom n r journal s
+    (k n : ℕ) (r : Read) (i : ℕ) (journal : List ℕ) (g : Grants) (s : State)
+    → textFrom Sentences k n r i journal g s .calls ≡ sentencesFrom n r journal g s
 unfolding textFrom sentencesFrom
-sentences-calls k zero r i journal s = refl
-sentences-calls k (suc n) (Found c next) i journal s =
-    ap (λ (l : List ℕ). sentence c (step s c .answer) ++ l)
-    (sentences-calls k n (readAt journal next) (suc i) journal (step s c .state))
-sentences-calls k (suc n) (Refused code at) i journal s = refl
-sentences-calls k (suc n) Ended i journal s = refl
+sentences-calls k zero r i journal g s = refl
+sentences-calls k (suc n) (Found c next) i journal g s =
+    ap (λ (l : List ℕ). sentence c (step g s c .answer) ++ l)
+    (sentences-calls k n (readAt journal next) (suc i) journal (grantsBy g s c) (step g s c .state))
+sentences-calls k (suc n) (Refused code at) i journal g s = refl
+sentences-calls k (suc n) Ended i journal g s = refl
 
 pub sentences-stop :
-    (k n : ℕ) (r : Read) (i : ℕ) (journal : List ℕ) (s : State)
-    → textFrom Sentences k n r i journal s .stop ≡ stopFrom n r journal (oddLine k)
+    (k n : ℕ) (r : Read) (i : ℕ) (journal : List ℕ) (g : Grants) (s : State)
+    → textFrom Sentences k n r i journal g s .stop ≡ stopFrom n r journal (oddLine k)
 unfolding textFrom stopFrom
-sentences-stop k zero r i journal s = odd-line k i (s .runs)
-sentences-stop k (suc n) (Found c next) i journal s =
-    sentences-stop k n (readAt journal next) (suc i) journal (step s c .state)
-sentences-stop k (suc n) (Refused code at) i journal s = refl
-sentences-stop k (suc n) Ended i journal s = odd-line k i (s .runs)
+sentences-stop k zero r i journal g s = odd-line k i (s .runs)
+sentences-stop k (suc n) (Found c next) i journal g s =
+    sentences-stop k n (readAt journal next) (suc i) journal (grantsBy g s c) (step g s c .state)
+sentences-stop k (suc n) (Refused code at) i journal g s = refl
+sentences-stop k (suc n) Ended i journal g s = odd-line k i (s .runs)

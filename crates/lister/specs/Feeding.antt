@@ -104,6 +104,8 @@ joined (part ∷ parts) = part ++ joined parts
 abbrev pub starting : Lent → Progress
 starting m = record { held = []; index = 0; going = true; lent = m }
 
--- The tables lent are made fresh before.
+-- Tables and grants lent are made fresh before.
 abbrev pub startingFresh : Lent → Progress
-startingFresh m = starting (lent (freshened (m .tables) .tables) (m .scratch))
+startingFresh m =
+    starting
+    (lent (freshened (m .tables) (m .grants) .tables) (freshened (m .tables) (m .grants) .grants) (m .scratch))

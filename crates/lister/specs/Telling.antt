@@ -3,6 +3,7 @@ use Prim.Native.Nat.{ℕ, zero, suc, _%_}
 use mathlib.Core.List.{List, [], _++_}
 use lib.ListN.{length}
 use Rattle.machine.specs.State.{State, freshState}
+use Rattle.machine.specs.Grants.{Grants, grantsAfter, freshGrants}
 use Rattle.machine.specs.Machine.{step}
 use Rattle.journal.specs.declared.types.Read.{Read}
 use Rattle.journal.specs.declared.types.Read.the-variants.{Found, Refused, Ended}
@@ -12,12 +13,13 @@ use Rattle.input.specs.Words.{wordsIn}
 
 -- The sentences from a reading on: each call that reads is made in turn and told with its answer. The calls still to be
 -- read are at most n, the first argument.
-unfoldable pub sentencesFrom : ℕ → Read → List ℕ → State → List ℕ
-sentencesFrom zero r journal s = []
-sentencesFrom (suc n) (Found c next) journal s =
-    sentence c (step s c .answer) ++ sentencesFrom n (readAt journal next) journal (step s c .state)
-sentencesFrom (suc n) (Refused code at) journal s = []
-sentencesFrom (suc n) Ended journal s = []
+unfoldable pub sentencesFrom : ℕ → Read → List ℕ → Grants → State → List ℕ
+sentencesFrom zero r journal g s = []
+sentencesFrom (suc n) (Found c next) journal g s =
+    sentence c (step g s c .answer)
+    ++ sentencesFrom n (readAt journal next) journal (grantsAfter (step g s c .answer) c g) (step g s c .state)
+sentencesFrom (suc n) (Refused code at) journal g s = []
+sentencesFrom (suc n) Ended journal g s = []
 
 -- What is said behind them: the stop line of a word that does not read as a call, with the reader's number; behind
 -- calls that all read, what is said of odd bytes.
@@ -32,9 +34,9 @@ abbrev pub oddLine : ℕ → List ℕ
 oddLine zero = []
 oddLine (suc n) = stopLine 18
 
--- From fresh tables. Each call takes a word at least, so the journal has no more calls than words.
+-- From fresh tables and grants. Each call takes a word at least, so the journal has no more calls than words.
 unfoldable pub sentencesOf : List ℕ → List ℕ
-sentencesOf journal = sentencesFrom (suc (length journal)) (readAt journal 0) journal freshState
+sentencesOf journal = sentencesFrom (suc (length journal)) (readAt journal 0) journal freshGrants freshState
 
 unfoldable pub stopOf : List ℕ → List ℕ → List ℕ
 stopOf journal odd = stopFrom (suc (length journal)) (readAt journal 0) journal odd

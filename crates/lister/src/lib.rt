@@ -111,18 +111,18 @@ fn stop(form: Form, l: Lister, turn: Turn, out: &mut [u8], used: usize) -> Fed
 }
 
 // Reads the bytes held and takes their call.
-fn turn(l: Lister, tables: &mut [u32], scratch: &mut [u32]) -> Turn
+fn turn(l: Lister, tables: &mut [u32], grants: &mut [u32], scratch: &mut [u32]) -> Turn
     requires { ⌜ (l .held ≤ 12) × (length (l .bytes) ≡ 12) ⌝ }
     ensures { λ r. ⌜ _≡_ {A = Turned}
-        (record { turn = r; left = lent (now (tables .exit)) (now (scratch .exit)) })
+        (record { turn = r; left = lent (now (tables .exit)) (now (grants .exit)) (now (scratch .exit)) })
         (turned (readAt (wordsIn (take (l .held) (l .bytes))) 0)
-        (lent (now (tables .entry)) (now (scratch .entry)))) ⌝ }
+        (lent (now (tables .entry)) (now (grants .entry)) (now (scratch .entry)))) ⌝ }
 {
     let bytes = l.bytes;
     let held = l.held;
     let mut words = [0u32; 3];
     let count = input::words(&bytes[..held], &mut words);
-    rows::next(&words[..count], 0, tables, scratch)
+    rows::next(&words[..count], 0, tables, grants, scratch)
 }
 
 // Takes the call of the bytes held, which are ready, and tells it.
@@ -130,16 +130,20 @@ fn answer(
     form: Form,
     l: Lister,
     tables: &mut [u32],
+    grants: &mut [u32],
     scratch: &mut [u32],
     out: &mut [u8],
     used: usize,
 ) -> Fed
     requires { ⌜ (l .held ≤ 12) × (length (l .bytes) ≡ 12) × (used + sentenceRoom ≤ length (now out)) ⌝ }
     ensures { λ r. ⌜ (r .lister .held ≡ 0) × (r .lister .bytes ≡ l .bytes) × (r .used ≤ used + sentenceRoom) ⌝ }
-    ensures { λ r. ⌜ Feeds (takesCall form (progressOf l (lent (now (tables .entry)) (now (scratch .entry)))))
-        (now (out .entry)) used r (lent (now (tables .exit)) (now (scratch .exit))) (now (out .exit)) ⌝ }
+    ensures { λ r. ⌜ Feeds
+        (takesCall form
+        (progressOf l (lent (now (tables .entry)) (now (grants .entry)) (now (scratch .entry)))))
+        (now (out .entry)) used r
+        (lent (now (tables .exit)) (now (grants .exit)) (now (scratch .exit))) (now (out .exit)) ⌝ }
 {
-    let taken = turn(l, tables, scratch);
+    let taken = turn(l, tables, grants, scratch);
     let Turn::Took {
         call,
         answer,
@@ -163,6 +167,7 @@ fn byte(
     from: Lister,
     byte: u8,
     tables: &mut [u32],
+    grants: &mut [u32],
     scratch: &mut [u32],
     out: &mut [u8],
     used: usize,
@@ -170,8 +175,11 @@ fn byte(
     requires { ⌜ (from .held < 12) × (length (from .bytes) ≡ 12) × (used + (from .held + 1) * 40 ≤ length (now out)) ⌝ }
     ensures { λ r. ⌜ (r .lister .held < 12) × (length (r .lister .bytes) ≡ 12) ⌝ }
     ensures { λ r. ⌜ r .used + r .lister .held * 40 ≤ used + (from .held + 1) * 40 ⌝ }
-    ensures { λ r. ⌜ Feeds (byteTo form byte (progressOf from (lent (now (tables .entry)) (now (scratch .entry)))))
-        (now (out .entry)) used r (lent (now (tables .exit)) (now (scratch .exit))) (now (out .exit)) ⌝ }
+    ensures { λ r. ⌜ Feeds
+        (byteTo form byte
+        (progressOf from (lent (now (tables .entry)) (now (grants .entry)) (now (scratch .entry)))))
+        (now (out .entry)) used r
+        (lent (now (tables .exit)) (now (grants .exit)) (now (scratch .exit))) (now (out .exit)) ⌝ }
 {
     if !from.going {
         return Fed { lister: from, used };
@@ -182,7 +190,7 @@ fn byte(
     if !whole(&bytes[..held]) {
         return Fed { lister: more, used };
     }
-    answer(form, more, tables, scratch, out, used)
+    answer(form, more, tables, grants, scratch, out, used)
 }
 
 // Tells the calls that become whole with these bytes.
@@ -191,6 +199,7 @@ pub fn feed(
     l: Lister,
     part: &[u8],
     tables: &mut [u32],
+    grants: &mut [u32],
     scratch: &mut [u32],
     out: &mut [u8],
 ) -> Fed
@@ -199,13 +208,24 @@ pub fn feed(
     ensures { λ r. ⌜ (r .lister .held < 12) × (length (r .lister .bytes) ≡ 12) ⌝ }
     ensures { λ r. ⌜ Counts (r .used) (now (out .exit)) ⌝ }
     ensures { λ r. ⌜ Feeds
-        (fed form (now (part .entry)) (progressOf l (lent (now (tables .entry)) (now (scratch .entry)))))
-        (now (out .entry)) 0 r (lent (now (tables .exit)) (now (scratch .exit))) (now (out .exit)) ⌝ }
+        (fed form (now (part .entry))
+        (progressOf l (lent (now (tables .entry)) (now (grants .entry)) (now (scratch .entry)))))
+        (now (out .entry)) 0 r
+        (lent (now (tables .exit)) (now (grants .exit)) (now (scratch .exit))) (now (out .exit)) ⌝ }
 {
     let mut at = Fed { lister: l, used: 0 };
     let mut i = 0;
     while i < part.len() {
-        at = byte(form, at.lister, part[i], tables, scratch, out, at.used);
+        at = byte(
+            form,
+            at.lister,
+            part[i],
+            tables,
+            grants,
+            scratch,
+            out,
+            at.used,
+        );
         i += 1;
     }
     at
@@ -215,7 +235,7 @@ pub fn feed(
 pub fn finish(form: Form, l: Lister, tables: &[u32], out: &mut [u8]) -> usize
     requires { ⌜ (l .held < 12) × (length (l .bytes) ≡ 12) × (sentenceRoom ≤ length (now out)) ⌝ }
     ensures { λ r. ⌜ Counts r (now (out .exit)) ⌝ }
-    ensures { λ r. ⌜ Wrote (now (out .entry)) 0 (ending form (progressOf l (lent (now (tables .entry)) []))) r
+    ensures { λ r. ⌜ Wrote (now (out .entry)) 0 (ending form (progressOf l (lent (now (tables .entry)) [] []))) r
         (now (out .exit)) ⌝ }
 {
     if !l.going {

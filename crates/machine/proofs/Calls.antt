@@ -4,4 +4,5 @@ pub mod Marks
 pub mod Loops
 pub mod Shapes
 pub mod Answers
+pub mod Rights
 pub mod Refusals

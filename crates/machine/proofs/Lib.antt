@@ -3,7 +3,10 @@ pub mod Lists
 pub mod Sublists
 -- The numbers of a call in range, and of an answer.
 pub mod Ranges
+pub mod Permits
 pub mod Answers
+-- The grants, changed and sound.
+pub mod Granted
 -- The chooser, and who goes to the tail of its level, in every state.
 pub mod Running
 pub mod Tails

@@ -7,6 +7,7 @@ use borrow.Author.Tests.{leb-true, ltb-true}
 use Rattle.machine.specs.declared.Call.{Call}
 use Rattle.machine.specs.declared.Call.the-variants.{CreateThread, DestroyThread, SetPriority, CreateEndpoint}
 use Rattle.machine.specs.declared.Call.the-variants.{Interrupt, Tick, Send, Receive, Yield, Wait, Delete, Abort}
+use Rattle.machine.specs.declared.Call.the-variants.{Grant}
 use Rattle.machine.specs.Calls.{isAllowance, inRange}
 
 abbrev pub Bounds : Call → Type 0
@@ -22,6 +23,7 @@ Bounds Yield = Unit {0}
 Bounds (Wait l) = l ≤ 31
 Bounds (Delete e a) = (e ≤ 63) × ((1 ≤ a) × (a ≤ 65535))
 Bounds (Abort e a b) = (e ≤ 63) × ((1 ≤ a) × (a ≤ 65535)) × (b < 2 ^ 28)
+Bounds (Grant t e r b) = (t ≤ 255) × (e ≤ 63) × (r ≤ 15) × (b < 2 ^ 28)
 
 both-upto : (m n x y : ℕ) → (leb m x && leb n y) ≡ true → (m ≤ x) × (n ≤ y)
 both-upto m n x y h = let k = and-eq-true-iff (leb m x) (leb n y) .0 h in (leb-true m x (k .0), leb-true n y (k .1))
@@ -46,3 +48,7 @@ bounds (Abort e a b) h =
     let k = and-eq-true-iff (leb e 63 && isAllowance a) (ltb b (2 ^ 28)) .0 h in
     let j = and-eq-true-iff (leb e 63) (isAllowance a) .0 (k .0) in
     (leb-true e 63 (j .0), both-upto 1 a a 65535 (j .1), ltb-true b (2 ^ 28) (k .1))
+bounds (Grant t e r b) h =
+    let k = and-eq-true-iff ((leb t 255 && leb e 63) && leb r 15) (ltb b (2 ^ 28)) .0 h in
+    let j = and-eq-true-iff (leb t 255 && leb e 63) (leb r 15) .0 (k .0) in
+    let i = both-upto t e 255 63 (j .0) in (i .0, i .1, leb-true r 15 (j .1), ltb-true b (2 ^ 28) (k .1))

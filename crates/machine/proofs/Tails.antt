@@ -7,21 +7,25 @@ use mathlib.Core.Option.{Option, none, some}
 use mathlib.Core.List.{List, [], _∷_, _++_}
 use native.Mathlib.Omega.{arith}
 use borrow.Author.Tests.{ne-eqb}
+use Rattle.machine.specs.declared.Call.{Call}
 use Rattle.machine.specs.declared.Call.the-variants.{CreateThread, SetPriority, Interrupt, Tick, Send, Receive}
 use Rattle.machine.specs.declared.Call.the-variants.{Yield}
-use Rattle.machine.specs.Calls.{inRange}
+use Rattle.machine.specs.Calls.{endpointOf, inRange}
 use Rattle.machine.specs.Lists.{first}
 use Rattle.machine.specs.State.{State, Thread, Place, absent, able, live, quiet, awaited, withPlace}
 use Rattle.machine.specs.State.{setThread, setLine, withTicks, withPriority, messageTaken, messageReceived}
 use Rattle.machine.specs.State.{lineFired, nothing}
 use Rattle.machine.specs.Scheduling.{enqueue, unqueue, standDown, wake, choose}
+use Rattle.machine.specs.Results.{Result}
+use Rattle.machine.specs.Grants.{Grants, lacks}
 use Rattle.machine.specs.Endpoints.{senders, receivers, underAbort, leaveEndpoint, wakeFrom, dropDebt}
 use Rattle.machine.specs.Machine.{isAbsent, isAble, isRunning, createIf, createThread, moveReady, changeUnless}
 use Rattle.machine.specs.Machine.{priorityIf, setPriority, fire, interrupt, leaveTicks, tickFor, tick, sendTo}
 use Rattle.machine.specs.Machine.{sendUnless, sendAt, send, receiveFrom, receiveAt, receive, yield, byCaller}
-use Rattle.machine.specs.Machine.{perform, performIf, step}
+use Rattle.machine.specs.Machine.{perform, step}
 use Rattle.machine.specs.Work.{GoesLast}
 use Rattle.machine.proofs.Lists.{put-same, put-other}
+use Rattle.machine.proofs.Permits.{performed, needs-none, has-right}
 use Rattle.machine.proofs.Preserved.Statuses.{Keeps}
 use Rattle.machine.proofs.Preserved.Debts.{dropDebt-drops}
 
@@ -57,40 +61,45 @@ wakes-from s e t c o b m =
     (wakes-tail (leaveEndpoint t e (dropDebt c s)) t o b m)
 
 -- By the calls.
-module _ (s : State) (t : ℕ) where
-  pub yields-last : s .runs ≡ some t → GoesLast s Yield t (s .threads t .priority) none
-  unfolding step performIf perform yield
+module _ (g : Grants) (s : State) (t : ℕ) where
+  -- A call of the host, or one that needs no right.
+  plainly : (c : Call) → inRange c ≡ true → ((w : ℕ) → lacks w c ≡ false) → step g s c .state ≡ perform c s .state
+  plainly c range free = ap (λ (r : Result). r .state) (performed g s c range (needs-none (s .runs) g c free))
+
+  pub yields-last : s .runs ≡ some t → GoesLast g s Yield t (s .threads t .priority) none
+  unfolding perform lacks yield
   yields-last runs =
       record {
         handed = standDown t (dropDebt t s);
-        chosen = ap (λ (o : Option ℕ). byCaller o (λ u. yield u) s .state) runs;
+        chosen =
+            plainly Yield refl (λ w. refl) ∙ ap (λ (o : Option ℕ). byCaller o (λ u. yield u) s .state) runs;
         last =
             last-kept t (standDown t (dropDebt t s)) (dropDebt-drops s t .keeps) (stands-down-tail (dropDebt t s) t);
         runs = stands-down-idle (dropDebt t s) t;
       }
 
-  pub spends-last : s .runs ≡ some t → s .threads t .ticks ≤ 1 → GoesLast s Tick t (s .threads t .priority) none
-  unfolding step performIf perform tick tickFor leaveTicks
+  pub spends-last : s .runs ≡ some t → s .threads t .ticks ≤ 1 → GoesLast g s Tick t (s .threads t .priority) none
+  unfolding perform lacks tick tickFor leaveTicks
   spends-last runs spent =
       let x = withTicks 5 (s .threads t) in
       let z : s .threads t .ticks - 1 ≡ 0 = omega arith in
       record {
         handed = standDown t (setThread t x s);
-        chosen = rw (runs, z);
+        chosen = plainly Tick refl (λ w. refl) ∙ rw (runs, z);
         last = rw (put-same (s .threads) t x) at (stands-down-tail (setThread t x s) t);
         runs = stands-down-idle (setThread t x s) t;
       }
 
   pub creates-last :
       (p : ℕ) → inRange (CreateThread t p) ≡ true → s .threads t .place ≡ absent
-      → GoesLast s (CreateThread t p) t p (s .runs)
-  unfolding step performIf perform createThread createIf enqueue
+      → GoesLast g s (CreateThread t p) t p (s .runs)
+  unfolding perform lacks createThread createIf enqueue
   creates-last p range free =
       let x : Thread =
       record { place = able; priority = p; ticks = 5; outcome = 0; badge = 0; message = 0; debt = nothing } in
       record {
         handed = enqueue t (setThread t x s);
-        chosen = rw (range, free);
+        chosen = plainly (CreateThread t p) range (λ w. refl) ∙ rw free;
         last = rw (put-same (s .threads) t x) (put-same (s .levels) p _);
         runs = refl;
       }
@@ -98,15 +107,15 @@ module _ (s : State) (t : ℕ) where
   -- "A changed priority moves a ready thread to the new tail."
   pub moves-last :
       (p : ℕ) → inRange (SetPriority t p) ≡ true → s .threads t .place ≡ able → isRunning t (s .runs) ≡ false
-      → (s .threads t .priority ≡ p → ⊥) → GoesLast s (SetPriority t p) t p (s .runs)
-  unfolding step performIf perform setPriority priorityIf changeUnless moveReady enqueue unqueue
+      → (s .threads t .priority ≡ p → ⊥) → GoesLast g s (SetPriority t p) t p (s .runs)
+  unfolding perform lacks setPriority priorityIf changeUnless moveReady enqueue unqueue
   moves-last p range ready idle differs =
       let x = withPriority p (s .threads t) in
       let q = s .threads t .priority in
       record {
         handed = enqueue t (setThread t x (unqueue t s));
         chosen =
-            ap (λ (b : Bool). performIf b (SetPriority t p) s .state) range
+            plainly (SetPriority t p) range (λ w. refl)
             ∙ ap (λ (x : Place). priorityIf (isAbsent x) t p s .state) ready
             ∙ ap (λ (b : Bool). choose (changeUnless b t p s)) (ne-eqb q p differs)
             ∙ ap (λ (x : Place). choose (moveReady (isAble x && not (isRunning t (s .runs))) t p s)) ready
@@ -122,38 +131,46 @@ module _ (s : State) (t : ℕ) where
 
   pub fires-last :
       (l : ℕ) → inRange (Interrupt l) ≡ true → s .lines l ≡ awaited t
-      → GoesLast s (Interrupt l) t (s .threads t .priority) (s .runs)
-  unfolding step performIf perform interrupt fire wake enqueue
+      → GoesLast g s (Interrupt l) t (s .threads t .priority) (s .runs)
+  unfolding perform lacks interrupt fire wake enqueue
   fires-last l range waits =
       record {
         handed = wake t lineFired 0 0 (setLine l quiet s);
-        chosen = rw (range, waits);
+        chosen = plainly (Interrupt l) range (λ w. refl) ∙ rw waits;
         last = wakes-tail (setLine l quiet s) t lineFired 0 0;
         runs = refl;
       }
 
   module _ (c e : ℕ) (runs : s .runs ≡ some c) (up : s .endpoints e .status ≡ live) where
+    permitted :
+        (d : Call) → inRange d ≡ true → lacks (g c (endpointOf d)) d ≡ false
+        → step g s d .state ≡ perform d s .state
+    permitted d range right =
+        ap (λ (r : Result). r .state) (performed g s d range (has-right (s .runs) g d c runs right))
+
     pub hands-last :
-        (b m : ℕ) → inRange (Send e b m) ≡ true → underAbort b (s .endpoints e .abort) ≡ false
+        (b m : ℕ) → inRange (Send e b m) ≡ true → lacks (g c e) (Send e b m) ≡ false
+        → underAbort b (s .endpoints e .abort) ≡ false
         → first (receivers (s .threads) (s .endpoints e .waiters)) ≡ some t
-        → GoesLast s (Send e b m) t (s .threads t .priority) (s .runs)
-    unfolding step performIf perform send sendAt sendUnless sendTo wakeFrom leaveEndpoint wake enqueue
-    hands-last b m range clear waits =
+        → GoesLast g s (Send e b m) t (s .threads t .priority) (s .runs)
+    unfolding perform lacks send sendAt sendUnless sendTo wakeFrom leaveEndpoint wake enqueue
+    hands-last b m range right clear waits =
         record {
           handed = wakeFrom e t messageReceived b m (dropDebt c s);
-          chosen = rw (range, runs, up, clear, waits);
+          chosen = permitted (Send e b m) range right ∙ rw (runs, up, clear, waits);
           last = wakes-from s e t c messageReceived b m;
           runs = dropDebt-drops s c .keeps .runs;
         }
 
     pub takes-last :
-        inRange (Receive e) ≡ true → first (senders (s .threads) (s .endpoints e .waiters)) ≡ some t
-        → GoesLast s (Receive e) t (s .threads t .priority) (s .runs)
-    unfolding step performIf perform receive receiveAt receiveFrom wakeFrom leaveEndpoint wake enqueue
-    takes-last range waits =
+        inRange (Receive e) ≡ true → lacks (g c e) (Receive e) ≡ false
+        → first (senders (s .threads) (s .endpoints e .waiters)) ≡ some t
+        → GoesLast g s (Receive e) t (s .threads t .priority) (s .runs)
+    unfolding perform lacks receive receiveAt receiveFrom wakeFrom leaveEndpoint wake enqueue
+    takes-last range right waits =
         record {
           handed = wakeFrom e t messageTaken 0 0 (dropDebt c s);
-          chosen = rw (range, runs, up, waits);
+          chosen = permitted (Receive e) range right ∙ rw (runs, up, waits);
           last = wakes-from s e t c messageTaken 0 0;
           runs = dropDebt-drops s c .keeps .runs;
         }

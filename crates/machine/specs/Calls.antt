@@ -1,10 +1,11 @@
--- The twelve calls: their numbers, and which numbers in them are in range.
+-- The thirteen calls: their numbers, and which numbers in them are in range.
 use Prim.Native.Nat.{ℕ, _^_}
 use mathlib.Core.Bool.{Bool, true, _&&_}
 use lib.Dec.{leb, ltb}
 use Rattle.machine.specs.declared.Call.{Call}
 use Rattle.machine.specs.declared.Call.the-variants.{CreateThread, DestroyThread, SetPriority, CreateEndpoint}
 use Rattle.machine.specs.declared.Call.the-variants.{Interrupt, Tick, Send, Receive, Yield, Wait, Delete, Abort}
+use Rattle.machine.specs.declared.Call.the-variants.{Grant}
 
 -- The number of a call.
 abbrev pub numberOf : Call → ℕ
@@ -20,6 +21,23 @@ numberOf Yield = 9
 numberOf (Wait l) = 10
 numberOf (Delete e a) = 11
 numberOf (Abort e a b) = 12
+numberOf (Grant t e r b) = 13
+
+-- The endpoint that a call names; 0 where it names none.
+abbrev pub endpointOf : Call → ℕ
+endpointOf (CreateThread t p) = 0
+endpointOf (DestroyThread t) = 0
+endpointOf (SetPriority t p) = 0
+endpointOf (CreateEndpoint e) = e
+endpointOf (Interrupt l) = 0
+endpointOf Tick = 0
+endpointOf (Send e b m) = e
+endpointOf (Receive e) = e
+endpointOf Yield = 0
+endpointOf (Wait l) = 0
+endpointOf (Delete e a) = e
+endpointOf (Abort e a b) = e
+endpointOf (Grant t e r b) = e
 
 abbrev pub isThread : ℕ → Bool
 isThread t = leb t 255
@@ -42,6 +60,9 @@ isMessage m = ltb m (2 ^ 28)
 abbrev pub isAllowance : ℕ → Bool
 isAllowance a = leb 1 a && leb a 65535
 
+abbrev pub isRights : ℕ → Bool
+isRights r = leb r 15
+
 -- Refusal 19 does not apply: every number is in range.
 abbrev pub inRange : Call → Bool
 inRange (CreateThread t p) = isThread t && isPriority p
@@ -56,3 +77,4 @@ inRange Yield = true
 inRange (Wait l) = isLine l
 inRange (Delete e a) = isEndpoint e && isAllowance a
 inRange (Abort e a b) = isEndpoint e && isAllowance a && isBadge b
+inRange (Grant t e r b) = isThread t && isEndpoint e && isRights r && isBadge b

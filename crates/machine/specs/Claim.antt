@@ -12,6 +12,7 @@ use Rattle.machine.specs.declared.Answer.{Answer}
 use Rattle.machine.specs.declared.Call.{Call}
 use Rattle.machine.specs.declared.Call.the-variants.{CreateThread, DestroyThread, SetPriority, CreateEndpoint}
 use Rattle.machine.specs.declared.Call.the-variants.{Interrupt, Tick, Send, Receive, Yield, Wait, Delete, Abort}
+use Rattle.machine.specs.declared.Call.the-variants.{Grant}
 use Rattle.machine.specs.Calls.{numberOf}
 use Rattle.machine.specs.Lists.{pick, only, Mem, Distinct, Rising}
 use Rattle.machine.specs.Results.{plain}
@@ -38,6 +39,7 @@ isSendOf e b (some Yield) = false
 isSendOf e b (some (Wait l)) = false
 isSendOf e b (some (Delete f a)) = false
 isSendOf e b (some (Abort f a c)) = false
+isSendOf e b (some (Grant t f r c)) = false
 
 -- The call is a call 7.
 abbrev pub isSend : Option Call → Bool

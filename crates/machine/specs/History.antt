@@ -6,7 +6,7 @@ use Prim.Native.Nat.{ℕ}
 use mathlib.Core.Bool.{Bool, true, false, _||_}
 use mathlib.Core.Option.{Option, none, some}
 use mathlib.Core.List.{List, [], _∷_, map}
-use lib.Dec.{eqb, leb}
+use lib.Dec.{eqb}
 use Rattle.machine.specs.declared.Answer.{Answer}
 use Rattle.machine.specs.Lists.{put}
 use Rattle.machine.specs.State.{State, Line, quiet, pending, awaited}
@@ -104,10 +104,6 @@ pub record History : Type 0 where
 abbrev pub isIn : ℕ → List ℕ → Bool
 isIn w [] = false
 isIn w (x ∷ l) = eqb w x || isIn w l
-
--- Accepted is answered 0, 1 or 2.
-abbrev pub isAccepted : Answer → Bool
-isAccepted a = leb (a .code) 2
 
 -- Names
 

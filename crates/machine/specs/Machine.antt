@@ -1,4 +1,4 @@
--- The queue machine: what each of the twelve calls does to a state, and what it answers.
+-- The queue machine: what each of the thirteen calls does to a state, and what it answers.
 use Prim.Native.Nat.{ℕ, zero, suc, _-_}
 use mathlib.Core.Bool.{Bool, true, false, _&&_, not}
 use mathlib.Core.Option.{Option, none, some}
@@ -7,6 +7,7 @@ use lib.Dec.{eqb}
 use Rattle.machine.specs.declared.Call.{Call}
 use Rattle.machine.specs.declared.Call.the-variants.{CreateThread, DestroyThread, SetPriority, CreateEndpoint}
 use Rattle.machine.specs.declared.Call.the-variants.{Interrupt, Tick, Send, Receive, Yield, Wait, Delete, Abort}
+use Rattle.machine.specs.declared.Call.the-variants.{Grant}
 use Rattle.machine.specs.Calls.{inRange}
 use Rattle.machine.specs.Lists.{first}
 use Rattle.machine.specs.State.{State, Place, absent, able, sending, receiving, waiting, nothing, Status}
@@ -17,6 +18,7 @@ use Rattle.machine.specs.Scheduling.{enqueue, unqueue, standDown, wake, 
 use Rattle.machine.specs.Endpoints.{senders, receivers, underAbort, joinEndpoint, leaveEndpoint, wakeFrom}
 use Rattle.machine.specs.Endpoints.{dropDebt}
 use Rattle.machine.specs.Results.{Result, accept, done, blocked, refuse, receipt}
+use Rattle.machine.specs.Grants.{Grants, barred}
 use Rattle.machine.specs.Aborts.{delete, abort}
 
 abbrev pub isAbsent : Place → Bool
@@ -159,6 +161,19 @@ waitAt (awaited u) t l s = refuse 27 s
 unfoldable pub wait : ℕ → ℕ → State → Result
 wait t l s = waitAt (s .lines l) t l s
 
+-- 13: thread and endpoint must be there; what is granted stands in the grants.
+unfoldable pub grantAt : Status → State → Result
+grantAt missing s = refuse 23 s
+grantAt live s = done s
+grantAt closing s = done s
+
+unfoldable pub grantIf : Bool → ℕ → State → Result
+grantIf true e s = refuse 21 s
+grantIf false e s = grantAt (s .endpoints e .status) s
+
+unfoldable pub grant : ℕ → ℕ → State → Result
+grant t e s = grantIf (isAbsent (s .threads t .place)) e s
+
 -- The running thread makes calls 7 to 12.
 abbrev pub byCaller : Option ℕ → (ℕ → State → Result) → State → Result
 byCaller none f s = refuse 20 s
@@ -178,11 +193,17 @@ perform Yield s = byCaller (s .runs) (λ t. yield t) s
 perform (Wait l) s = byCaller (s .runs) (λ t. wait t l) s
 perform (Delete e a) s = byCaller (s .runs) (λ t. delete t e a) s
 perform (Abort e a b) s = byCaller (s .runs) (λ t. abort t e a b) s
+perform (Grant t e r b) s = grant t e s
 
-unfoldable pub performIf : Bool → Call → State → Result
-performIf true c s = perform c s
-performIf false c s = refuse 19 s
+-- A missing right or wrong badge: 29, "tried right after 20".
+unfoldable pub performUnless : Bool → Call → State → Result
+performUnless true c s = refuse 29 s
+performUnless false c s = perform c s
 
--- The machine's step.
-unfoldable pub step : State → Call → Result
-step s c = performIf (inRange c) c s
+unfoldable pub performIf : Bool → Grants → Call → State → Result
+performIf true g c s = performUnless (barred (s .runs) g c) c s
+performIf false g c s = refuse 19 s
+
+-- The machine's step, under the grants.
+unfoldable pub step : Grants → State → Call → Result
+step g s c = performIf (inRange c) g c s

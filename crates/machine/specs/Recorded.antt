@@ -7,10 +7,11 @@ use lib.Dec.{eqb}
 use Rattle.machine.specs.declared.Call.{Call}
 use Rattle.machine.specs.Lists.{only}
 use Rattle.machine.specs.State.{State, freshState}
-use Rattle.machine.specs.Results.{Result}
+use Rattle.machine.specs.Results.{Result, isAccepted}
+use Rattle.machine.specs.Grants.{Grants, grantsAfter, freshGrants}
 use Rattle.machine.specs.Machine.{step}
 use Rattle.machine.specs.Sorts.{Sort, other, destroys, waits, receives, yields, removes, looks, sortOf}
-use Rattle.machine.specs.History.{Reported, Delivery, Waiting, AbortCall, History, isIn, isAccepted, queues?}
+use Rattle.machine.specs.History.{Reported, Delivery, Waiting, AbortCall, History, isIn, queues?}
 use Rattle.machine.specs.History.{named, waitingIn, namedLooks}
 use Rattle.machine.specs.Outcomes.{Outcome, outcomeIf}
 
@@ -99,23 +100,26 @@ freshHistory =
 
 pub record Run : Type 0 where
   pub state : State
+  pub grants : Grants
   pub history : History
 
--- The first call gets fresh tables, each later one the tables that the one before it left. The machine's step is a
--- parameter, so that the claim can be tried on machines that go wrong.
-unfoldable pub runFrom : (State → Call → Result) → List Call → Run → Run
+-- The first call gets fresh tables, each later one the tables that the one before it left; the grants "start fresh
+-- and pass on as the tables do". The machine's step is a parameter, so that the claim can be tried on machines that go
+-- wrong.
+unfoldable pub runFrom : (Grants → State → Call → Result) → List Call → Run → Run
 runFrom f [] x = x
 runFrom f (c ∷ l) x =
     runFrom f l
     (record {
-      state = f (x .state) c .state;
-      history = told c (x .state) (f (x .state) c) (x .history);
+      state = f (x .grants) (x .state) c .state;
+      grants = grantsAfter (f (x .grants) (x .state) c .answer) c (x .grants);
+      history = told c (x .state) (f (x .grants) (x .state) c) (x .history);
     })
 
 abbrev pub freshRun : Run
-freshRun = record { state = freshState; history = freshHistory }
+freshRun = record { state = freshState; grants = freshGrants; history = freshHistory }
 
-abbrev pub historyBy : (State → Call → Result) → List Call → History
+abbrev pub historyBy : (Grants → State → Call → Result) → List Call → History
 historyBy f calls = runFrom f calls freshRun .history
 
 abbrev pub historyOf : List Call → History

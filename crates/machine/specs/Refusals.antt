@@ -8,11 +8,13 @@ use lib.Dec.{eqb, leb}
 use Rattle.machine.specs.declared.Call.{Call}
 use Rattle.machine.specs.declared.Call.the-variants.{CreateThread, DestroyThread, SetPriority, CreateEndpoint}
 use Rattle.machine.specs.declared.Call.the-variants.{Interrupt, Tick, Send, Receive, Yield, Wait, Delete, Abort}
-use Rattle.machine.specs.Calls.{numberOf, inRange}
+use Rattle.machine.specs.declared.Call.the-variants.{Grant}
+use Rattle.machine.specs.Calls.{numberOf, endpointOf, inRange}
 use Rattle.machine.specs.Lists.{pick}
 use Rattle.machine.specs.State.{State, Thread, Debt, nothing, Status, missing, live, closing, Endpoint, Line}
 use Rattle.machine.specs.State.{quiet, pending, awaited}
 use Rattle.machine.specs.Endpoints.{underAbort}
+use Rattle.machine.specs.Grants.{Grants, barred}
 use Rattle.machine.specs.Aborts.{hasNote}
 use Rattle.machine.specs.Machine.{isAbsent}
 
@@ -35,8 +37,9 @@ subjectOf Yield = 0
 subjectOf (Wait l) = l
 subjectOf (Delete e a) = e
 subjectOf (Abort e a b) = e
+subjectOf (Grant t e r b) = t
 
--- The badge of a send or an abort; 0 of another call.
+-- The badge of a send, an abort or a grant; 0 of another call.
 abbrev pub badgeOf : Call → ℕ
 badgeOf (CreateThread t p) = 0
 badgeOf (DestroyThread t) = 0
@@ -50,12 +53,13 @@ badgeOf Yield = 0
 badgeOf (Wait l) = 0
 badgeOf (Delete e a) = 0
 badgeOf (Abort e a b) = b
+badgeOf (Grant t e r b) = b
 
 abbrev pub threadNamed : Call → State → Thread
 threadNamed c s = s .threads (subjectOf c)
 
 abbrev pub endpointNamed : Call → State → Endpoint
-endpointNamed c s = s .endpoints (subjectOf c)
+endpointNamed c s = s .endpoints (endpointOf c)
 
 abbrev pub isNobody : Option ℕ → Bool
 isNobody none = true
@@ -92,17 +96,23 @@ firstCause [] = none
 firstCause (r ∷ l) = pick (r .cause) (r .number) (firstCause l)
 
 -- "thread or priority above 255, endpoint above 63, line above 31, badge or message 2^28 or more, allowance 0 or above
--- 65,535 | 19"
+-- 65,535 | 19"; "rights above 15 too"
 abbrev pub row19 : Call → State → Refusal
 row19 c s = record { cause = not (inRange c); number = some 19 }
 
 -- "call 7 to 12 and nobody running | 20"
 abbrev pub row20 : Call → State → Refusal
-row20 c s = record { cause = leb 7 (numberOf c) && isNobody (s .runs); number = some 20 }
+row20 c s =
+    record { cause = leb 7 (numberOf c) && leb (numberOf c) 12 && isNobody (s .runs); number = some 20 }
 
--- "2, 3: thread absent | 21"
+-- "a missing right or wrong badge by 29, tried right after 20"
+abbrev pub row29 : Grants → Call → State → Refusal
+row29 g c s = record { cause = barred (s .runs) g c; number = some 29 }
+
+-- "2, 3: thread absent | 21"; so is call 13, "as other calls are"
 abbrev pub row21 : Call → State → Refusal
-row21 c s = record { cause = oneOf (2 ∷ 3 ∷ []) (numberOf c) && isAbsent (threadNamed c s .place); number = some 21 }
+row21 c s =
+    record { cause = oneOf (2 ∷ 3 ∷ 13 ∷ []) (numberOf c) && isAbsent (threadNamed c s .place); number = some 21 }
 
 -- "1: thread present | 22"
 abbrev pub row22 : Call → State → Refusal
@@ -113,15 +123,15 @@ row22 c s = record { cause = oneOf (1 ∷ []) (numberOf c) && not (isAbsent (thr
 abbrev pub rowOfNote : Call → State → Refusal
 rowOfNote c s =
     record {
-      cause = oneOf (12 ∷ []) (numberOf c) && hasNote (subjectOf c) (badgeOf c) (debtIn (s .runs) s);
+      cause = oneOf (12 ∷ []) (numberOf c) && hasNote (endpointOf c) (badgeOf c) (debtIn (s .runs) s);
       number = none;
     }
 
--- "7, 8, 11, 12: endpoint absent | 23"
+-- "7, 8, 11, 12: endpoint absent | 23"; so is call 13
 abbrev pub row23 : Call → State → Refusal
 row23 c s =
     record {
-      cause = oneOf (7 ∷ 8 ∷ 11 ∷ 12 ∷ []) (numberOf c) && isMissing (endpointNamed c s .status);
+      cause = oneOf (7 ∷ 8 ∷ 11 ∷ 12 ∷ 13 ∷ []) (numberOf c) && isMissing (endpointNamed c s .status);
       number = some 23;
     }
 
@@ -147,11 +157,10 @@ row26 c s =
 abbrev pub row27 : Call → State → Refusal
 row27 c s = record { cause = oneOf (10 ∷ []) (numberOf c) && hasWaiter (s .lines (subjectOf c)); number = some 27 }
 
--- The rows behind the first, for a call whose numbers are in range.
-abbrev pub laterRows : Call → State → List Refusal
-laterRows c s =
-    row20 c s
-    ∷ row21 c s
+-- The rows that look at the tables' content.
+abbrev pub tableRows : Call → State → List Refusal
+tableRows c s =
+    row21 c s
     ∷ row22 c s
     ∷ rowOfNote c s
     ∷ row23 c s
@@ -161,6 +170,10 @@ laterRows c s =
     ∷ row27 c s
     ∷ []
 
--- The number that the call is refused by in this state, if it is refused.
-unfoldable pub refusalOf : Call → State → Option ℕ
-refusalOf c s = firstCause (row19 c s ∷ laterRows c s)
+-- The rows behind the first, for a call whose numbers are in range.
+abbrev pub laterRows : Grants → Call → State → List Refusal
+laterRows g c s = row20 c s ∷ (row29 g c s ∷ tableRows c s)
+
+-- The number that the call is refused by in this state and under these grants, if it is refused.
+unfoldable pub refusalOf : Grants → Call → State → Option ℕ
+refusalOf g c s = firstCause (row19 c s ∷ laterRows g c s)

@@ -3,6 +3,7 @@ use Prim.Native.Nat.{ℕ}
 use mathlib.Core.Bool.{Bool}
 use mathlib.Core.Option.{Option, none, some}
 use mathlib.Core.List.{List, []}
+use lib.Dec.{leb}
 use Rattle.machine.specs.declared.Answer.{Answer}
 use Rattle.machine.specs.declared.Runner.{Runner}
 use Rattle.machine.specs.declared.Runner.the-variants.{Nobody, Thread}
@@ -45,6 +46,10 @@ done s = accept (plain 0) [] s
 
 abbrev pub blocked : State → Result
 blocked s = accept (plain 1) [] s
+
+-- Accepted is answered 0, 1 or 2.
+abbrev pub isAccepted : Answer → Bool
+isAccepted a = leb (a .code) 2
 
 -- The code's name for who runs.
 abbrev pub threadOf : Runner → Option ℕ

@@ -3,6 +3,7 @@ use Prim.Native.Nat.{ℕ}
 use Rattle.machine.specs.declared.Call.{Call}
 use Rattle.machine.specs.declared.Call.the-variants.{CreateThread, DestroyThread, SetPriority, CreateEndpoint}
 use Rattle.machine.specs.declared.Call.the-variants.{Interrupt, Tick, Send, Receive, Yield, Wait, Delete, Abort}
+use Rattle.machine.specs.declared.Call.the-variants.{Grant}
 
 pub data Sort : Type 0 where
   -- nobody waits by it and no debt is dropped
@@ -33,3 +34,4 @@ sortOf Yield = yields
 sortOf (Wait l) = waits
 sortOf (Delete e a) = removes e
 sortOf (Abort e a b) = looks e a b
+sortOf (Grant t e r b) = other

@@ -1,7 +1,7 @@
 -- The machine's ownerships and notes beside those that the history makes out from calls, answers and looks.
 use Prim.Native.Nat.{ℕ}
 use mathlib.Core.Path.{_≡_}
-use mathlib.Core.Bool.{true}
+use mathlib.Core.Bool.{true, false}
 use mathlib.Core.Option.{Option, none, some}
 use mathlib.Core.List.{List, [], _∷_}
 use Rattle.machine.specs.declared.Call.{Call}
@@ -10,6 +10,7 @@ use Rattle.machine.specs.Calls.{inRange}
 use Rattle.machine.specs.State.{State, Thread, Debt, nothing, owns, noted, Endpoint}
 use Rattle.machine.specs.Endpoints.{ownerOf}
 use Rattle.machine.specs.Results.{Result, plain}
+use Rattle.machine.specs.Grants.{Grants, lacks}
 use Rattle.machine.specs.History.{Ended, Reported, Debts}
 use Rattle.machine.specs.Walk.{isNoteOf, reportOf}
 use Rattle.machine.specs.Recorded.{runFrom, freshRun, historyBy}
@@ -38,9 +39,10 @@ pub record Tied (f : ℕ → Thread) (x : ℕ → Endpoint) (d : Debts) (ended :
   pub heard : (t : ℕ) (r : Reported) → d .notes t ≡ some r → (z : Ended) × In z ended × (reportOf (z .abort) ≡ r)
 
 -- "The owner's next abort call of that endpoint and badge is answered 0, count 0, before 23 is tried": so is every
--- caller, after any list, who has a note in its history.
-abbrev pub NotesFirst : (State → Call → Result) → Type 0
+-- caller, after any list, who has a note in its history and the right to abort there.
+abbrev pub NotesFirst : (Grants → State → Call → Result) → Type 0
 NotesFirst f =
     (calls : List Call) (t e a b : ℕ) → inRange (Abort e a b) ≡ true → runFrom f calls freshRun .state .runs ≡ some t
+    → lacks (runFrom f calls freshRun .grants t e) (Abort e a b) ≡ false
     → isNoteOf e b (historyBy f calls .aborts .debts .notes t) ≡ true
-    → f (runFrom f calls freshRun .state) (Abort e a b) .answer ≡ plain 0
+    → f (runFrom f calls freshRun .grants) (runFrom f calls freshRun .state) (Abort e a b) .answer ≡ plain 0

@@ -8,10 +8,12 @@ use lib.ListN.{length}
 use Rattle.machine.specs.declared.Call.{Call}
 use Rattle.machine.specs.declared.Call.the-variants.{CreateThread, DestroyThread, SetPriority, CreateEndpoint}
 use Rattle.machine.specs.declared.Call.the-variants.{Interrupt, Tick, Send, Receive, Yield, Wait, Delete, Abort}
+use Rattle.machine.specs.declared.Call.the-variants.{Grant}
 use Rattle.machine.specs.Lists.{Mem, first}
 use Rattle.machine.specs.State as State
 use Rattle.machine.specs.State.{State}
 use Rattle.machine.specs.Scheduling.{choose}
+use Rattle.machine.specs.Grants.{Grants}
 use Rattle.machine.specs.Aborts.{pendingAt}
 use Rattle.machine.specs.Machine.{step}
 
@@ -42,6 +44,7 @@ allowanceOf Yield = 0
 allowanceOf (Wait l) = 0
 allowanceOf (Delete e a) = a
 allowanceOf (Abort e a b) = a
+allowanceOf (Grant t e r b) = 0
 
 -- Work is left by a call made in state s that left state r.
 pub data WorkLeft (s r : State) : Call → Type 0 where
@@ -54,10 +57,10 @@ pub data WorkLeft (s r : State) : Call → Type 0 where
       {e a b : ℕ} (x : State.Abort) → s .endpoints e .abort ≡ some x → (x .badge ≡ b → ⊥)
       → a ≤ length (x .pending) → WorkLeft s r (Abort e a b)
 
--- The call, made in state s, hands the chooser a state in which t stands last of level p, behind all who stood there,
--- and in which this one runs.
-pub record GoesLast (s : State) (c : Call) (t p : ℕ) (running : Option ℕ) : Type 0 where
+-- The call, made in state s under the grants g, hands the chooser a state in which t stands last of level p, behind all
+-- who stood there, and in which this one runs.
+pub record GoesLast (g : Grants) (s : State) (c : Call) (t p : ℕ) (running : Option ℕ) : Type 0 where
   pub handed : State
-  pub chosen : step s c .state ≡ choose handed
+  pub chosen : step g s c .state ≡ choose handed
   pub last : handed .levels p ≡ s .levels p ++ (t ∷ [])
   pub runs : handed .runs ≡ running

@@ -1,7 +1,7 @@
 // Document 01's numbers by name.
 
 // The codes of answers. The first three are of accepted calls, the others of refused ones, in the order in which the
-// causes are tried.
+// causes are tried, but for the last.
 pub const DONE: u32 = 0;
 
 pub const BLOCKED: u32 = 1;
@@ -9,7 +9,7 @@ pub const BLOCKED: u32 = 1;
 // A delete or an abort whose allowance is used up, with work left.
 pub const BROKEN_OFF: u32 = 2;
 
-// The tables are not 4,096 words, or the scratch not 256.
+// The tables are not 4,096 words, the grants not 16,384, or the scratch not 256.
 pub const LENGTH: u32 = 16;
 
 pub const UNSOUND: u32 = 17;
@@ -34,6 +34,9 @@ pub const ENDPOINT_CLOSING: u32 = 25;
 pub const BADGE_ABORTED: u32 = 26;
 
 pub const LINE_TAKEN: u32 = 27;
+
+// A right or the granted badge is lacking. It is tried right after 20.
+pub const NO_RIGHT: u32 = 29;
 
 // The outcomes of a thread: how its last waiting ended; none where it has not waited, or waits now.
 pub const NO_OUTCOME: u32 = 0;

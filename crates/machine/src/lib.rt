@@ -1,4 +1,4 @@
-// The twelve calls and their answer. What the calls do, the queue machine, stands in specs/; the theorems about it
+// The thirteen calls and their answer. What the calls do, the queue machine, stands in specs/; the theorems about it
 // stand in proofs/.
 ghost use mathlib.Core.Path.{_≡_};
 ghost use Rattle.machine.specs.Calls.{numberOf, isAllowance, inRange};
@@ -47,6 +47,12 @@ pub enum Call {
         allowance: u32,
         badge: u32,
     },
+    Grant {
+        thread: u32,
+        endpoint: u32,
+        rights: u32,
+        badge: u32,
+    },
 }
 
 // What every call is answered with.
@@ -87,7 +93,7 @@ pub enum Runner {
     Thread(u32),
 }
 
-// The call's number, 1 to 12.
+// The call's number, 1 to 13.
 pub fn number(c: Call) -> u32
     ensures { λ r. ⌜ r ≡ numberOf c ⌝ }
 {
@@ -121,6 +127,12 @@ pub fn number(c: Call) -> u32
             allowance: _,
             badge: _,
         } => 12,
+        Call::Grant {
+            thread: _,
+            endpoint: _,
+            rights: _,
+            badge: _,
+        } => 13,
     }
 }
 
@@ -158,5 +170,11 @@ pub fn in_range(c: Call) -> bool
             allowance,
             badge,
         } => endpoint <= 63 && is_allowance(allowance) && badge < codes::NO_BADGE,
+        Call::Grant {
+            thread,
+            endpoint,
+            rights,
+            badge,
+        } => thread <= 255 && endpoint <= 63 && rights <= 15 && badge < codes::NO_BADGE,
     }
 }

@@ -1,3 +1,3 @@
--- The lemmas of naming a call by five numbers; that the five numbers of a call name it stands in RoundTrip.
+-- The lemmas of naming a call by six numbers; that the six numbers of a call name it stands in RoundTrip.
 pub mod Naming
 pub mod RoundTrip

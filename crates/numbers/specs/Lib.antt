@@ -1,2 +1,2 @@
--- The call that five plain numbers name, and the five numbers of a call.
+-- The call that six plain numbers name, and the six numbers of a call.
 pub mod Numbers

@@ -1,13 +1,13 @@
-// A call as five plain numbers: its number, subject, argument, badge and message. Those that it has not are 0.
+// A call as six plain numbers: its number, subject, argument, badge, message and rights. Those that it has not are 0.
 ghost use mathlib.Core.Path.{_≡_};
 ghost use Rattle.journal.specs.Steps.{asNamed};
-ghost use Rattle.numbers.specs.Numbers.{callIn, numbersOf};
+ghost use Rattle.numbers.specs.Numbers.{withoutRights, callIn, numbersOf};
 use journal::types::Named;
 use machine::Call;
 
-// The call that five numbers name.
-pub fn call_in(numbers: [u32; 5]) -> Named
-    ensures { λ r. ⌜ r ≡ asNamed (callIn numbers) ⌝ }
+// The call without rights that the first five name.
+fn without_rights(numbers: [u32; 6]) -> Named
+    ensures { λ r. ⌜ r ≡ asNamed (withoutRights numbers) ⌝ }
 {
     if numbers[0] == 7 {
         let call = Named::One(Call::Send {
@@ -29,33 +29,59 @@ pub fn call_in(numbers: [u32; 5]) -> Named
     journal::if_unused(numbers[3], journal::if_unused(numbers[4], call))
 }
 
-// The five numbers of a call.
-pub fn numbers_of(call: Call) -> [u32; 5]
+// The call that six numbers name. A grant's subject is the thread, its argument the endpoint.
+pub fn call_in(numbers: [u32; 6]) -> Named
+    ensures { λ r. ⌜ r ≡ asNamed (callIn numbers) ⌝ }
+{
+    if numbers[0] == 13 {
+        let call = Named::One(Call::Grant {
+            thread: numbers[1],
+            endpoint: numbers[2],
+            rights: numbers[5],
+            badge: numbers[3],
+        });
+        return journal::if_unused(numbers[4], call);
+    }
+    // Before the call is made of the others: it then stays in registers.
+    if numbers[5] != 0 {
+        return Named::Nothing;
+    }
+    without_rights(numbers)
+}
+
+// The six numbers of a call.
+pub fn numbers_of(call: Call) -> [u32; 6]
     ensures { λ r. ⌜ r ≡ numbersOf call ⌝ }
 {
     match call {
-        Call::CreateThread { thread, priority } => [1, thread, priority, 0, 0],
-        Call::DestroyThread { thread } => [2, thread, 0, 0, 0],
-        Call::SetPriority { thread, priority } => [3, thread, priority, 0, 0],
-        Call::CreateEndpoint { endpoint } => [4, endpoint, 0, 0, 0],
-        Call::Interrupt { line } => [5, line, 0, 0, 0],
-        Call::Tick => [6, 0, 0, 0, 0],
+        Call::CreateThread { thread, priority } => [1, thread, priority, 0, 0, 0],
+        Call::DestroyThread { thread } => [2, thread, 0, 0, 0, 0],
+        Call::SetPriority { thread, priority } => [3, thread, priority, 0, 0, 0],
+        Call::CreateEndpoint { endpoint } => [4, endpoint, 0, 0, 0, 0],
+        Call::Interrupt { line } => [5, line, 0, 0, 0, 0],
+        Call::Tick => [6, 0, 0, 0, 0, 0],
         Call::Send {
             endpoint,
             badge,
             message,
-        } => [7, endpoint, 0, badge, message],
-        Call::Receive { endpoint } => [8, endpoint, 0, 0, 0],
-        Call::Yield => [9, 0, 0, 0, 0],
-        Call::Wait { line } => [10, line, 0, 0, 0],
+        } => [7, endpoint, 0, badge, message, 0],
+        Call::Receive { endpoint } => [8, endpoint, 0, 0, 0, 0],
+        Call::Yield => [9, 0, 0, 0, 0, 0],
+        Call::Wait { line } => [10, line, 0, 0, 0, 0],
         Call::Delete {
             endpoint,
             allowance,
-        } => [11, endpoint, allowance, 0, 0],
+        } => [11, endpoint, allowance, 0, 0, 0],
         Call::Abort {
             endpoint,
             allowance,
             badge,
-        } => [12, endpoint, allowance, badge, 0],
+        } => [12, endpoint, allowance, badge, 0, 0],
+        Call::Grant {
+            thread,
+            endpoint,
+            rights,
+            badge,
+        } => [13, thread, endpoint, badge, 0, rights],
     }
 }

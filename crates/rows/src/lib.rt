@@ -36,16 +36,23 @@ fn stop(reading: Read, who: Runner) -> Turn
 }
 
 // Reads the call at a word of the journal and takes it on the lent memory.
-pub fn next(words: &[u32], at: usize, tables: &mut [u32], scratch: &mut [u32]) -> Turn
+pub fn next(
+    words: &[u32],
+    at: usize,
+    tables: &mut [u32],
+    grants: &mut [u32],
+    scratch: &mut [u32],
+) -> Turn
     ensures { λ r. ⌜ _≡_ {A = Turned}
-        (record { turn = r; left = lent (now (tables .exit)) (now (scratch .exit)) })
-        (turned (readAt (now (words .entry)) at) (lent (now (tables .entry)) (now (scratch .entry)))) ⌝ }
+        (record { turn = r; left = lent (now (tables .exit)) (now (grants .exit)) (now (scratch .exit)) })
+        (turned (readAt (now (words .entry)) at)
+        (lent (now (tables .entry)) (now (grants .entry)) (now (scratch .entry)))) ⌝ }
 {
     let reading = reader::read(words, at);
     let Read::Found { call, next } = reading else {
         return stop(reading, kernel::running(tables));
     };
-    let answer = kernel::call(tables, scratch, call);
+    let answer = kernel::call(tables, grants, scratch, call);
     Turn::Took {
         call,
         answer,

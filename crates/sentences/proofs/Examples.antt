@@ -2,7 +2,7 @@
 use mathlib.Core.Path.{_≡_, refl}
 use lib.ListN.{length}
 use Rattle.machine.specs.declared.Answer.{Answer}
-use Rattle.machine.specs.declared.Call.the-variants.{CreateThread, Tick, Send, Receive, Abort}
+use Rattle.machine.specs.declared.Call.the-variants.{CreateThread, Tick, Send, Receive, Abort, Grant}
 use Rattle.machine.specs.Results.{plain, counted}
 use Rattle.texts.specs.Text.{bytes}
 use Rattle.texts.specs.Decimal.{lastDigits, decimal}
@@ -37,6 +37,16 @@ refused :
 unfolding bytes lastDigits decimal request cause outcome told asksCount asksMessage details sentence
 refused = refl
 
+granted : sentence (Grant 3 0 11 7) (plain 0) ≡ bytes "Grant thread 3 rights 11 at endpoint 0 under badge 7: done.\n"
+unfolding bytes lastDigits decimal request cause outcome told asksCount asksMessage details sentence
+granted = refl
+
+lacking :
+    sentence (Send 0 7 100) (plain 29)
+    ≡ bytes "Send message 100 under badge 7 to endpoint 0: refused by 29, lacks right or badge.\n"
+unfolding bytes lastDigits decimal request cause outcome told asksCount asksMessage details sentence
+lacking = refl
+
 abbrev odd : Answer
 odd = record { code = 77; count = 5; badge = 4294967295; message = 1 }
 
@@ -49,6 +59,6 @@ abbrev largest : Answer
 largest = record { code = 27; count = 4294967295; badge = 4294967295; message = 4294967295 }
 
 -- No line of a call in range is longer.
-longest : length (sentence (Send 63 268435455 268435455) largest) ≡ 155
+longest : length (sentence (Grant 255 63 15 268435455) largest) ≡ 159
 unfolding bytes lastDigits decimal request cause outcome told asksCount asksMessage details sentence
 longest = refl

@@ -11,6 +11,7 @@ use Rattle.machine.specs.declared.Answer.{Answer}
 use Rattle.machine.specs.declared.Call.{Call}
 use Rattle.machine.specs.declared.Call.the-variants.{CreateThread, DestroyThread, SetPriority, CreateEndpoint}
 use Rattle.machine.specs.declared.Call.the-variants.{Interrupt, Tick, Send, Receive, Yield, Wait, Delete, Abort}
+use Rattle.machine.specs.declared.Call.the-variants.{Grant}
 use Rattle.machine.specs.Calls.{numberOf, inRange}
 use Rattle.machine.proofs.Answers.{Words}
 use Rattle.machine.proofs.Ranges.{Bounds, bounds}
@@ -36,7 +37,7 @@ word-short n h = length-below 9 n (omega (arith, h))
 
 -- The request
 
-within-short : (c : Call) → Bounds c → length (request c) ≤ 59
+within-short : (c : Call) → Bounds c → length (request c) ≤ 63
 unfolding request bytes
 within-short (CreateThread t p) h =
     simp length-append (omega (arith, byte-short t (h .0), byte-short p (h .1)))
@@ -63,6 +64,15 @@ within-short (Abort e a b) h =
       length-below 4 a (omega (arith, h .1 .1)),
       badge-short b (h .2),
     ))
+within-short (Grant t e r b) h =
+    simp length-append
+    (omega (
+      arith,
+      byte-short t (h .0),
+      length-below 1 e (omega (arith, h .1)),
+      length-below 1 r (omega (arith, h .2)),
+      badge-short b (h .3),
+    ))
 
 -- The outcome
 
@@ -72,11 +82,11 @@ cause-short n = leb-true _ 23 (each-cause (λ (l : List ℕ). leb (length l) 23)
 
 -- A number with a cause has two digits; one with more has no cause.
 numbered-short : (n : ℕ) → n < 2 ^ 32 → length (decimal n) + length (cause n) ≤ 25
-numbered-short n h = go (leb 29 n) refl
+numbered-short n h = go (leb 30 n) refl
   where
-    go : (b : Bool) → leb 29 n ≡ b → length (decimal n) + length (cause n) ≤ 25
-    go true e = rw (uncaused-above n (leb-true 29 n e)) (omega (arith, word-short n h))
-    go false e = omega (arith, cause-short n, length-below 1 n (omega (arith, leb-false 29 n e)))
+    go : (b : Bool) → leb 30 n ≡ b → length (decimal n) + length (cause n) ≤ 25
+    go true e = rw (uncaused-above n (leb-true 30 n e)) (omega (arith, word-short n h))
+    go false e = omega (arith, cause-short n, length-below 1 n (omega (arith, leb-false 30 n e)))
 
 outcome-short : (n : ℕ) → n < 2 ^ 32 → length (outcome n) ≤ 36
 unfolding bytes outcome
@@ -103,8 +113,8 @@ details-short call a w =
       told-short (asksMessage call (a .code)) (bytes ", message ") (a .message) (w .message),
     ))
 
--- The longest line has 155 bytes (Examples has it).
-pub sentence-short : (c : Call) (a : Answer) → inRange c ≡ true → Words a → length (sentence c a) ≤ 155
+-- The longest line has 159 bytes (Examples has it).
+pub sentence-short : (c : Call) (a : Answer) → inRange c ≡ true → Words a → length (sentence c a) ≤ 159
 unfolding bytes sentence
 sentence-short c a h w =
     simp length-append

@@ -10,6 +10,7 @@ use Rattle.machine.specs.declared.Answer.{Answer}
 use Rattle.machine.specs.declared.Call.{Call}
 use Rattle.machine.specs.declared.Call.the-variants.{CreateThread, DestroyThread, SetPriority, CreateEndpoint}
 use Rattle.machine.specs.declared.Call.the-variants.{Interrupt, Tick, Send, Receive, Yield, Wait, Delete, Abort}
+use Rattle.machine.specs.declared.Call.the-variants.{Grant}
 use Rattle.machine.specs.Calls.{numberOf}
 use Rattle.texts.specs.Text.{bytes}
 use Rattle.texts.specs.Decimal.{decimal}
@@ -61,6 +62,7 @@ request-printable Yield = refl
 request-printable (Wait l) = simp (all-append, decimal-printable)
 request-printable (Delete e a) = simp (all-append, decimal-printable)
 request-printable (Abort e a b) = simp (all-append, decimal-printable)
+request-printable (Grant t e r b) = simp (all-append, decimal-printable)
 
 cause-printable : (n : ℕ) → all isPrintable (cause n) ≡ true
 unfolding bytes

@@ -6,7 +6,7 @@ use mathlib.Core.List.{List, [], _++_, append-assoc}
 use lib.Dec.{eqb}
 use Rattle.machine.specs.declared.Answer.{Answer}
 use Rattle.machine.specs.declared.Call.{Call}
-use Rattle.machine.specs.declared.Call.the-variants.{Send, Abort}
+use Rattle.machine.specs.declared.Call.the-variants.{Send, Abort, Grant}
 use Rattle.machine.specs.Calls.{numberOf}
 use Rattle.texts.specs.Text.{bytes}
 use Rattle.texts.specs.Decimal.{decimal}
@@ -94,3 +94,15 @@ module _ (e b n : ℕ) where
       ++ (bytes " at endpoint " ++ decimal e ++ bytes " with allowance " ++ decimal n)
   unfolding request
   abort-is = simp append-assoc
+
+-- The call of four: twice two.
+
+abbrev pub grantWhat : ℕ → ℕ → List ℕ
+grantWhat t r = bytes "Grant thread " ++ decimal t ++ bytes " rights " ++ decimal r
+
+abbrev pub grantWhere : ℕ → ℕ → List ℕ
+grantWhere e b = bytes " at endpoint " ++ decimal e ++ bytes " under badge " ++ decimal b
+
+pub grant-is : (t e r b : ℕ) → request (Grant t e r b) ≡ grantWhat t r ++ grantWhere e b
+unfolding request
+grant-is t e r b = simp append-assoc

@@ -6,14 +6,15 @@ use lib.ListN.{getD}
 use Rattle.machine.specs.declared.Call.{Call}
 use Rattle.machine.specs.declared.Call.the-variants.{CreateThread, DestroyThread, SetPriority, CreateEndpoint}
 use Rattle.machine.specs.declared.Call.the-variants.{Interrupt, Tick, Send, Receive, Yield, Wait, Delete, Abort}
+use Rattle.machine.specs.declared.Call.the-variants.{Grant}
 use Rattle.machine.specs.Lists.{pick}
 use Rattle.texts.specs.Text.{bytes}
 use Rattle.texts.proofs.Apart.{opensWith, numbersIn, reading}
 use Rattle.sentences.specs.Sentence.{request}
 
 -- How the requests begin, and the calls that they are, of the numbers in the order that they are said in.
-abbrev readings : ℕ → ℕ → ℕ → List (List ℕ × Call)
-readings x y z =
+abbrev readings : ℕ → ℕ → ℕ → ℕ → List (List ℕ × Call)
+readings x y z u =
     (bytes "Create thread ", CreateThread x y)
     ∷ (bytes "Destroy thread ", DestroyThread x)
     ∷ (bytes "Set thread ", SetPriority x y)
@@ -26,6 +27,7 @@ readings x y z =
     ∷ (bytes "Wait on line ", Wait x)
     ∷ (bytes "Delete endpoint ", Delete x y)
     ∷ (bytes "Abort badge ", Abort y z x)
+    ∷ (bytes "Grant thread ", Grant x z y u)
     ∷ []
 
 -- The first that the text begins with.
@@ -34,7 +36,10 @@ firstOf l [] = Tick
 firstOf l (r ∷ rs) = pick (opensWith (r .0) l) (r .1) (firstOf l rs)
 
 abbrev pub callSaid : List ℕ → Call
-callSaid l = firstOf l (readings (getD (numbersIn l) 0 0) (getD (numbersIn l) 1 0) (getD (numbersIn l) 2 0))
+callSaid l = firstOf l (readings (said 0) (said 1) (said 2) (said 3))
+  where
+    said : ℕ → ℕ
+    said i = getD (numbersIn l) i 0
 
 -- Reading the request gives the call, whatever follows its colon.
 pub call-read : (c : Call) (t : List ℕ) → callSaid (request c ++ (bytes ": " ++ t)) ≡ c
@@ -51,3 +56,4 @@ call-read Yield t = refl
 call-read (Wait x) t = simp reading
 call-read (Delete x y) t = simp reading
 call-read (Abort y z x) t = simp reading
+call-read (Grant x z y u) t = simp reading

@@ -9,6 +9,7 @@ use Rattle.machine.specs.declared.Answer.{Answer}
 use Rattle.machine.specs.declared.Call.{Call}
 use Rattle.machine.specs.declared.Call.the-variants.{CreateThread, DestroyThread, SetPriority, CreateEndpoint}
 use Rattle.machine.specs.declared.Call.the-variants.{Interrupt, Tick, Send, Receive, Yield, Wait, Delete, Abort}
+use Rattle.machine.specs.declared.Call.the-variants.{Grant}
 use Rattle.machine.specs.Calls.{numberOf}
 use Rattle.machine.specs.Lists.{pick}
 use Rattle.texts.specs.Text.{bytes}
@@ -30,8 +31,11 @@ request (Wait l) = bytes "Wait on line " ++ decimal l
 request (Delete e a) = bytes "Delete endpoint " ++ decimal e ++ bytes " with allowance " ++ decimal a
 request (Abort e a b) =
     bytes "Abort badge " ++ decimal b ++ bytes " at endpoint " ++ decimal e ++ bytes " with allowance " ++ decimal a
+request (Grant t e r b) =
+    bytes "Grant thread " ++ decimal t ++ bytes " rights " ++ decimal r ++ bytes " at endpoint " ++ decimal e
+    ++ bytes " under badge " ++ decimal b
 
--- Why, of the numbers 16 to 28.
+-- Why, of the numbers 16 to 29.
 abbrev pub causes : List (List ℕ)
 causes =
     bytes ", wrong memory length"
@@ -47,6 +51,7 @@ causes =
     ∷ bytes ", badge is under abort"
     ∷ bytes ", the line has a waiter"
     ∷ bytes ", buffer too short"
+    ∷ bytes ", lacks right or badge"
     ∷ []
 
 -- Nothing where the number has no cause.

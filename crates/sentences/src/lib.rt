@@ -15,7 +15,7 @@ use machine::Call;
 use machine::codes;
 use texts::Output;
 
-// Room for the line of every call in range; the longest has 155 bytes.
+// Room for the line of every call in range; the longest has 159 bytes.
 pub const ROOM: usize = 160;
 
 // That the buffer has no room for every line.

@@ -24,6 +24,7 @@ fn cause(out: &mut [u8], at: usize, code: u32) -> usize
         26 => texts::say(out, at, b", badge is under abort"),
         27 => texts::say(out, at, b", the line has a waiter"),
         28 => texts::say(out, at, b", buffer too short"),
+        29 => texts::say(out, at, b", lacks right or badge"),
         _ => at,
     }
 }

@@ -1,5 +1,5 @@
 // What was asked.
-ghost use Rattle.machine.specs.declared.Call.the-variants.{Send, Abort};
+ghost use Rattle.machine.specs.declared.Call.the-variants.{Send, Abort, Grant};
 ghost use Rattle.texts.specs.Buffer.{Room, Wrote};
 ghost use Rattle.sentences.specs.Sentence.{request};
 use crate::phrases::one;
@@ -33,6 +33,21 @@ fn abort(out: &mut [u8], at: usize, endpoint: u32, allowance: u32, badge: u32) -
         endpoint,
         b" with allowance ",
         allowance,
+    )
+}
+
+fn grant(out: &mut [u8], at: usize, thread: u32, endpoint: u32, rights: u32, badge: u32) -> usize
+    requires { ⌜ Room (now out) at (request (Grant thread endpoint rights badge)) ⌝ }
+    ensures { λ r. ⌜ Wrote (now (out .entry)) at (request (Grant thread endpoint rights badge)) r (now (out .exit)) ⌝ }
+{
+    let next = two(out, at, b"Grant thread ", thread, b" rights ", rights);
+    two(
+        out,
+        next,
+        b" at endpoint ",
+        endpoint,
+        b" under badge ",
+        badge,
     )
 }
 
@@ -81,5 +96,11 @@ pub fn request(out: &mut [u8], at: usize, call: Call) -> usize
             allowance,
             badge,
         } => abort(out, at, endpoint, allowance, badge),
+        Call::Grant {
+            thread,
+            endpoint,
+            rights,
+            badge,
+        } => grant(out, at, thread, endpoint, rights, badge),
     }
 }

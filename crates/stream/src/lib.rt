@@ -18,12 +18,19 @@ struct Stage {
 
 // Lists a part and writes its text. There is room for it: 40 bytes for each byte of the part, and for each of the
 // eleven that may be held.
-fn list(form: Form, l: Lister, part: &[u8], tables: &mut [u32], scratch: &mut [u32]) -> Stage
+fn list(
+    form: Form,
+    l: Lister,
+    part: &[u8],
+    tables: &mut [u32],
+    grants: &mut [u32],
+    scratch: &mut [u32],
+) -> Stage
     requires { ⌜ (l .held < 12) × (length (l .bytes) ≡ 12) × (length (now part) < 513) ⌝ }
     ensures { λ r. ⌜ (r .lister .held < 12) × (length (r .lister .bytes) ≡ 12) ⌝ }
 {
     let mut out = [0u8; 20920];
-    let fed = lister::feed(form, l, part, tables, scratch, &mut out);
+    let fed = lister::feed(form, l, part, tables, grants, scratch, &mut out);
     let used = fed.used;
     let shown = output::show(&out[..used]);
     let after = fed.lister;
@@ -35,7 +42,7 @@ fn list(form: Form, l: Lister, part: &[u8], tables: &mut [u32], scratch: &mut [u
 }
 
 // Reads once, what is there, and writes its text.
-fn turn(form: Form, l: Lister, tables: &mut [u32], scratch: &mut [u32]) -> Stage
+fn turn(form: Form, l: Lister, tables: &mut [u32], grants: &mut [u32], scratch: &mut [u32]) -> Stage
     requires { ⌜ (l .held < 12) × (length (l .bytes) ≡ 12) ⌝ }
     ensures { λ r. ⌜ (r .lister .held < 12) × (length (r .lister .bytes) ≡ 12) ⌝ }
 {
@@ -57,7 +64,7 @@ fn turn(form: Form, l: Lister, tables: &mut [u32], scratch: &mut [u32]) -> Stage
         };
     }
     let n = io::count(got, &part);
-    list(form, l, &part[..n], tables, scratch)
+    list(form, l, &part[..n], tables, grants, scratch)
 }
 
 // Writes the last line, if the bytes still held ask for one.
@@ -79,7 +86,7 @@ fn begin(form: Form) -> bool {
 
 // A proved loop has to end, and nothing says that a journal does. So the turns are counted down, from a number that
 // no run uses up.
-fn turns(form: Form, tables: &mut [u32], scratch: &mut [u32]) {
+fn turns(form: Form, tables: &mut [u32], grants: &mut [u32], scratch: &mut [u32]) {
     let mut p = Stage {
         lister: lister::start(),
         going: begin(form),
@@ -87,7 +94,7 @@ fn turns(form: Form, tables: &mut [u32], scratch: &mut [u32]) {
     };
     let mut turns = u64::MAX;
     while turns > 0 && p.going {
-        p = turn(form, p.lister, tables, scratch);
+        p = turn(form, p.lister, tables, grants, scratch);
         turns -= 1;
     }
     if p.ended {
@@ -95,10 +102,11 @@ fn turns(form: Form, tables: &mut [u32], scratch: &mut [u32]) {
     }
 }
 
-// The whole journal, on fresh tables.
+// The whole journal, on fresh tables and grants.
 pub fn run(form: Form) {
     let mut tables = [0u32; lent_tables::TABLE_WORDS];
+    let mut grants = [0u32; grants::GRANT_WORDS];
     let mut scratch = [0u32; lent_tables::SCRATCH_WORDS];
-    lent_tables::fresh(&mut tables);
-    turns(form, &mut tables, &mut scratch);
+    lent_tables::fresh(&mut tables, &mut grants);
+    turns(form, &mut tables, &mut grants, &mut scratch);
 }

@@ -20,6 +20,6 @@ sentenceNamed none a out = unfiled (pick (leb sentenceRoom (length out)) 18 28) 
 abbrev pub answerIn : List ℕ → Answer
 answerIn ns = record { code = getD ns 0 0; count = getD ns 1 0; badge = getD ns 2 0; message = getD ns 3 0 }
 
--- The sentence of a call that passes as five numbers and an answer that passes as four.
+-- The sentence of a call that passes as six numbers and an answer that passes as four.
 unfoldable pub sentenceIn : List ℕ → List ℕ → List ℕ → Filed
 sentenceIn numbers answer out = sentenceNamed (callIn numbers) (answerIn answer) out

@@ -1,6 +1,6 @@
 // The tools for C that are not the core, under the names of include/nazsombet_tools.h: a library of its own, so that a
 // box with the core links none of it. A slice passes as a pointer and a length, an array of fixed length as a pointer.
-// A call passes as five plain numbers, as in core_c; those that name no call are refused by 18, after 28 and before 19.
+// A call passes as six plain numbers, as in core_c; those that name no call are refused by 18, after 28 and before 19.
 ghost use mathlib.Core.Path.{_≡_};
 ghost use Rattle.journal.specs.Steps.{callNamed};
 ghost use Rattle.texts.specs.Filed.{Filed};
@@ -39,7 +39,7 @@ fn sentence_named(out: &mut [u8], named: Named, answer: Answer) -> Output
 #[no_mangle]
 pub extern "C" fn nazsombet_sentence(
     out: &mut [u8],
-    call: &[u32; 5],
+    call: &[u32; 6],
     answer: &[u32; 4],
     used: &mut usize,
 ) -> u32

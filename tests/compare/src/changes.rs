@@ -1,23 +1,57 @@
-//! Changes of the tables' words, most of which make them unsound.
+//! Changes of the words of the tables or the grants, most of which make them
+//! unsound.
 
-use crate::pair::Change;
+use crate::subject::Memory;
 use second::Rng;
 
-/// One or two words to put into the tables.
-pub fn changes(rng: &mut Rng, tables: &[u32]) -> Vec<Change> {
+/// An address and the word put there.
+pub type Change = (usize, u32);
+
+/// Which memory is changed, and the words put into it.
+#[derive(Clone, Debug)]
+pub enum Changes {
+    Tables(Vec<Change>),
+    Grants(Vec<Change>),
+}
+
+impl Changes {
+    /// One or two words to put into the tables or the grants.
+    pub fn by_chance(rng: &mut Rng, memory: Memory) -> Changes {
+        if rng.one_in(3) {
+            Changes::Grants(few(rng, memory.grants))
+        } else {
+            Changes::Tables(few(rng, memory.tables))
+        }
+    }
+
+    /// Tables and grants with the changes.
+    pub fn made(&self, memory: Memory) -> (Vec<u32>, Vec<u32>) {
+        let (mut tables, mut grants) = (memory.tables.to_vec(), memory.grants.to_vec());
+        let (words, changes) = match self {
+            Changes::Tables(changes) => (&mut tables, changes),
+            Changes::Grants(changes) => (&mut grants, changes),
+        };
+        for &(at, word) in changes {
+            words[at] = word;
+        }
+        (tables, grants)
+    }
+}
+
+fn few(rng: &mut Rng, words: &[u32]) -> Vec<Change> {
     let count = if rng.one_in(3) { 2 } else { 1 };
-    (0..count).map(|_| change(rng, tables)).collect()
+    (0..count).map(|_| change(rng, words)).collect()
 }
 
 /// A word near the one that stands there, one from elsewhere, or any.
-fn change(rng: &mut Rng, tables: &[u32]) -> Change {
-    let at = if rng.one_in(3) { rng.below(tables.len()) } else { used(rng, tables) };
-    let old = tables[at];
+fn change(rng: &mut Rng, words: &[u32]) -> Change {
+    let at = if rng.one_in(3) { rng.below(words.len()) } else { used(rng, words) };
+    let old = words[at];
     let word = match rng.below(6) {
         0 => 0,
         1 => old.wrapping_add(1),
         2 => old.wrapping_sub(1),
-        3 => tables[used(rng, tables)],
+        3 => words[used(rng, words)],
         4 => rng.below(260) as u32,
         _ => rng.draw() as u32,
     };
@@ -25,8 +59,8 @@ fn change(rng: &mut Rng, tables: &[u32]) -> Change {
 }
 
 /// The address of a word that is not 0, if there is any.
-fn used(rng: &mut Rng, tables: &[u32]) -> usize {
-    let from = rng.below(tables.len());
-    let around = (from..tables.len()).chain(0..from);
-    around.into_iter().find(|&at| tables[at] != 0).unwrap_or(from)
+fn used(rng: &mut Rng, words: &[u32]) -> usize {
+    let from = rng.below(words.len());
+    let around = (from..words.len()).chain(0..from);
+    around.into_iter().find(|&at| words[at] != 0).unwrap_or(from)
 }

@@ -1,6 +1,6 @@
 //! The compiled core as the comparison sees it.
 
-use crate::subject::Core;
+use crate::subject::{Core, Memory};
 use core_c::{Answer, Numbers};
 use second::{Call, Read, Written};
 
@@ -12,20 +12,21 @@ pub struct Compiled(core_c::Core);
 pub fn numbers(call: &Call) -> Numbers {
     let own = call.named();
     let subject = own.thread.or(own.endpoint).or(own.line);
-    let argument = own.priority.or(own.allowance);
+    let argument = own.priority.or(own.allowance).or(own.thread.and(own.endpoint));
     Numbers {
         number: call.number(),
         subject: subject.unwrap_or(0),
         argument: argument.unwrap_or(0),
         badge: own.badge.unwrap_or(0),
         message: own.message.unwrap_or(0),
+        rights: own.rights.unwrap_or(0),
     }
 }
 
 /// A call as the core has read it; back to numbers it is what was read, so the way there hides nothing.
 fn call_of(read: &Numbers) -> Call {
-    let Numbers { number, subject, argument, badge, message } = *read;
-    let Some(call) = second::call_of(number, subject, argument, badge, message) else {
+    let Numbers { number, subject, argument, badge, message, rights } = *read;
+    let Some(call) = second::call_of(number, subject, argument, badge, message, rights) else {
         panic!("the core has read what is no call: {read:?}");
     };
     assert_eq!(numbers(&call), *read, "the numbers of the call read");
@@ -50,12 +51,13 @@ impl Core for Compiled {
         self.0.running()
     }
 
-    fn tables(&self) -> &[u32] {
-        &self.0.tables
+    fn memory(&self) -> Memory<'_> {
+        Memory { tables: &self.0.tables, grants: &self.0.grants }
     }
 
-    fn load(&mut self, words: &[u32]) {
-        self.0.tables.copy_from_slice(words);
+    fn load(&mut self, memory: Memory) {
+        self.0.tables.copy_from_slice(memory.tables);
+        self.0.grants.copy_from_slice(memory.grants);
     }
 
     fn scratch(&mut self) -> &mut [u32] {

@@ -14,4 +14,4 @@ pub use compiled::{numbers, Compiled};
 pub use report::{grouped, journal, report};
 pub use run::{compare, compare_watched, Compared, Failure};
 pub use side::Difference;
-pub use subject::Core;
+pub use subject::{Core, Memory};

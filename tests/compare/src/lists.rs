@@ -1,7 +1,7 @@
 //! The lists of calls: what each goes for, and how long it is.
 
-use crate::changes::changes;
-use crate::pair::Change;
+use crate::changes::Changes;
+use crate::subject::Memory;
 use second::{Call, Machine, Profile, Rng, Steer};
 
 /// A profile, how many of all lists have it, and a length's least and range.
@@ -12,7 +12,7 @@ const KINDS: [(Profile, usize, usize, usize); 4] = [
     (Profile::Full, 1, 1000, 2000),
 ];
 
-/// One call in so many is made on changed tables too.
+/// One call in so many is made on changed tables or grants too.
 const CHANGED: usize = 32;
 
 /// Steered lists, the same from the same seed.
@@ -34,9 +34,9 @@ impl Lists {
         least + self.rng.below(range)
     }
 
-    /// Now and then, words to put into the tables before the next call.
-    pub fn changes(&mut self, tables: &[u32]) -> Option<Vec<Change>> {
-        self.rng.one_in(CHANGED).then(|| changes(&mut self.rng, tables))
+    /// Now and then, words to put into tables or grants before the next call.
+    pub fn changes(&mut self, memory: Memory) -> Option<Changes> {
+        self.rng.one_in(CHANGED).then(|| Changes::by_chance(&mut self.rng, memory))
     }
 
     /// The list's next call, by the state that the machine has come to.

@@ -1,19 +1,21 @@
 //! One call on both sides.
 
+use crate::changes::Changes;
 use crate::side::{same, Difference, Same, Side};
-use crate::subject::Core;
-use second::{shown, sound_words, write_memory, Answer, Call, Machine, Step, TABLE};
+use crate::subject::{Core, Memory};
+use second::{shown, sound_grants, sound_words, write_memory, Answer, Call, Machine, Step, TABLE};
 use std::mem::replace;
 
-/// An address and the word put there.
-pub type Change = (usize, u32);
+fn memory_of<'a>(tables: &'a [u32], machine: &'a Machine) -> Memory<'a> {
+    Memory { tables, grants: machine.grants() }
+}
 
 /// The core and the second machine, after the same calls.
 pub struct Pair<C> {
     side: Side<C>,
     before: Machine,
     machine: Machine,
-    /// The memory of the machine.
+    /// The machine's tables as words; its grants are words themselves.
     image: Vec<u32>,
 }
 
@@ -27,8 +29,8 @@ impl<C: Core> Pair<C> {
         &self.machine
     }
 
-    pub fn tables(&self) -> &[u32] {
-        self.side.core.tables()
+    pub fn memory(&self) -> Memory<'_> {
+        self.side.core.memory()
     }
 
     /// The last call, with its answer.
@@ -51,54 +53,52 @@ impl<C: Core> Pair<C> {
         let Answer { code, count, badge, message } = answer;
         self.side.call(call, [code, count, badge, message])?;
         self.same_state("after the call")?;
-        self.side.check(&self.image, 0)?;
+        self.side.check(memory_of(&self.image, &self.machine), 0)?;
         Ok(answer)
     }
 
-    /// Who runs, and the tables: they are the memory of the machine.
+    /// Who runs, and tables and grants: they are the memory of the machine.
     fn same_state(&mut self, when: &str) -> Same {
         same("running thread", self.side.core.running(), self.machine.running().map(u32::from))?;
         write_memory(&self.machine, &mut self.image);
-        self.side.tables(&self.image, when)
+        self.side.memory(memory_of(&self.image, &self.machine), when)
     }
 }
 
-/// Tables that no call has left so.
+/// Tables and grants that no call has left so.
 impl<C: Core> Pair<C> {
-    /// Makes a call on tables of which some words are changed, and takes the
-    /// changes back. Such tables are refused, or show another state that is
+    /// Makes a call where some words of tables or grants are changed, and takes
+    /// the changes back. Such words are refused, or show another state that is
     /// sound: true.
-    pub fn call_changed(&mut self, changes: &[Change], call: &Call) -> Result<bool, Difference> {
-        let mut words = self.image.clone();
-        for &(at, word) in changes {
-            words[at] = word;
-        }
-        self.side.core.load(&words);
-        let sound = sound_words(&words);
-        let same = if sound { self.call_shown(&words, call) } else { self.refused(&words, call) };
+    pub fn call_changed(&mut self, changes: &Changes, call: &Call) -> Result<bool, Difference> {
+        let (tables, grants) = changes.made(memory_of(&self.image, &self.machine));
+        let memory = Memory { tables: &tables, grants: &grants };
+        self.side.core.load(memory);
+        let sound = sound_words(&tables) && sound_grants(&grants);
+        let same = if sound { self.call_shown(memory, call) } else { self.refused(memory, call) };
         same.map_err(|difference| {
-            let what = format!("with {changes:?} in the tables, {call:?}: {}", difference.what);
+            let what = format!("with {changes:?} put there, {call:?}: {}", difference.what);
             Difference { what, ..difference }
         })?;
         write_memory(&self.machine, &mut self.image);
-        self.side.core.load(&self.image);
+        self.side.core.load(memory_of(&self.image, &self.machine));
         Ok(sound)
     }
 
     /// A call on the machine that the words show.
-    fn call_shown(&mut self, words: &[u32], call: &Call) -> Same {
-        let machine = shown(words).expect("sound words show a machine");
-        let kept = replace(&mut self.machine, machine);
-        self.side.check(words, 0)?;
+    fn call_shown(&mut self, memory: Memory, call: &Call) -> Same {
+        let machine = shown(memory.tables).expect("sound words show a machine");
+        let kept = replace(&mut self.machine, machine.with_grants(memory.grants));
+        self.side.check(memory, 0)?;
         self.call(call)?;
         self.machine = kept;
         Ok(())
     }
 
     /// A call on words that are not sound.
-    fn refused(&mut self, words: &[u32], call: &Call) -> Same {
-        self.side.check(words, 17)?;
+    fn refused(&mut self, memory: Memory, call: &Call) -> Same {
+        self.side.check(memory, 17)?;
         self.side.call(call, [17, 0, 0, 0])?;
-        self.side.tables(words, "after the call")
+        self.side.memory(memory, "after the call")
     }
 }

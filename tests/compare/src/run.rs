@@ -1,5 +1,6 @@
 //! Lists of calls on both sides, up to the first difference.
 
+use crate::changes::Changes;
 use crate::lists::Lists;
 use crate::pair::Pair;
 use crate::side::Difference;
@@ -19,9 +20,15 @@ pub struct Failure {
 #[derive(Default)]
 pub struct Compared {
     pub tally: Tally,
-    /// Calls on changed tables: refused ones, and ones that were still sound.
-    pub unsound: u64,
-    pub sound: u64,
+    on_tables: OnChanged,
+    on_grants: OnChanged,
+}
+
+/// Calls on a changed memory: refused ones, and ones where it was still sound.
+#[derive(Default)]
+struct OnChanged {
+    unsound: u64,
+    sound: u64,
 }
 
 /// Compares so many calls.
@@ -66,16 +73,24 @@ impl Compared {
         self.tally.new_list();
         for _ in 0..length {
             let call = lists.next(pair.machine());
-            if let Some(changes) = lists.changes(pair.tables()) {
+            if let Some(changes) = lists.changes(pair.memory()) {
                 let sound = pair.call_changed(&changes, &call)?;
-                self.sound += sound as u64;
-                self.unsound += !sound as u64;
+                self.count(&changes, sound);
             }
             made.push(call);
             let answer = pair.call(&call)?;
             self.tally.add(&pair.step(&call, &answer));
         }
         Ok(())
+    }
+
+    fn count(&mut self, changes: &Changes, sound: bool) {
+        let on = match changes {
+            Changes::Tables(_) => &mut self.on_tables,
+            Changes::Grants(_) => &mut self.on_grants,
+        };
+        on.sound += sound as u64;
+        on.unsound += !sound as u64;
     }
 
     /// What has not come up, of all that can.
@@ -89,11 +104,13 @@ impl Compared {
         missing
     }
 
-    /// Calls on changed tables, by what they were.
-    pub fn changed(&self) -> [(u64, &'static str); 2] {
+    /// Calls on changed tables and grants, by what they were.
+    pub fn changed(&self) -> [(u64, &'static str); 4] {
         [
-            (self.unsound, "call on changed tables, refused by 17"),
-            (self.sound, "call on changed tables that are sound"),
+            (self.on_tables.unsound, "call on changed tables, refused by 17"),
+            (self.on_tables.sound, "call on changed tables that are sound"),
+            (self.on_grants.unsound, "call on changed grants, refused by 17"),
+            (self.on_grants.sound, "call on changed grants that are sound"),
         ]
     }
 }

@@ -1,7 +1,7 @@
 //! The core's side of a comparison: each entry made, and what it leaves.
 
-use crate::subject::Core;
-use second::{read, word_name, write, Call, TABLE};
+use crate::subject::{Core, Memory};
+use second::{grant_name, read, word_name, write, Call};
 use std::fmt::Debug;
 
 /// What the two sides disagree on.
@@ -22,6 +22,16 @@ pub fn same<T: PartialEq + Debug>(what: &str, core: T, second: T) -> Same {
     Err(Difference { what: String::from(what), core, second })
 }
 
+/// The first word that is not the same is said by its name.
+fn same_words(core: &[u32], second: &[u32], name: fn(usize) -> String, when: &str) -> Same {
+    if core == second {
+        return Ok(());
+    }
+    same("number of words lent", core.len(), second.len())?;
+    let at = (0..core.len()).find(|&at| core[at] != second[at]).unwrap_or(0);
+    same(&format!("{}, word {at}, {when}", name(at)), core[at], second[at])
+}
+
 /// The core, with junk for its scratch: what that holds must not matter.
 pub struct Side<C> {
     pub core: C,
@@ -40,23 +50,19 @@ impl<C: Core> Side<C> {
         self.zero_scratch("scratch after the call")
     }
 
-    /// The check answers so and leaves the tables as they are.
-    pub fn check(&mut self, words: &[u32], code: u32) -> Same {
+    /// The check answers so and leaves tables and grants as they are.
+    pub fn check(&mut self, memory: Memory, code: u32) -> Same {
         self.spoil_scratch();
         same("check", self.core.check(), code)?;
         self.zero_scratch("scratch after the check")?;
-        self.tables(words, "after the check")
+        self.memory(memory, "after the check")
     }
 
-    /// The tables are these words.
-    pub fn tables(&self, words: &[u32], when: &str) -> Same {
-        let tables = self.core.tables();
-        if tables == words {
-            return Ok(());
-        }
-        same("length of the tables", tables.len(), words.len())?;
-        let at = (0..TABLE).find(|&at| tables[at] != words[at]).unwrap_or(0);
-        same(&format!("{}, word {at}, {when}", word_name(at)), tables[at], words[at])
+    /// Tables and grants are these words.
+    pub fn memory(&self, memory: Memory, when: &str) -> Same {
+        let own = self.core.memory();
+        same_words(own.tables, memory.tables, word_name, when)?;
+        same_words(own.grants, memory.grants, grant_name, when)
     }
 
     fn spoil_scratch(&mut self) {

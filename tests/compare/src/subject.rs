@@ -2,7 +2,14 @@
 
 use second::{Call, Read, Written};
 
-/// A core with its tables and its scratch.
+/// The tables and the grants, each word for word.
+#[derive(Clone, Copy)]
+pub struct Memory<'a> {
+    pub tables: &'a [u32],
+    pub grants: &'a [u32],
+}
+
+/// A core with its tables, its grants and its scratch.
 pub trait Core {
     fn fresh(&mut self) -> u32;
     fn check(&mut self) -> u32;
@@ -10,10 +17,10 @@ pub trait Core {
 
     fn running(&self) -> Option<u32>;
 
-    fn tables(&self) -> &[u32];
+    fn memory(&self) -> Memory<'_>;
 
-    /// Puts other words in the place of the tables.
-    fn load(&mut self, words: &[u32]);
+    /// Puts other words in the place of tables and grants.
+    fn load(&mut self, memory: Memory);
 
     fn scratch(&mut self) -> &mut [u32];
     fn write(&self, call: &Call) -> Written;

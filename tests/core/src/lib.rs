@@ -4,16 +4,25 @@ mod entries {
     use crate::{Answer, Numbers};
 
     extern "C" {
-        pub fn nazsombet_fresh(tables: *mut u32, length: usize) -> u32;
+        pub fn nazsombet_fresh(
+            tables: *mut u32,
+            tables_length: usize,
+            grants: *mut u32,
+            grants_length: usize,
+        ) -> u32;
         pub fn nazsombet_check(
             tables: *const u32,
-            length: usize,
+            tables_length: usize,
+            grants: *const u32,
+            grants_length: usize,
             scratch: *mut u32,
             scratch_length: usize,
         ) -> u32;
         pub fn nazsombet_call(
             tables: *mut u32,
-            length: usize,
+            tables_length: usize,
+            grants: *mut u32,
+            grants_length: usize,
             scratch: *mut u32,
             scratch_length: usize,
             call: *const Numbers,
@@ -30,11 +39,12 @@ mod entries {
             words: *mut [u32; 3],
             count: *mut usize,
         ) -> u32;
-        pub fn nazsombet_running(tables: *const u32, length: usize) -> u32;
+        pub fn nazsombet_running(tables: *const u32, tables_length: usize) -> u32;
     }
 }
 
 pub const TABLES: usize = 4096;
+pub const GRANTS: usize = 16_384;
 pub const SCRATCH: usize = 256;
 const ENDED: u32 = 255;
 const NOBODY: u32 = 256;
@@ -48,6 +58,7 @@ pub struct Numbers {
     pub argument: u32,
     pub badge: u32,
     pub message: u32,
+    pub rights: u32,
 }
 
 #[repr(C)]
@@ -87,32 +98,43 @@ pub struct Written {
 #[derive(Clone, Debug, PartialEq, Eq)]
 pub struct Core {
     pub tables: Vec<u32>,
+    pub grants: Vec<u32>,
     pub scratch: Vec<u32>,
 }
 
 impl Core {
-    /// Fresh tables, and a scratch that holds something.
+    /// Fresh tables and grants, and a scratch that holds something.
     pub fn new() -> Core {
-        let mut core =
-            Core { tables: vec![0xDEAD_BEEF; TABLES], scratch: vec![0xDEAD_BEEF; SCRATCH] };
+        let [tables, grants, scratch] =
+            [TABLES, GRANTS, SCRATCH].map(|length| vec![0xDEAD_BEEF; length]);
+        let mut core = Core { tables, grants, scratch };
         assert_eq!(core.fresh(), 0);
         core
     }
 
     /// 0 or 16.
     pub fn fresh(&mut self) -> u32 {
-        // SAFETY: the pointer and length are a slice's, lent for the call.
-        unsafe { entries::nazsombet_fresh(self.tables.as_mut_ptr(), self.tables.len()) }
+        // SAFETY: the pointers and lengths are those of two slices apart, lent for the call.
+        unsafe {
+            entries::nazsombet_fresh(
+                self.tables.as_mut_ptr(),
+                self.tables.len(),
+                self.grants.as_mut_ptr(),
+                self.grants.len(),
+            )
+        }
     }
 
     /// 0, 16 or 17.
     #[inline]
     pub fn check(&mut self) -> u32 {
-        // SAFETY: the pointers and lengths are those of two slices apart.
+        // SAFETY: the pointers and lengths are those of three slices apart.
         unsafe {
             entries::nazsombet_check(
                 self.tables.as_ptr(),
                 self.tables.len(),
+                self.grants.as_ptr(),
+                self.grants.len(),
                 self.scratch.as_mut_ptr(),
                 self.scratch.len(),
             )
@@ -122,11 +144,13 @@ impl Core {
     #[inline]
     pub fn call(&mut self, call: &Numbers) -> Answer {
         let mut answer = Answer::default();
-        // SAFETY: the slices, the call and the answer are apart, and `repr(C)` gives five words and four.
+        // SAFETY: the slices, the call and the answer are apart, and `repr(C)` gives six words and four.
         let code = unsafe {
             entries::nazsombet_call(
                 self.tables.as_mut_ptr(),
                 self.tables.len(),
+                self.grants.as_mut_ptr(),
+                self.grants.len(),
                 self.scratch.as_mut_ptr(),
                 self.scratch.len(),
                 call,
@@ -147,7 +171,7 @@ impl Core {
     pub fn read(journal: &[u32], at: usize) -> Read {
         let mut next = at;
         let mut call = Numbers::default();
-        // SAFETY: the slice, the place and the call are apart, and `repr(C)` gives five words.
+        // SAFETY: the slice, the place and the call are apart, and `repr(C)` gives six words.
         let code = unsafe {
             entries::nazsombet_read(journal.as_ptr(), journal.len(), &mut next, &mut call)
         };
@@ -161,7 +185,7 @@ impl Core {
     pub fn write(call: Numbers) -> Written {
         let mut words = [0; 3];
         let mut count = 0;
-        // SAFETY: the call, the words and the count are apart, and `repr(C)` gives five words.
+        // SAFETY: the call, the words and the count are apart, and `repr(C)` gives six words.
         let code = unsafe { entries::nazsombet_write(&call, &mut words, &mut count) };
         Written { code, count, words }
     }

@@ -1,4 +1,4 @@
-//! The twelve calls and the answer.
+//! The thirteen calls and the answer.
 
 pub const BADGE_LIMIT: u32 = 1 << 28;
 
@@ -12,6 +12,7 @@ pub struct Numbers {
     pub badge: Option<u32>,
     pub message: Option<u32>,
     pub allowance: Option<u32>,
+    pub rights: Option<u32>,
 }
 
 /// A call with its own numbers, any of which may be out of range.
@@ -29,10 +30,11 @@ pub enum Call {
     Wait { line: u32 },
     Delete { endpoint: u32, allowance: u32 },
     Abort { endpoint: u32, allowance: u32, badge: u32 },
+    Grant { thread: u32, endpoint: u32, rights: u32, badge: u32 },
 }
 
 impl Call {
-    /// The call number, 1 to 12.
+    /// The call number, 1 to 13.
     pub fn number(&self) -> u32 {
         match self {
             Call::CreateThread { .. } => 1,
@@ -47,6 +49,7 @@ impl Call {
             Call::Wait { .. } => 10,
             Call::Delete { .. } => 11,
             Call::Abort { .. } => 12,
+            Call::Grant { .. } => 13,
         }
     }
 
@@ -72,21 +75,28 @@ impl Call {
             Call::Abort { endpoint, allowance, badge } => {
                 Numbers { allowance: Some(allowance), badge: Some(badge), ..at(endpoint) }
             }
+            Call::Grant { thread, endpoint, rights, badge } => Numbers {
+                thread: Some(thread),
+                rights: Some(rights),
+                badge: Some(badge),
+                ..at(endpoint)
+            },
         }
     }
 
-    /// The call's own numbers: subject, argument, words after.
+    /// The call's own numbers: subject, argument, words after. A grant has the
+    /// endpoint and the rights in its argument.
     pub fn numbers(&self) -> Vec<u32> {
         let own = self.named();
         let subject = [own.thread, own.endpoint, own.line];
-        let argument = [own.priority, own.allowance];
+        let argument = [own.priority, own.allowance, own.rights];
         let after = [own.badge, own.message];
         subject.into_iter().chain(argument).chain(after).flatten().collect()
     }
 
     /// Made by the running thread rather than the host.
     pub fn by_thread(&self) -> bool {
-        self.number() >= 7
+        (7..=12).contains(&self.number())
     }
 
     /// False is the cause of 19.
@@ -105,6 +115,9 @@ impl Call {
             Call::Delete { endpoint, allowance } => endpoint < 64 && allowed(allowance),
             Call::Abort { endpoint, allowance, badge } => {
                 endpoint < 64 && allowed(allowance) && badge < BADGE_LIMIT
+            }
+            Call::Grant { thread, endpoint, rights, badge } => {
+                thread < 256 && endpoint < 64 && rights < 16 && badge < BADGE_LIMIT
             }
         }
     }

@@ -8,10 +8,10 @@ pub const WORDS: [u8; 256] = words();
 const fn words() -> [u8; 256] {
     let mut table = [0; 256];
     let mut n = 1;
-    while n <= 12 {
+    while n <= 13 {
         table[0x10 + n] = match n {
             7 => 3,
-            12 => 2,
+            12 | 13 => 2,
             _ => 1,
         };
         n += 1;
@@ -56,17 +56,31 @@ fn decode(words: &[u32]) -> Option<Call> {
     let subject = words[0] >> 16 & 255;
     let argument = words[0] & 0xFFFF;
     let has_subject = !matches!(number, 6 | 9);
-    let has_argument = matches!(number, 1 | 3 | 11 | 12);
+    let has_argument = matches!(number, 1 | 3 | 11..=13);
+    let (argument, rights) = if number == 13 { at_endpoint(argument)? } else { (argument, 0) };
     if !has_subject && subject != 0 || !has_argument && argument != 0 {
         return None;
     }
     let badge = part(words, 1, 2)?;
     let message = part(words, 2, 3)?;
-    call_of(number, subject, argument, badge, message)
+    call_of(number, subject, argument, badge, message, rights)
 }
 
-/// The call of five plain numbers; none if there is no call of that number.
-pub fn call_of(number: u32, subject: u32, argument: u32, badge: u32, message: u32) -> Option<Call> {
+/// A grant's argument: endpoint and rights; none for a bit of neither.
+fn at_endpoint(argument: u32) -> Option<(u32, u32)> {
+    (argument & 0xF0C0 == 0).then_some((argument & 63, argument >> 8))
+}
+
+/// The call of six plain numbers; none if there is no call of that number. A
+/// grant has the thread for its subject and the endpoint for its argument.
+pub fn call_of(
+    number: u32,
+    subject: u32,
+    argument: u32,
+    badge: u32,
+    message: u32,
+    rights: u32,
+) -> Option<Call> {
     Some(match number {
         1 => Call::CreateThread { thread: subject, priority: argument },
         2 => Call::DestroyThread { thread: subject },
@@ -80,6 +94,7 @@ pub fn call_of(number: u32, subject: u32, argument: u32, badge: u32, message: u3
         10 => Call::Wait { line: subject },
         11 => Call::Delete { endpoint: subject, allowance: argument },
         12 => Call::Abort { endpoint: subject, allowance: argument, badge },
+        13 => Call::Grant { thread: subject, endpoint: argument, rights, badge },
         _ => return None,
     })
 }
@@ -117,6 +132,9 @@ pub fn write(call: &Call) -> Written {
         Call::Wait { line } => (line, 0, 0, 0),
         Call::Delete { endpoint, allowance } => (endpoint, allowance, 0, 0),
         Call::Abort { endpoint, allowance, badge } => (endpoint, allowance, badge, 0),
+        Call::Grant { thread, endpoint, rights, badge } => {
+            (thread, rights << 8 | endpoint, badge, 0)
+        }
     };
     let top = 0x10 + call.number();
     let len = WORDS[top as usize] as usize;

@@ -1,9 +1,10 @@
 //! A second kernel core for comparison: 256 threads, 64 endpoints,
-//! 256 priorities, 32 interrupt lines, twelve calls, the journal, its
-//! listing and its telling in sentences.
+//! 256 priorities, 32 interrupt lines, thirteen calls, rights at endpoints,
+//! the journal, its listing and its telling in sentences.
 
 mod abort;
 mod call;
+mod grants;
 mod journal;
 mod listing;
 mod machine;
@@ -20,6 +21,7 @@ mod turns;
 mod words;
 
 pub use call::{Answer, Call, Numbers};
+pub use grants::{grant_name, sound_grants, Grant, ABORT, DELETE, GRANTS, RECEIVE, SEND};
 pub use journal::{call_of, read, write, Read, Written, WORDS};
 pub use listing::{listing, HEADER};
 pub use machine::Machine;

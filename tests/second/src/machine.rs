@@ -1,6 +1,7 @@
 //! The core: tables, refusals, the ready queues, and calls 1 to 10.
 
 use crate::call::{Answer, Call};
+use crate::grants::{Grant, Grants, RECEIVE};
 use crate::queue::{Links, Queue, Summary};
 use crate::situation::{Log, Situation};
 use crate::tables::{Abort, Bond, Endpoint, Line, Phase, Place, Thread};
@@ -21,10 +22,12 @@ pub struct Machine {
     pub(crate) links: Links,
     pub(crate) summary: Summary,
     pub(crate) running: Option<u8>,
+    pub(crate) grants: Grants,
     pub(crate) log: Log,
 }
 
-/// Two machines are the same when their tables are; the log is beside them.
+/// Two machines are the same when their tables and grants are; the log is
+/// beside them.
 impl PartialEq for Machine {
     fn eq(&self, other: &Machine) -> bool {
         self.threads == other.threads
@@ -34,12 +37,13 @@ impl PartialEq for Machine {
             && self.links == other.links
             && self.summary == other.summary
             && self.running == other.running
+            && self.grants == other.grants
     }
 }
 
 /// State, read only.
 impl Machine {
-    /// No thread, endpoint or pending line.
+    /// No thread, endpoint, pending line or grant.
     pub fn fresh() -> Machine {
         Machine {
             threads: [Thread::ABSENT; 256],
@@ -49,11 +53,12 @@ impl Machine {
             links: Links::new(),
             summary: Summary::EMPTY,
             running: None,
+            grants: Grants::none(),
             log: Log::default(),
         }
     }
 
-    /// Takes over another machine's tables; the log is cleared.
+    /// Takes over another machine's tables and grants; the log is cleared.
     pub fn copy_tables(&mut self, other: &Machine) {
         self.threads = other.threads;
         self.endpoints = other.endpoints;
@@ -62,7 +67,24 @@ impl Machine {
         self.links.clone_from(&other.links);
         self.summary = other.summary;
         self.running = other.running;
+        self.grants.words.copy_from_slice(&other.grants.words);
         self.log.clear();
+    }
+
+    /// The same tables beside the grants of this memory.
+    pub fn with_grants(mut self, words: &[u32]) -> Machine {
+        self.grants.words.copy_from_slice(words);
+        self
+    }
+
+    /// The memory of the grants.
+    pub fn grants(&self) -> &[u32] {
+        &self.grants.words
+    }
+
+    /// What a thread holds at an endpoint.
+    pub fn granted(&self, t: u8, e: u8) -> Grant {
+        self.grants.at(t, e)
     }
 
     pub fn running(&self) -> Option<u8> {
@@ -144,6 +166,9 @@ impl Machine {
         if call.by_thread() && self.running.is_none() {
             return Answer::code(20);
         }
+        if self.barred(call) {
+            return Answer::code(29);
+        }
         if self.use_note(call) {
             return Answer::DONE;
         }
@@ -166,7 +191,8 @@ impl Machine {
                 (!self.threads[thread as usize].present()).then_some(21)
             }
             Call::CreateEndpoint { endpoint } => self.refusal_present(endpoint as u8),
-            Call::Delete { endpoint, .. } => {
+            Call::Grant { thread, .. } if !self.threads[thread as usize].present() => Some(21),
+            Call::Delete { endpoint, .. } | Call::Grant { endpoint, .. } => {
                 (self.endpoints[endpoint as usize].phase == Phase::Absent).then_some(23)
             }
             Call::Receive { endpoint } | Call::Abort { endpoint, .. } => {
@@ -215,6 +241,7 @@ impl Machine {
             }
             Call::CreateEndpoint { endpoint } => {
                 self.endpoints[endpoint as usize].phase = Phase::Open;
+                self.grants.clear_endpoint(endpoint as u8);
                 Answer::DONE
             }
             Call::Interrupt { line } => self.interrupt(line as u8),
@@ -231,6 +258,9 @@ impl Machine {
             Call::Delete { endpoint, allowance } => self.delete(endpoint as u8, allowance),
             Call::Abort { endpoint, allowance, badge } => {
                 self.abort(endpoint as u8, allowance, badge)
+            }
+            Call::Grant { thread, endpoint, rights, badge } => {
+                self.grant(thread as u8, endpoint as u8, Grant { rights, badge })
             }
         }
     }
@@ -382,6 +412,7 @@ impl Machine {
 impl Machine {
     fn create(&mut self, t: u8, priority: u8) -> Answer {
         self.threads[t as usize] = Thread { priority, ticks: TICKS, ..Thread::ABSENT };
+        self.grants.clear_thread(t);
         self.make_ready(t);
         Answer::DONE
     }
@@ -470,6 +501,7 @@ impl Machine {
         if let Some(receiver) = self.first_receiver(e) {
             self.links.unlink(&mut self.endpoints[e as usize].queue, receiver);
             self.wake(receiver, RECEIVED, badge, message);
+            self.log.saw_if(!self.granted(receiver, e).has(RECEIVE), Situation::HandedUngranted);
             return Answer::DONE;
         }
         if let Some(Abort { span, .. }) = self.endpoint(e).abort {
@@ -489,6 +521,8 @@ impl Machine {
         let Thread { badge, message, .. } = *self.thread(sender);
         let under = self.endpoint(e).abort.is_some_and(|a| a.badge == badge);
         self.log.saw_if(under, Situation::AbortedTaken);
+        let sent = Call::Send { endpoint: e as u32, badge, message };
+        self.log.saw_if(self.granted(sender, e).lacks(&sent), Situation::TakenUngranted);
         self.leave_otherwise(e, sender, true);
         self.wake(sender, TAKEN, 0, 0);
         Answer { code: 0, count: 0, badge, message }

@@ -1,5 +1,6 @@
-//! The check of sound tables.
+//! The check of sound tables and grants.
 
+use crate::grants::sound_grants;
 use crate::machine::{Machine, RECEIVED, TICKS};
 use crate::queue::{Queue, Summary};
 use crate::tables::{Abort, Bond, Phase, Place, Thread};
@@ -15,7 +16,7 @@ fn need(holds: bool, say: impl FnOnce() -> String) -> Check {
 }
 
 impl Machine {
-    /// Says what is wrong with the tables, if anything is.
+    /// Says what is wrong with the tables or the grants, if anything is.
     pub fn sound(&self) -> Check {
         let mut stands = [0u8; 256];
         for t in 0..=255 {
@@ -31,7 +32,7 @@ impl Machine {
             let want = self.thread(t).present() as u8;
             need(stands[t as usize] == want, || format!("thread {t} stands {stands:?}"))?;
         }
-        Ok(())
+        need(sound_grants(self.grants()), || String::from("a grant has a badge and no right"))
     }
 
     fn sound_thread(&self, t: u8) -> Check {

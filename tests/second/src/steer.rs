@@ -1,10 +1,12 @@
 //! Random calls, steered by the machine's state towards deep states.
 
 use crate::call::Call;
+use crate::grants::right_for;
 use crate::machine::Machine;
 use crate::tables::{Abort, Bond, Phase, Place};
 
 const LOW: u32 = (1 << 28) - 1;
+const ALL_RIGHTS: u32 = 15;
 
 /// A small generator (splitmix), the same from the same seed.
 #[derive(Clone)]
@@ -76,6 +78,8 @@ pub struct Steer {
     edges: usize,
     /// How many are still to wait before all else; none if all else goes on.
     fill: Option<usize>,
+    /// The call that a grant was given for.
+    wanted: Option<Call>,
 }
 
 impl Steer {
@@ -91,6 +95,7 @@ impl Steer {
             ticks: 0,
             edges: 0,
             fill: None,
+            wanted: None,
         };
         steer.new_list();
         steer
@@ -117,6 +122,7 @@ impl Steer {
         self.endpoints = self.some(e, 63);
         self.lines = self.some(lines, 31);
         self.ticks = 0;
+        self.wanted = None;
         self.edges = if profile == Profile::Edges { 3 } else { 14 };
         self.fill = (profile == Profile::Full).then(|| 40 + self.rng.below(210));
         let badges = [0, 1, 7, 8, LOW - 1, LOW];
@@ -141,8 +147,17 @@ impl Steer {
         out
     }
 
-    /// The next call of the list.
+    /// The next call of the list. One that its caller lacks a right for is most
+    /// times granted first.
     pub fn next(&mut self, m: &Machine) -> Call {
+        if let Some(call) = self.wanted.take() {
+            return call;
+        }
+        let call = self.steered(m);
+        self.permitted(m, call)
+    }
+
+    fn steered(&mut self, m: &Machine) -> Call {
         if let Some(waiting) = self.fill {
             if let Some(call) = self.fill(m, waiting) {
                 return call;
@@ -155,6 +170,9 @@ impl Steer {
         }
         if self.rng.one_in(self.edges) {
             return self.edge();
+        }
+        if self.rng.one_in(16) {
+            return self.regrant(m);
         }
         if m.running().is_none() && !self.rng.one_in(16) {
             return self.idle(m);
@@ -488,6 +506,56 @@ impl Steer {
     }
 }
 
+/// Grants.
+impl Steer {
+    /// The call, or the grant that it needs, which it then follows.
+    fn permitted(&mut self, m: &Machine, call: Call) -> Call {
+        let right = right_for(&call);
+        let (Some(t), Some(endpoint), true) = (m.running(), call.named().endpoint, call.in_range())
+        else {
+            return call;
+        };
+        let held = m.granted(t, endpoint as u8);
+        let closing = m.endpoint(endpoint as u8).phase == Phase::Closing;
+        let under_way = closing || m.thread(t).bond != Bond::None;
+        if !held.lacks(&call) || self.rng.one_in(if under_way { 3 } else { 10 }) {
+            return call;
+        }
+        self.wanted = Some(call);
+        let rights = if self.rng.one_in(4) { held.rights | right } else { ALL_RIGHTS };
+        let badge = match call {
+            Call::Send { badge, .. } => badge,
+            _ if held.rights != 0 => held.badge,
+            _ => self.rng.pick(&self.badges),
+        };
+        Call::Grant { thread: t as u32, endpoint, rights, badge }
+    }
+
+    /// Takes rights away or gives others, more likely where that tells.
+    fn regrant(&mut self, m: &Machine) -> Call {
+        let e = self.focus(m);
+        let waiters = m.waiters(e);
+        let owner = m.endpoint(e).abort.and_then(|a| a.owner);
+        let noted =
+            |&&t: &&u8| matches!(m.thread(t).bond, Bond::Note { endpoint, .. } if endpoint == e);
+        let noted = self.threads.iter().find(noted).copied();
+        let waiter = (!waiters.is_empty()).then(|| self.rng.pick(&waiters));
+        let told = [m.running(), owner, noted, waiter][self.rng.below(4)];
+        let thread = match told.or(noted) {
+            Some(t) if !self.rng.one_in(4) => t,
+            _ => self.rng.pick(&self.threads),
+        };
+        let rights = match self.rng.below(4) {
+            0 => 0,
+            1 => ALL_RIGHTS,
+            2 => ALL_RIGHTS ^ 1 << self.rng.below(4),
+            _ => self.rng.below(16) as u32,
+        };
+        let badge = self.rng.pick(&self.badges);
+        Call::Grant { thread: thread as u32, endpoint: e as u32, rights, badge }
+    }
+}
+
 /// Range edges.
 impl Steer {
     fn edge_of(&mut self, own: &[u8], edges: &[u32]) -> u32 {
@@ -513,7 +581,8 @@ impl Steer {
         let line = self.edge_of(&lines, &[0, 31, 32, 256]);
         let (badge, message) = (self.edge_badge(), self.edge_badge());
         let allowance = self.rng.pick(&[0, 1, 1, 2, 2, 3, 65_535, 65_536, u32::MAX]);
-        match self.rng.below(12) {
+        let rights = self.rng.pick(&[0, 1, 15, 16, u32::MAX]);
+        match self.rng.below(13) {
             0 => Call::CreateThread { thread, priority },
             1 => Call::DestroyThread { thread },
             2 => Call::SetPriority { thread, priority },
@@ -525,7 +594,8 @@ impl Steer {
             8 => Call::Yield,
             9 => Call::Wait { line },
             10 => Call::Delete { endpoint, allowance },
-            _ => Call::Abort { endpoint, allowance, badge },
+            11 => Call::Abort { endpoint, allowance, badge },
+            _ => Call::Grant { thread, endpoint, rights, badge },
         }
     }
 }

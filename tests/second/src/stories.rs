@@ -1,22 +1,37 @@
 //! What stretches over several calls of a list, counted.
 
 use crate::call::Call;
+use crate::grants::Grant;
 use crate::situation::Situation;
+use crate::tables::{Bond, Phase};
 use crate::tally::Step;
 
 /// What is counted, in order.
-pub const STORIES: [&str; 5] = [
+pub const STORIES: [&str; 9] = [
     "a mark's thread gone and queued there again under the same abort",
     "joiner broken off, another finishes, joiner begins anew",
     "abort broken off with three or more still to look at",
     "abort stands over three or more calls that looked",
     "call that looks for another badge and begins its own",
+    "note answered after a 29, its right granted again",
+    "delete broken off, its right revoked, 29 when it goes on",
+    "29 for a thread created anew that had the right",
+    "29 at an endpoint created anew where the caller had the right",
 ];
 
 /// How often each story came up.
 pub struct Stories {
     pub counts: [u64; STORIES.len()],
     watch: Vec<Watch>,
+    lost: Vec<Lost>,
+}
+
+/// A grant that went as its thread or its endpoint was created anew.
+struct Lost {
+    story: usize,
+    thread: u8,
+    endpoint: u8,
+    grant: Grant,
 }
 
 /// What is remembered of an endpoint.
@@ -26,11 +41,13 @@ struct Watch {
     joiners: Vec<(u8, u32)>,
     ended: Vec<(u8, u32)>,
     calls: u32,
+    noted: Vec<u8>,
+    deleters: Vec<u8>,
 }
 
 impl Default for Stories {
     fn default() -> Stories {
-        Stories { counts: [0; STORIES.len()], watch: vec![Watch::default(); 64] }
+        Stories { counts: [0; STORIES.len()], watch: vec![Watch::default(); 64], lost: Vec::new() }
     }
 }
 
@@ -38,11 +55,16 @@ impl Stories {
     /// A new list begins, from fresh tables.
     pub fn new_list(&mut self) {
         self.watch.fill(Watch::default());
+        self.lost.clear();
     }
 
-    /// Follows the aborts over a call.
+    /// Follows the aborts and the grants over a call.
     pub fn follow(&mut self, step: &Step) {
         let at = step.call.named().endpoint;
+        self.follow_lost(step);
+        if let (Some(e @ 0..=63), true) = (at, step.call.by_thread()) {
+            self.follow_kept(e as u8, step);
+        }
         for e in 0..64 {
             if at == Some(e as u32) || step.before.endpoint(e).abort.is_some() {
                 self.follow_at(e, step);
@@ -93,5 +115,67 @@ impl Stories {
         watch.calls += (answer.count > 0) as u32;
         self.counts[3] += (watch.calls >= 3) as u64;
         self.counts[2] += (after.left(e) >= 3) as u64;
+    }
+}
+
+/// Grants.
+impl Stories {
+    /// Follows what creation takes away, until it is granted again.
+    fn follow_lost(&mut self, step: &Step) {
+        let Step { before, call, answer, .. } = *step;
+        match (*call, answer.code) {
+            (Call::CreateThread { thread, .. }, 0) => {
+                (0..64).for_each(|e| self.lose(7, thread as u8, e, step));
+            }
+            (Call::CreateEndpoint { endpoint }, 0) => {
+                (0..=255).for_each(|t| self.lose(8, t, endpoint as u8, step));
+            }
+            (Call::DestroyThread { thread }, 0) => {
+                let gone = |t: &u8| *t as u32 == thread;
+                self.watch.iter_mut().for_each(|w| w.deleters.retain(|t| !gone(t)));
+            }
+            (Call::Grant { thread, endpoint, .. }, 0) => {
+                self.lost.retain(|l| (l.thread as u32, l.endpoint as u32) != (thread, endpoint));
+            }
+            (_, 29) => {
+                let who = (before.running(), call.named().endpoint);
+                let had = |l: &&Lost| {
+                    (Some(l.thread), Some(l.endpoint as u32)) == who && !l.grant.lacks(call)
+                };
+                self.lost.iter().filter(had).for_each(|l| self.counts[l.story] += 1);
+            }
+            _ => (),
+        }
+    }
+
+    fn lose(&mut self, story: usize, thread: u8, endpoint: u8, step: &Step) {
+        let grant = step.before.granted(thread, endpoint);
+        if grant.rights != 0 {
+            self.lost.push(Lost { story, thread, endpoint, grant });
+        }
+    }
+
+    /// Follows notes and deletions that are left to go on.
+    fn follow_kept(&mut self, e: u8, step: &Step) {
+        let Step { before, call, answer, after } = *step;
+        let Some(caller) = before.running() else {
+            return;
+        };
+        let watch = &mut self.watch[e as usize];
+        let saw = |s: Situation| after.log().seen.contains(&s);
+        self.counts[5] += (saw(Situation::NoteAnswered) && watch.noted.contains(&caller)) as u64;
+        let noted_here =
+            |t: u8| matches!(after.thread(t).bond, Bond::Note { endpoint, .. } if endpoint == e);
+        watch.noted.retain(|&t| noted_here(t));
+        if saw(Situation::LacksNoted) {
+            watch.noted.push(caller);
+        }
+        if after.endpoint(e).phase != Phase::Closing {
+            watch.deleters.clear();
+        }
+        if let Call::Delete { .. } = call {
+            self.counts[6] += (answer.code == 29 && watch.deleters.contains(&caller)) as u64;
+            watch.deleters.extend((answer.code == 2).then_some(caller));
+        }
     }
 }

@@ -17,25 +17,31 @@ pub struct Step<'a> {
 }
 
 /// The codes that each call can be answered with.
-const CODES: [&[u32]; 12] = [
+const CODES: [&[u32]; 13] = [
     &[0, 19, 22],
     &[0, 19, 21],
     &[0, 19, 21],
     &[0, 19, 24],
     &[0, 19],
     &[0],
-    &[0, 1, 19, 20, 23, 25, 26],
-    &[0, 1, 19, 20, 23, 25],
+    &[0, 1, 19, 20, 23, 25, 26, 29],
+    &[0, 1, 19, 20, 23, 25, 29],
     &[0, 20],
     &[0, 1, 19, 20, 27],
-    &[0, 2, 19, 20, 23],
-    &[0, 2, 19, 20, 23, 25],
+    &[0, 2, 19, 20, 23, 29],
+    &[0, 2, 19, 20, 23, 25, 29],
+    &[0, 19, 21, 23],
 ];
+
+/// The largest code and the largest call number, and one more.
+const CODE_LIMIT: usize = 30;
+const CALL_LIMIT: usize = 14;
 
 type Edge = fn(&Numbers, &Step) -> bool;
 
-/// Numbers at the edge of their range, and tables that are full.
-const EDGES: [(&str, Edge); 22] = [
+/// Numbers at the edge of their range, tables that are full, and grants that go
+/// by creation.
+const EDGES: [(&str, Edge); 26] = [
     ("thread 255 accepted", |n, s| n.thread == Some(255) && s.answer.accepted()),
     ("thread 256 refused", |n, s| n.thread == Some(256) && s.answer.code == 19),
     ("priority 255 accepted", |n, s| n.priority == Some(255) && s.answer.accepted()),
@@ -53,6 +59,10 @@ const EDGES: [(&str, Edge); 22] = [
     ("badge 2^28 refused", |n, s| n.badge == Some(1 << 28) && s.answer.code == 19),
     ("message 2^28 - 1 accepted", |n, s| n.message == Some((1 << 28) - 1) && s.answer.accepted()),
     ("message 2^28 refused", |n, s| n.message == Some(1 << 28) && s.answer.code == 19),
+    ("rights 15 accepted", |n, s| n.rights == Some(15) && s.answer.accepted()),
+    ("rights 16 refused", |n, s| n.rights == Some(16) && s.answer.code == 19),
+    ("thread created that had grants", |_, s| done(s, 1) && fewer_grants(s)),
+    ("endpoint created that had grants", |_, s| done(s, 4) && fewer_grants(s)),
     ("all 256 threads present", |_, s| done(s, 1) && all_threads(s.after)),
     ("all 64 endpoints present", |_, s| done(s, 4) && all_endpoints(s.after)),
     ("all 32 lines awaited", |_, s| s.call.number() == 10 && all_lines(s.after)),
@@ -62,6 +72,10 @@ const EDGES: [(&str, Edge); 22] = [
 
 fn done(step: &Step, number: u32) -> bool {
     step.call.number() == number && step.answer.code == 0
+}
+
+fn fewer_grants(step: &Step) -> bool {
+    step.before.grants() != step.after.grants()
 }
 
 fn all_threads(m: &Machine) -> bool {
@@ -80,7 +94,7 @@ fn all_lines(m: &Machine) -> bool {
 pub struct Tally {
     lists: u64,
     calls: u64,
-    codes: [[u64; 28]; 13],
+    codes: [[u64; CODE_LIMIT]; CALL_LIMIT],
     seen: [u64; SITUATIONS.len()],
     edges: [u64; EDGES.len()],
     stories: Stories,
@@ -91,7 +105,7 @@ impl Default for Tally {
         Tally {
             lists: 0,
             calls: 0,
-            codes: [[0; 28]; 13],
+            codes: [[0; CODE_LIMIT]; CALL_LIMIT],
             seen: [0; SITUATIONS.len()],
             edges: [0; EDGES.len()],
             stories: Stories::default(),
@@ -155,7 +169,7 @@ impl Tally {
 /// A table of the calls by code, then a line for each situation.
 impl fmt::Display for Tally {
     fn fmt(&self, f: &mut fmt::Formatter) -> fmt::Result {
-        let codes: Vec<usize> = [0, 1, 2].into_iter().chain(19..28).collect();
+        let codes: Vec<usize> = [0, 1, 2].into_iter().chain(19..28).chain([29]).collect();
         write!(f, "{:>5}", "call")?;
         for code in &codes {
             write!(f, "{code:>9}")?;

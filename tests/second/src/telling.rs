@@ -56,6 +56,9 @@ fn request(call: &Call) -> String {
         Call::Abort { endpoint, allowance, badge } => {
             format!("Abort badge {badge} at endpoint {endpoint} with allowance {allowance}")
         }
+        Call::Grant { thread, endpoint, rights, badge } => format!(
+            "Grant thread {thread} rights {rights} at endpoint {endpoint} under badge {badge}"
+        ),
     }
 }
 
@@ -77,6 +80,7 @@ fn outcome(code: u32) -> String {
         26 => "badge is under abort",
         27 => "the line has a waiter",
         28 => "buffer too short",
+        29 => "lacks right or badge",
         _ => return format!("refused by {code}"),
     };
     format!("refused by {code}, {cause}")

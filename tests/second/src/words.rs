@@ -1,5 +1,5 @@
 //! The 4,096 words of the tables, after docs/LAYOUT.md: the memory of a
-//! machine, and the machine that a memory shows.
+//! machine, and the machine that a memory shows. Grants stand beside them.
 
 use crate::machine::Machine;
 use crate::queue::Queue;
@@ -149,7 +149,8 @@ fn endpoint_words(phase: Phase, abort: &Option<Abort>) -> [u32; 6] {
     [status, 1, abort.badge, link(abort.owner), link(cursor), link(end)]
 }
 
-/// The machine that the words show, if each word that is read has a meaning.
+/// The machine that the words show, if each word that is read has a meaning;
+/// it has no grants.
 /// Words that the others leave without one are not read.
 pub fn shown(words: &[u32]) -> Option<Machine> {
     if words.len() != TABLE {

@@ -3,6 +3,7 @@
 use second::{sentence, telling, Answer, Call};
 
 const SEND: Call = Call::Send { endpoint: 0, badge: 7, message: 101 };
+const GRANT: Call = Call::Grant { thread: 255, endpoint: 63, rights: 15, badge: (1 << 28) - 1 };
 const LARGEST: Answer = Answer { code: 27, count: u32::MAX, badge: u32::MAX, message: u32::MAX };
 
 #[test]
@@ -25,6 +26,16 @@ fn known_lines() {
             "Abort badge 7 at endpoint 0 with allowance 1: broken off, count 1.\n",
         ),
         (abort, Answer::DONE, "Abort badge 7 at endpoint 0 with allowance 1: done, count 0.\n"),
+        (
+            GRANT,
+            Answer::DONE,
+            "Grant thread 255 rights 15 at endpoint 63 under badge 268435455: done.\n",
+        ),
+        (
+            SEND,
+            Answer::code(29),
+            "Send message 101 under badge 7 to endpoint 0: refused by 29, lacks right or badge.\n",
+        ),
         (Call::Tick, odd, "Tick: refused by 77, count 5, badge 4294967295.\n"),
     ];
     for (call, answer, line) in cases {
@@ -36,6 +47,7 @@ fn known_lines() {
 fn longest_line() {
     let send = Call::Send { endpoint: 63, badge: (1 << 28) - 1, message: (1 << 28) - 1 };
     assert_eq!(sentence(&send, &LARGEST).len(), 155);
+    assert_eq!(sentence(&GRANT, &LARGEST).len(), 159);
 }
 
 #[test]

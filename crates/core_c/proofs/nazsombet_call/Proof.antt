@@ -16,12 +16,16 @@ same-length c = search needs
 same-length-2 : tie.Need-same-length-2
 same-length-2 c = search needs
 
+same-length-3 : tie.Need-same-length-3
+same-length-3 c = search needs
+
 returns : tie.Need-returns
 returns c =
-    let at-take = c .before .before .before .before .before in
-    let at-call-in = at-take .before .before .before in
+    let at-take = c .before .before .before .before .before .before .before in
+    let at-call-in = at-take .before .before .before .before in
     answered-is _ _ _ (at-take .take .result) _ (at-call-in .call-in .ensures) (at-take .take .ensures)
 
 pub nazsombet-call-spec : {M : Type 1} → statement M
 nazsombet-call-spec =
-    tie.close (tie.spec call-in-requires take-requires same-length same-length-2 returns)
+    tie.close
+    (tie.spec call-in-requires take-requires same-length same-length-2 same-length-3 returns)

@@ -20,25 +20,31 @@ same-length c = search needs
 same-length-2 : tie.Need-same-length-2
 same-length-2 c = search needs
 
+same-length-3 : tie.Need-same-length-3
+same-length-3 c = search needs
+
 returns : tie.Need-returns
 returns c =
     let at-refuse = c .before .before in
-    let at-enum-told = at-refuse .before .before .before in
+    let at-enum-told = at-refuse .before .before .before .before in
     called-for _ _ none _ (at-enum-told .enum-told .given .1) (at-refuse .refuse .ensures)
 
 call-requires : tie.Need-call-requires
 call-requires c κs = search needs
 
-same-length-3 : tie.Need-same-length-3
-same-length-3 c = search needs
-
 same-length-4 : tie.Need-same-length-4
 same-length-4 c = search needs
 
+same-length-5 : tie.Need-same-length-5
+same-length-5 c = search needs
+
+same-length-6 : tie.Need-same-length-6
+same-length-6 c = search needs
+
 returns-2 : tie.Need-returns-2
 returns-2 c =
-    let at-call = c .before .before .before .before in
-    let at-named = at-call .before .before .before .before in
+    let at-call = c .before .before .before .before .before .before in
+    let at-named = at-call .before .before .before .before .before in
     called-for _ _ (some _) _ (at-named .named .given .1) (at-call .call .ensures)
 
 pub take-spec : {M : Type 1} → statement M
@@ -50,8 +56,10 @@ take-spec =
     refuse-requires
     same-length
     same-length-2
+    same-length-3
     returns
     call-requires
-    same-length-3
     same-length-4
+    same-length-5
+    same-length-6
     returns-2)

@@ -1,4 +1,4 @@
--- A send and an abort read on, and no other call does.
+-- A send, an abort and a grant read on, and no other call does.
 use mathlib.Core.Path.{ap, _∙_}
 use Rattle.journal.specs.Steps.{asNamed}
 use Rattle.journal.specs.Words.{callOf, sendOf}
@@ -15,6 +15,9 @@ if-unused-requires c κs = search needs
 
 abort-requires : tie.Need-abort-requires
 abort-requires c κs = search needs
+
+grant-requires : tie.Need-grant-requires
+grant-requires c κs = search needs
 
 short-call-requires : tie.Need-short-call-requires
 short-call-requires c κs = search needs
@@ -34,14 +37,18 @@ unfolding callOf
 returns-2 c = rw (c .before .match .keys2) (c .abort .ensures)
 
 returns-3 : tie.Need-returns-3
-returns-3 c =
+unfolding callOf
+returns-3 c = rw (c .before .match .keys3) (c .grant .ensures)
+
+returns-4 : tie.Need-returns-4
+returns-4 c =
     let at-match = c .before in
     let at-start = at-match .before .before in
     let other = at-match .match .rest in
     c .short-call .ensures
     ∙ ap asNamed
     (rest-unused (at-start .args .subject) (at-start .args .argument) (at-start .args .rest .now)
-    (at-start .args .number) (other .0 .1) (other .1))
+    (at-start .args .number) (other .0 .0 .1) (other .0 .1) (other .1))
 
 pub call-of-spec : {M : Type 1} → statement M
 call-of-spec =
@@ -50,7 +57,9 @@ call-of-spec =
     send-requires
     if-unused-requires
     abort-requires
+    grant-requires
     short-call-requires
     returns
     returns-2
-    returns-3)
+    returns-3
+    returns-4)

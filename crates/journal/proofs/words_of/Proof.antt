@@ -1,4 +1,5 @@
 -- Each arm is given its constructor, and a call in range fits the parts.
+use native.Mathlib.Omega.{arith}
 use lib.Dec.{lit<}
 use Rattle.journal.specs.Words.{wordsOf}
 use Rattle.journal.proofs.Answers.{fits-of}
@@ -93,10 +94,30 @@ one-word-requires-10 c κs =
 enum-known-call-10 : tie.Need-enum-known-call-10
 enum-known-call-10 c = search needs
 
-abort-words-requires : tie.Need-abort-words-requires
-abort-words-requires c κs =
+two-words-requires : tie.Need-two-words-requires
+two-words-requires c κs =
     let at-start = c .before .before .before in
-    fits-of _ _ (at-start .pre) (c .before .call10 .given .1)
+    let fits = fits-of _ _ (at-start .pre) (c .before .call10 .given .1) in (lit< tt, fits .0, fits .1, fits .2)
+
+enum-known-call-11 : tie.Need-enum-known-call-11
+enum-known-call-11 c = search needs
+
+mul-two-words : tie.Need-mul-two-words
+mul-two-words c =
+    let at-start = c .before .before .before in
+    let fits = fits-of _ _ (at-start .pre) (c .before .call11 .given .1) in omega (arith, fits .2)
+
+add-two-words : tie.Need-add-two-words
+add-two-words c =
+    let at-start = c .before .before .before in
+    let fits = fits-of _ _ (at-start .pre) (c .before .call11 .given .1) in
+    omega (arith, fits .0, fits .1, fits .2)
+
+two-words-requires-2 : tie.Need-two-words-requires-2
+two-words-requires-2 c κs =
+    let at-start = c .before .before .before in
+    let fits = fits-of _ _ (at-start .pre) (c .before .call11 .given .1) in
+    (lit< tt, omega (arith, fits .0, fits .1), omega (arith, fits .0, fits .1, fits .2), fits .3)
 
 returns : tie.Need-returns
 unfolding wordsOf
@@ -144,7 +165,11 @@ returns-11 c = rw (c .before .before .call9 .given .1) (c .one-word10 .ensures)
 
 returns-12 : tie.Need-returns-12
 unfolding wordsOf
-returns-12 c = rw (c .before .before .call10 .given .1) (c .abort-words .ensures)
+returns-12 c = rw (c .before .before .call10 .given .1) (c .two-words .ensures)
+
+returns-13 : tie.Need-returns-13
+unfolding wordsOf
+returns-13 c = rw (c .before .before .call11 .given .1) (c .two-words2 .ensures)
 
 pub words-of-spec : {M : Type 1} → statement M
 words-of-spec =
@@ -173,7 +198,11 @@ words-of-spec =
     enum-known-call-9
     one-word-requires-10
     enum-known-call-10
-    abort-words-requires
+    two-words-requires
+    enum-known-call-11
+    mul-two-words
+    add-two-words
+    two-words-requires-2
     returns
     returns-2
     returns-3
@@ -185,4 +214,5 @@ words-of-spec =
     returns-9
     returns-10
     returns-11
-    returns-12)
+    returns-12
+    returns-13)

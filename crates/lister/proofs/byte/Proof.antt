@@ -14,7 +14,7 @@ use Rattle.lister.proofs.byte.Statement.{statement}
 use Rattle.lister.proofs.byte.Tie as tie
 
 abbrev start : tie.After-hold → tie.Start
-start c = c .before .before .before .before .before .before
+start c = c .before .before .before .before .before .before .before
 
 abbrev held : tie.Else2 → tie.After-hold
 held c = c .before .before .before .before
@@ -43,12 +43,12 @@ four c =
 
 returns : tie.Need-returns
 returns c =
-    let at-start = c .before .before .before .before .before in
+    let at-start = c .before .before .before .before .before .before in
     let args = at-start .args in (
       (at-start .pre .0, at-start .pre .1),
       (
         omega arith,
-        stays (args .form) (args .from) (args .byte) (lent (args .tables .now) (args .scratch .now)) (args .out .now)
+        stays (args .form) (args .from) (args .byte) (lent (args .tables .now) (args .grants .now) (args .scratch .now)) (args .out .now)
             (args .used)
             (opposite (args .from .going) (c .if1 .taken)),
       ),
@@ -87,13 +87,13 @@ returns-2 c =
       (
         omega (arith, one at-hold),
         not-yet (args .from) (args .byte) (at-start .pre .0) (at-start .pre .1) _ (at-hold .hold .ensures)
-            (args .form) (lent (args .tables .now) (args .scratch .now)) (args .out .now) (args .used) going no,
+            (args .form) (lent (args .tables .now) (args .grants .now) (args .scratch .now)) (args .out .now) (args .used) going no,
       ),
     )
 
 answer-requires : tie.Need-answer-requires
 answer-requires c κs =
-    let at-if2 = c .before .before .before in
+    let at-if2 = c .before .before .before .before in
     let at-hold = held at-if2 in
     let at-start = start at-hold in (
       omega (arith, one at-hold, at-start .pre .0),
@@ -110,10 +110,13 @@ same-length-2 c = search needs
 same-length-3 : tie.Need-same-length-3
 same-length-3 c = search needs
 
+same-length-4 : tie.Need-same-length-4
+same-length-4 c = search needs
+
 returns-3 : tie.Need-returns-3
 returns-3 c =
-    let at-answer = c .before .before .before .before .before .before in
-    let at-if2 = at-answer .before .before .before .before in
+    let at-answer = c .before .before .before .before .before .before .before .before in
+    let at-if2 = at-answer .before .before .before .before .before in
     let at-hold = held at-if2 in
     let at-if1 = at-hold .before in
     let at-start = start at-hold in
@@ -124,7 +127,7 @@ returns-3 c =
       (
         omega (arith, told .0 .0, told .0 .2, one at-hold, four at-if2),
         now-taken (args .from) (args .byte) (at-start .pre .0) (at-start .pre .1) _ (at-hold .hold .ensures)
-            (args .form) (lent (args .tables .now) (args .scratch .now)) (args .out .now) (args .used) going
+            (args .form) (lent (args .tables .now) (args .grants .now) (args .scratch .now)) (args .out .now) (args .used) going
             (yes at-if2) _ _ _
             (told .1),
       ),
@@ -144,4 +147,5 @@ byte-spec =
     same-length
     same-length-2
     same-length-3
+    same-length-4
     returns-3)

@@ -13,7 +13,7 @@ returns c =
     let at-start = c .before .before .before .before in
     let args = at-start .args in (
       counts (search needs),
-      stopped-ends (args .form) (args .l) (lent (args .tables .now) []) (args .out .now)
+      stopped-ends (args .form) (args .l) (lent (args .tables .now) [] []) (args .out .now)
           (opposite (args .l .going) (c .if1 .taken)),
     )
 
@@ -23,7 +23,7 @@ returns-2 c =
     let at-start = at-if1 .before .before .before .before in
     let args = at-start .args in (
       counts (search needs),
-      nothing-ends (args .form) (args .l) (lent (args .tables .now) []) (args .out .now)
+      nothing-ends (args .form) (args .l) (lent (args .tables .now) [] []) (args .out .now)
           (opposite (args .l .going) (at-if1 .if1 .left))
           (c .if2 .taken),
     )
@@ -46,7 +46,7 @@ returns-3 c =
     let at-start = at-if1 .before .before .before .before in
     let args = at-start .args in (
       counts (search needs),
-      held-ends (args .form) (args .l) (lent (args .tables .now) []) (args .out .now)
+      held-ends (args .form) (args .l) (lent (args .tables .now) [] []) (args .out .now)
           (opposite (args .l .going) (at-if1 .if1 .left)) (at-if2 .if2 .left) (at-start .pre .1) _
           (at-running .running .ensures) _ _ (at-stop .stop .ensures .1),
     )

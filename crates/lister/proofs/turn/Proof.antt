@@ -21,7 +21,7 @@ array-share-prefix-bytes c = search needs
 
 slice-aggregate-words : tie.Need-slice-aggregate-words
 slice-aggregate-words c =
-    let at-start = c .before .before .before .before in
+    let at-start = c .before .before .before .before .before in
     sym (within (at-start .args .l) (at-start .pre .0) (at-start .pre .1))
 
 slice-aggregate-words-2 : tie.Need-slice-aggregate-words-2
@@ -29,7 +29,7 @@ slice-aggregate-words-2 c = search needs
 
 words-requires : tie.Need-words-requires
 words-requires c κs =
-    let at-start = c .before .before .before .before .before in
+    let at-start = c .before .before .before .before .before .before in
     omega (arith, at-start .pre .0, within (at-start .args .l) (at-start .pre .0) (at-start .pre .1))
 
 array-share-prefix-words : tie.Need-array-share-prefix-words
@@ -47,13 +47,16 @@ same-length c = search needs
 same-length-2 : tie.Need-same-length-2
 same-length-2 c = search needs
 
+same-length-3 : tie.Need-same-length-3
+same-length-3 c = search needs
+
 returns : tie.Need-returns
 returns c =
-    let at-next = c .before .before .before .before in
-    let at-words2 = at-next .before .before .before .before .before in
-    let args = at-words2 .before .before .before .before .before .before .args in
+    let at-next = c .before .before .before .before .before .before in
+    let at-words2 = at-next .before .before .before .before .before .before in
+    let args = at-words2 .before .before .before .before .before .before .before .args in
     at-next .next .ensures
-    ∙ ap (λ (w : List ℕ). turned (readAt w 0) (lent (args .tables .now) (args .scratch .now)))
+    ∙ ap (λ (w : List ℕ). turned (readAt w 0) (lent (args .tables .now) (args .grants .now) (args .scratch .now)))
     (at-words2 .words2 .ensures .1 .1)
 
 pub turn-spec : {M : Type 1} → statement M
@@ -69,4 +72,5 @@ turn-spec =
     next-requires
     same-length
     same-length-2
+    same-length-3
     returns)

@@ -1,30 +1,33 @@
 -- The machine refuses by document 01's table: by the number of the first cause that is there, and only then.
 use Prim.Native.Nat.{ℕ, zero, suc, _≤_, _<_}
-use mathlib.Core.Path.{_≡_, refl, _∙_, ap, subst}
+use mathlib.Core.Path.{_≡_, refl, sym, _∙_, ap, subst}
 use mathlib.Core.Logic.{_↔_}
-use mathlib.Core.Bool.{Bool, true, false, not}
+use mathlib.Core.Bool.{Bool, true, false, _&&_, not}
 use mathlib.Core.Option.{Option, none, some}
 use mathlib.Core.List.{List, [], _∷_}
 use native.Mathlib.Omega.{arith}
-use lib.Dec.{lit≤}
+use lib.Dec.{leb, lit≤}
 use Rattle.machine.specs.declared.Call.{Call}
 use Rattle.machine.specs.declared.Call.the-variants.{CreateThread, DestroyThread, SetPriority, CreateEndpoint}
 use Rattle.machine.specs.declared.Call.the-variants.{Interrupt, Tick, Send, Receive, Yield, Wait, Delete, Abort}
-use Rattle.machine.specs.Calls.{inRange}
+use Rattle.machine.specs.declared.Call.the-variants.{Grant}
+use Rattle.machine.specs.Calls.{numberOf, inRange}
 use Rattle.machine.specs.Lists.{pick}
 use Rattle.machine.specs.State as State
 use Rattle.machine.specs.State.{State, Status, missing, live, closing, Line, quiet, pending, awaited}
 use Rattle.machine.specs.Endpoints.{underAbort}
 use Rattle.machine.specs.Results.{Look, Result, refuse}
+use Rattle.machine.specs.Grants.{Grants, barred}
 use Rattle.machine.specs.Aborts.{Removal, deleted, deleteFrom, deleteAt, delete, Looked, ended, lookedOwn}
 use Rattle.machine.specs.Aborts.{workOwn, beginAfter, finished, lookedOther, workOther, underBadge, abortFrom}
 use Rattle.machine.specs.Aborts.{abortOpen, abortAt, hasNote, abortUnless, abort}
 use Rattle.machine.specs.Machine.{isAbsent, createIf, createThread, destroyIf, destroyThread, priorityIf}
 use Rattle.machine.specs.Machine.{setPriority, createAt, createEndpoint, interrupt, tick, sendTo, sendUnless}
 use Rattle.machine.specs.Machine.{sendAt, send, receiveFrom, receiveAt, receive, yield, waitAt, wait, byCaller}
-use Rattle.machine.specs.Machine.{perform, performIf, step}
-use Rattle.machine.specs.Refusals.{isNobody, isMissing, isClosing, hasWaiter, debtIn, firstCause}
-use Rattle.machine.specs.Refusals.{laterRows, refusalOf}
+use Rattle.machine.specs.Machine.{grantAt, grantIf, grant, perform, performUnless, performIf, step}
+use Rattle.machine.specs.Refusals.{isNobody, isMissing, isClosing, hasWaiter, debtIn, Refusal, firstCause}
+use Rattle.machine.specs.Refusals.{row19, row20, row29, laterRows, tableRows, refusalOf}
+use Rattle.machine.proofs.Lists.{clash}
 
 -- The result is the one for this row of the table: a refusal by its number, or an accepted call where there is none.
 abbrev Agrees : Option ℕ → State → Result → Type 0
@@ -54,6 +57,20 @@ unfolding createAt
 endpoint-agrees missing e s = lit≤ tt
 endpoint-agrees live e s = refl
 endpoint-agrees closing e s = refl
+
+granted-agrees :
+    (x : Status) (s : State) → Agrees (pick (isMissing x) (some 23) none) s (grantAt x s)
+unfolding grantAt
+granted-agrees missing s = refl
+granted-agrees live s = lit≤ tt
+granted-agrees closing s = lit≤ tt
+
+grant-agrees :
+    (x : Bool) (e : ℕ) (s : State)
+    → Agrees (pick x (some 21) (pick (isMissing (s .endpoints e .status)) (some 23) none)) s (grantIf x e s)
+unfolding grantIf
+grant-agrees true e s = refl
+grant-agrees false e s = granted-agrees (s .endpoints e .status) s
 
 -- Send, receive, wait
 
@@ -165,16 +182,16 @@ abort-agrees false t e a b s = abort-at (s .endpoints e .status) t e a b s
 
 -- Every call
 
--- Nobody runs, or thread t calls: v is what the rows behind the first two give.
+-- Nobody runs, or thread t calls: v is what the rows behind that of 20 give.
 caller-agrees :
     (o : Option ℕ) (s : State) (v : Option ℕ → Option ℕ) (f : ℕ → State → Result)
     → ((t : ℕ) → Agrees (v (some t)) s (f t s)) → Agrees (pick (isNobody o) (some 20) (v o)) s (byCaller o f s)
 caller-agrees none s v f h = refl
 caller-agrees (some t) s v f h = h t
 
-perform-agrees : (c : Call) (s : State) → Agrees (firstCause (laterRows c s)) s (perform c s)
+perform-agrees : (c : Call) (s : State) → Agrees (firstCause (row20 c s ∷ tableRows c s)) s (perform c s)
 unfolding perform createThread destroyThread setPriority createEndpoint interrupt tick send receive yield wait delete
-    abort
+    abort grant
 perform-agrees (CreateThread t p) s = create-agrees (isAbsent (s .threads t .place)) t p s
 perform-agrees (DestroyThread t) s = destroy-agrees (isAbsent (s .threads t .place)) t s
 perform-agrees (SetPriority t p) s = priority-agrees (isAbsent (s .threads t .place)) t p s
@@ -204,31 +221,92 @@ perform-agrees (Abort e a b) s =
     (λ o. pick (hasNote e b (debtIn o s)) none
     (pick (isMissing (s .endpoints e .status)) (some 23) (pick (isClosing (s .endpoints e .status)) (some 25) none)))
     (λ t. abort t e a b) (λ t. abort-agrees (hasNote e b (s .threads t .debt)) t e a b s)
+perform-agrees (Grant t e r b) s = grant-agrees (isAbsent (s .threads t .place)) e s
 
-agrees : (c : Call) (s : State) → Agrees (refusalOf c s) s (step s c)
-unfolding refusalOf step performIf
-agrees c s = go (inRange c)
+and-false : (x : Bool) → x && false ≡ false
+and-false true = refl
+and-false false = refl
+
+-- Who lacks a right runs: 20 is not its cause.
+barred-runs : (g : Grants) (c : Call) (s : State) → barred (s .runs) g c ≡ true → row20 c s .cause ≡ false
+barred-runs g c s = go (s .runs)
   where
-    go : (x : Bool) → Agrees (pick (not x) (some 19) (firstCause (laterRows c s))) s (performIf x c s)
-    go true = perform-agrees c s
+    go : (o : Option ℕ) → barred o g c ≡ true → (leb 7 (numberOf c) && leb (numberOf c) 12) && isNobody o ≡ false
+    go none h = absurd (clash h refl)
+    go (some t) h = and-false (leb 7 (numberOf c) && leb (numberOf c) 12)
+
+-- 29 between 20 and the rows behind it.
+unless-barred :
+    (x y : Bool) (v : Option ℕ) (c : Call) (s : State) → (x ≡ true → y ≡ false)
+    → Agrees (pick y (some 20) v) s (perform c s)
+    → Agrees (pick y (some 20) (pick x (some 29) v)) s (performUnless x c s)
+unfolding performUnless
+unless-barred true y v c s h i =
+    subst (λ (z : Bool). Agrees (pick z (some 20) (some 29)) s (refuse 29 s)) (sym (h refl)) refl
+unless-barred false y v c s h i = i
+
+agrees : (g : Grants) (c : Call) (s : State) → Agrees (refusalOf g c s) s (step g s c)
+unfolding refusalOf step performIf
+agrees g c s = go (inRange c)
+  where
+    go : (x : Bool) → Agrees (pick (not x) (some 19) (firstCause (laterRows g c s))) s (performIf x g c s)
+    go true =
+        unless-barred (row29 g c s .cause) (row20 c s .cause) (firstCause (tableRows c s)) c s (barred-runs g c s)
+        (perform-agrees c s)
     go false = refl
 
+-- No row's number is that of an accepted call.
+
+abbrev Above : Option ℕ → Type 0
+Above none = Unit {0}
+Above (some n) = 2 < n
+
+abbrev AllAbove : List Refusal → Type 0
+AllAbove [] = Unit {0}
+AllAbove (r ∷ l) = Above (r .number) × AllAbove l
+
+first-above : (l : List Refusal) → AllAbove l → Above (firstCause l)
+first-above [] h = tt
+first-above (r ∷ l) h = either (r .cause) (h .0) (first-above l (h .1))
+  where
+    either : (x : Bool) → Above (r .number) → Above (firstCause l) → Above (pick x (r .number) (firstCause l))
+    either true i j = i
+    either false i j = j
+
+pub refusal-number : (g : Grants) (c : Call) (s : State) (n : ℕ) → refusalOf g c s ≡ some n → 2 < n
+unfolding refusalOf
+refusal-number g c s n h =
+    subst Above h
+    (first-above (row19 c s ∷ laterRows g c s) (
+      lit≤ tt,
+      (
+        lit≤ tt,
+        (
+          lit≤ tt,
+          (
+            lit≤ tt,
+            (lit≤ tt, (tt, (lit≤ tt, (lit≤ tt, (lit≤ tt, (lit≤ tt, (lit≤ tt, tt))))))),
+          ),
+        ),
+      ),
+    ))
+
 -- "Number, three zeros", everything "left as it was": where the table gives a number, the call is refused by it.
-pub refused-exactly : (c : Call) (s : State) (n : ℕ) → refusalOf c s ≡ some n → step s c ≡ refuse n s
-refused-exactly c s n h = subst (λ (o : Option ℕ). Agrees o s (step s c)) h (agrees c s)
+pub refused-exactly : (g : Grants) (c : Call) (s : State) (n : ℕ) → refusalOf g c s ≡ some n → step g s c ≡ refuse n s
+refused-exactly g c s n h = subst (λ (o : Option ℕ). Agrees o s (step g s c)) h (agrees g c s)
 
 -- "Codes: 0 done, 1 blocked, 2 broken off": where it gives none, the call is accepted.
-pub accepted-exactly : (c : Call) (s : State) → refusalOf c s ≡ none → step s c .answer .code ≤ 2
-accepted-exactly c s h = subst (λ (o : Option ℕ). Agrees o s (step s c)) h (agrees c s)
+pub accepted-exactly : (g : Grants) (c : Call) (s : State) → refusalOf g c s ≡ none → step g s c .answer .code ≤ 2
+accepted-exactly g c s h = subst (λ (o : Option ℕ). Agrees o s (step g s c)) h (agrees g c s)
 
 -- A number past 2 is answered exactly where the table gives it.
 pub refusals-exactly :
-    (c : Call) (s : State) (n : ℕ) → 2 < n → (step s c .answer .code ≡ n) ↔ (refusalOf c s ≡ some n)
-refusals-exactly c s n h =
-    (go (refusalOf c s) refl, λ i. ap (λ (r : Result). r .answer .code) (refused-exactly c s n i))
+    (g : Grants) (c : Call) (s : State) (n : ℕ) → 2 < n → (step g s c .answer .code ≡ n) ↔ (refusalOf g c s ≡ some n)
+refusals-exactly g c s n h =
+    (go (refusalOf g c s) refl, λ i. ap (λ (r : Result). r .answer .code) (refused-exactly g c s n i))
   where
-    go : (o : Option ℕ) → refusalOf c s ≡ o → step s c .answer .code ≡ n → refusalOf c s ≡ some n
-    go none i j = let k = accepted-exactly c s i in absurd (omega arith)
+    go : (o : Option ℕ) → refusalOf g c s ≡ o → step g s c .answer .code ≡ n → refusalOf g c s ≡ some n
+    go none i j = let k = accepted-exactly g c s i in absurd (omega arith)
     go (some m) i j =
-        let k = ap (λ (r : Result). r .answer .code) (refused-exactly c s m i) in
+        let k = ap (λ (r : Result). r .answer .code) (refused-exactly g c s m i) in
         let l : m ≡ n = omega arith in i ∙ ap some l

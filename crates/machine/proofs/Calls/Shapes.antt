@@ -1,4 +1,5 @@
--- Every result of the machine has one of five shapes. The sentences about answers follow from them, by cases.
+-- Every result of the machine is a refusal by 29 or has one of six shapes. The sentences about answers follow from
+-- them, by cases.
 use Prim.Native.Nat.{ℕ, zero, suc, _+_, _-_, _≤_, _<_}
 use mathlib.Core.Path.{_≡_, refl, sym, _∙_, ap, subst}
 use mathlib.Core.Logic.{_⊎_, inl, inr, _↔_, ⊎-elim}
@@ -13,6 +14,7 @@ use borrow.Author.Tests.{leb-true}
 use Rattle.machine.specs.declared.Call.{Call}
 use Rattle.machine.specs.declared.Call.the-variants.{CreateThread, DestroyThread, SetPriority, CreateEndpoint}
 use Rattle.machine.specs.declared.Call.the-variants.{Interrupt, Tick, Send, Receive, Yield, Wait, Delete, Abort}
+use Rattle.machine.specs.declared.Call.the-variants.{Grant}
 use Rattle.machine.specs.Calls.{numberOf, inRange, isEndpoint, isAllowance, isBadge}
 use Rattle.machine.specs.Lists.{Mem, Distinct}
 use Rattle.machine.specs.State as State
@@ -21,6 +23,7 @@ use Rattle.machine.specs.State.{pending, awaited, Endpoint, missingEndpo
 use Rattle.machine.specs.Scheduling.{choose}
 use Rattle.machine.specs.Endpoints.{underAbort, pendingOf, withOwner, dropped, dropDebt, endAbort}
 use Rattle.machine.specs.Results.{Look, Result, plain, counted, refuse, accept, receipt}
+use Rattle.machine.specs.Grants.{Grants, barred}
 use Rattle.machine.specs.Aborts.{Removal, removeUpTo, deleted, deleteFrom, deleteAt, delete, Looked, pendingAt}
 use Rattle.machine.specs.Aborts.{lookUpTo, begin, join, ended, lookedOwn, workOwn, beginAfter, finished}
 use Rattle.machine.specs.Aborts.{lookedOther, workOther, underBadge, abortFrom, dropUnless, dropOther}
@@ -28,7 +31,7 @@ use Rattle.machine.specs.Aborts.{abortOpen, abortAt, abortUnless, abort}
 use Rattle.machine.specs.Machine.{createIf, createThread, destroyIf, destroyThread, priorityIf, setPriority}
 use Rattle.machine.specs.Machine.{createAt, createEndpoint, interrupt, tick, sendTo, sendUnless, sendAt, send}
 use Rattle.machine.specs.Machine.{receiveFrom, receiveAt, receive, yield, waitAt, wait, byCaller, perform}
-use Rattle.machine.specs.Machine.{performIf, step}
+use Rattle.machine.specs.Machine.{grantAt, grantIf, grant, performUnless, performIf, step}
 use Rattle.machine.specs.Work.{allowanceOf, WorkLeft, to-remove, to-look, not-begun}
 use Rattle.machine.proofs.Lists.{Same, same, other, same?, clash, put-same, put-all}
 use Rattle.machine.proofs.Running.{choose-keeps}
@@ -44,10 +47,11 @@ OwnBegun s e a b =
 abbrev pub Exact : State → Call → ℕ → ℕ → State → Type 0
 Exact s c n j r = (n ≡ 2) ↔ ((j ≡ allowanceOf c) × WorkLeft s r c)
 
--- What a call made in state s comes to.
+-- What a call made in state s comes to, where its caller lacks no right.
 pub data Shape (s : State) : Call → Result → Type 0 where
   refused : {c : Call} (n : ℕ) → 19 ≤ n → n ≤ 27 → Shape s c (refuse n s)
   plainly : {c : Call} (n : ℕ) (r : State) → n ≤ 1 → numberOf c ≤ 10 → Shape s c (accept (plain n) [] r)
+  granted : {t e k b : ℕ} (r : State) → Shape s (Grant t e k b) (accept (plain 0) [] r)
   handed : {e : ℕ} (b m : ℕ) (r : State) → Shape s (Receive e) (accept (receipt b m) [] r)
   removed :
       {e a : ℕ} (n j : ℕ) (r : State) → n ≤ 2 → j ≤ a → Exact s (Delete e a) n j (choose r) → Removed s e j (choose r)
@@ -56,6 +60,11 @@ pub data Shape (s : State) : Call → Result → Type 0 where
       {e a b : ℕ} (n : ℕ) (l : List Look) (r : State) → n ≤ 2 → length l ≤ a
       → (Distinct (pendingAt e s) → Exact s (Abort e a b) n (length l) (choose r))
       → Shape s (Abort e a b) (accept (counted n (length l)) l r)
+
+-- What every call comes to.
+pub data Comes (s : State) (c : Call) : Result → Type 0 where
+  lacking : Comes s c (refuse 29 s)
+  shaped : {r : Result} → Shape s c r → Comes s c r
 
 -- Code 0 where no work is left, code 2 where some is.
 never : {A : Type 0} → (A → ⊥) → _≡_ {A = ℕ} 0 2 ↔ A
@@ -332,6 +341,20 @@ module _ (s : State) (t e a b : ℕ) where
   abort-shape true h = from-note s e a b _ h
   abort-shape false h = abortAt-shape _
 
+-- Call 13
+
+module _ (s : State) (t e k b : ℕ) where
+  grantAt-shape : (x : Status) → Shape s (Grant t e k b) (grantAt x s)
+  unfolding grantAt
+  grantAt-shape missing = refused 23 (lit≤ tt) (lit≤ tt)
+  grantAt-shape live = granted s
+  grantAt-shape closing = granted s
+
+  grant-shape : (x : Bool) → Shape s (Grant t e k b) (grantIf x e s)
+  unfolding grantIf
+  grant-shape true = refused 21 (lit≤ tt) (lit≤ tt)
+  grant-shape false = grantAt-shape _
+
 -- Every call
 
 caller-shape :
@@ -351,9 +374,9 @@ allowed e a b h =
     (both (leb 1 a) (leb a 65535)
     (both (isEndpoint e) (isAllowance a) (both (isEndpoint e && isAllowance a) (isBadge b) h .0) .1) .0)
 
-perform-shape : (s : State) (c : Call) → inRange c ≡ true → Shape s c (perform c s)
+pub perform-shape : (s : State) (c : Call) → inRange c ≡ true → Shape s c (perform c s)
 unfolding perform createThread destroyThread setPriority createEndpoint interrupt tick send receive yield wait delete
-    abort
+    abort grant
 perform-shape s (CreateThread t p) h = create-shape s _ t p
 perform-shape s (DestroyThread t) h = destroy-shape s _ t
 perform-shape s (SetPriority t p) h = priority-shape s _ t p
@@ -367,11 +390,16 @@ perform-shape s (Wait l) h = caller-shape s _ (s .runs) (λ t. wait t l) (λ t. 
 perform-shape s (Delete e a) h = caller-shape s _ (s .runs) (λ t. delete t e a) (λ t. delete-shape s _ t e a)
 perform-shape s (Abort e a b) h =
     caller-shape s _ (s .runs) (λ t. abort t e a b) (λ t. abort-shape s t e a b _ (allowed e a b h))
+perform-shape s (Grant t e k b) h = grant-shape s t e k b _
 
-pub shape : (s : State) (c : Call) → Shape s c (step s c)
-unfolding step performIf
-shape s c = go (inRange c) refl
+pub shape : (g : Grants) (s : State) (c : Call) → Comes s c (step g s c)
+unfolding step performIf performUnless
+shape g s c = go (inRange c) refl
   where
-    go : (x : Bool) → inRange c ≡ x → Shape s c (performIf x c s)
-    go true h = perform-shape s c h
-    go false h = refused 19 (lit≤ tt) (lit≤ tt)
+    unless : (y : Bool) → inRange c ≡ true → Comes s c (performUnless y c s)
+    unless true h = lacking
+    unless false h = shaped (perform-shape s c h)
+
+    go : (x : Bool) → inRange c ≡ x → Comes s c (performIf x g c s)
+    go true h = unless (barred (s .runs) g c) h
+    go false h = shaped (refused 19 (lit≤ tt) (lit≤ tt))

@@ -7,6 +7,7 @@ use mathlib.Core.List.{List, [], _∷_}
 use Rattle.machine.specs.declared.Call.{Call}
 use Rattle.machine.specs.declared.Call.the-variants.{CreateThread, DestroyThread, SetPriority, CreateEndpoint}
 use Rattle.machine.specs.declared.Call.the-variants.{Interrupt, Tick, Send, Receive, Yield, Wait, Delete, Abort}
+use Rattle.machine.specs.declared.Call.the-variants.{Grant}
 use Rattle.machine.specs.Calls.{numberOf, inRange}
 use Rattle.machine.specs.Lists.{put}
 use Rattle.machine.specs.State as State
@@ -17,6 +18,7 @@ use Rattle.machine.specs.Scheduling.{enqueue, unqueue, standDown, wake, 
 use Rattle.machine.specs.Endpoints.{joinEndpoint, leaveEndpoint, wakeFrom, dropped, dropDebt, noteTo, note}
 use Rattle.machine.specs.Endpoints.{endAbort}
 use Rattle.machine.specs.Results.{Result, Look}
+use Rattle.machine.specs.Grants.{Grants, barred}
 use Rattle.machine.specs.Aborts.{Removal, Looked, oneMore, afterLook, lookedOwn, lookedOther, removeUpTo, deleted}
 use Rattle.machine.specs.Aborts.{deleteFrom, deleteAt, delete, hits, lookAt, look, lookUpTo, begin, joinAs}
 use Rattle.machine.specs.Aborts.{join, ended, workOwn, beginAfter, finished, workOther, underBadge, abortFrom}
@@ -25,7 +27,7 @@ use Rattle.machine.specs.Machine.{createIf, createThread, destroyIf, des
 use Rattle.machine.specs.Machine.{isRunning, changeUnless, moveReady, priorityIf, setPriority, createAt}
 use Rattle.machine.specs.Machine.{createEndpoint, fire, interrupt, sendTo, sendUnless, sendAt, send}
 use Rattle.machine.specs.Machine.{receiveFrom, receiveAt, receive, yield, waitAt, wait, byCaller, perform}
-use Rattle.machine.specs.Machine.{performIf, step}
+use Rattle.machine.specs.Machine.{grantAt, grantIf, grant, performUnless, performIf, step}
 use Rattle.machine.specs.Sound.{Present}
 use Rattle.machine.proofs.Lists.{clash, put-same, put-other, put-all}
 use Rattle.machine.proofs.Running.{choose-keeps}
@@ -247,11 +249,22 @@ module _ (u : ℕ) where
   caller-ticks none f s h = refl
   caller-ticks (some t) f s h = h t
 
+  grantAt-ticks : (x : Status) (s : State) → Kept u s (grantAt x s .state)
+  unfolding grantAt
+  grantAt-ticks missing s = refl
+  grantAt-ticks live s = choose-ticks s
+  grantAt-ticks closing s = choose-ticks s
+
+  grant-ticks : (x : Bool) (e : ℕ) (s : State) → Kept u s (grantIf x e s .state)
+  unfolding grantIf
+  grant-ticks true e s = refl
+  grant-ticks false e s = grantAt-ticks _ s
+
   perform-ticks :
       (c : Call) (s : State) → ((t p : ℕ) → c ≡ CreateThread t p → Kept u s (createThread t p s .state))
       → ((t : ℕ) → c ≡ DestroyThread t → Kept u s (destroyThread t s .state)) → (numberOf c ≡ 6 → ⊥)
       → Kept u s (perform c s .state)
-  unfolding perform setPriority createEndpoint interrupt send receive wait delete abort
+  unfolding perform setPriority createEndpoint interrupt send receive wait delete abort grant
   perform-ticks (CreateThread t p) s i j k = i t p refl
   perform-ticks (DestroyThread t) s i j k = j t refl
   perform-ticks (SetPriority t p) s i j k = priority-ticks _ t p s
@@ -264,6 +277,7 @@ module _ (u : ℕ) where
   perform-ticks (Wait l) s i j k = caller-ticks (s .runs) (λ t. wait t l) s (λ t. wait-ticks _ t l s)
   perform-ticks (Delete e a) s i j k = caller-ticks (s .runs) (λ t. delete t e a) s (λ t. deleteAt-ticks _ t e a s)
   perform-ticks (Abort e a b) s i j k = caller-ticks (s .runs) (λ t. abort t e a b) s (λ t. abort-ticks _ t e a b s)
+  perform-ticks (Grant t e r b) s i j k = grant-ticks _ e s
 
   -- Creation and destruction, of threads other than u
 
@@ -308,24 +322,32 @@ module _ (u : ℕ) where
 
 -- "Nothing else changes a thread's ticks": no call but creation, destruction and the tick does,
 pub ticks-kept :
-    (s : State) (c : Call) → (numberOf c ≡ 1 → ⊥) → (numberOf c ≡ 2 → ⊥) → (numberOf c ≡ 6 → ⊥)
-    → (u : ℕ) → step s c .state .threads u .ticks ≡ s .threads u .ticks
-unfolding step performIf
-ticks-kept s c i j k u = go (inRange c)
+    (g : Grants) (s : State) (c : Call) → (numberOf c ≡ 1 → ⊥) → (numberOf c ≡ 2 → ⊥) → (numberOf c ≡ 6 → ⊥)
+    → (u : ℕ) → step g s c .state .threads u .ticks ≡ s .threads u .ticks
+unfolding step performIf performUnless
+ticks-kept g s c i j k u = go (inRange c)
   where
-    go : (x : Bool) → Kept u s (performIf x c s .state)
-    go true = perform-ticks u c s (λ t p e. absurd (i (ap numberOf e))) (λ t e. absurd (j (ap numberOf e))) k
+    unless : (y : Bool) → Kept u s (performUnless y c s .state)
+    unless true = refl
+    unless false = perform-ticks u c s (λ t p e. absurd (i (ap numberOf e))) (λ t e. absurd (j (ap numberOf e))) k
+
+    go : (x : Bool) → Kept u s (performIf x g c s .state)
+    go true = unless (barred (s .runs) g c)
     go false = refl
 
 -- and of a thread that is present before and after, no call but the tick.
 pub ticks-kept-while-present :
-    (s : State) (c : Call) → (numberOf c ≡ 6 → ⊥) → (u : ℕ) → Present s u → Present (step s c .state) u
-    → step s c .state .threads u .ticks ≡ s .threads u .ticks
-unfolding step performIf perform createThread destroyThread
-ticks-kept-while-present s c k u h i = go (inRange c) i
+    (g : Grants) (s : State) (c : Call) → (numberOf c ≡ 6 → ⊥) → (u : ℕ) → Present s u → Present (step g s c .state) u
+    → step g s c .state .threads u .ticks ≡ s .threads u .ticks
+unfolding step performIf performUnless perform createThread destroyThread
+ticks-kept-while-present g s c k u h i = go (inRange c) i
   where
-    go : (x : Bool) → Present (performIf x c s .state) u → Kept u s (performIf x c s .state)
-    go true i =
+    unless : (y : Bool) → Present (performUnless y c s .state) u → Kept u s (performUnless y c s .state)
+    unless true i = refl
+    unless false i =
         perform-ticks u c s (λ t p e. create-ticks u _ t p s refl h)
         (λ t e. destroy-ticks u _ t s (subst (λ (d : Call). Present (perform d s .state) u) e i)) k
+
+    go : (x : Bool) → Present (performIf x g c s .state) u → Kept u s (performIf x g c s .state)
+    go true i = unless (barred (s .runs) g c) i
     go false i = refl

@@ -18,12 +18,13 @@ use Rattle.machine.specs.State.{State, Debt, nothing, owns, noted, Statu
 use Rattle.machine.specs.State.{setThread, withDebt}
 use Rattle.machine.specs.Scheduling.{choose}
 use Rattle.machine.specs.Endpoints.{dropped, dropDebt}
-use Rattle.machine.specs.Results.{Look, Result, plain, counted, refuse, done}
+use Rattle.machine.specs.Results.{Look, Result, plain, counted, refuse, done, isAccepted}
 use Rattle.machine.specs.Aborts.{dropOther, abortOpen, abortAt, hasNote, abortUnless, abort}
-use Rattle.machine.specs.Machine.{byCaller, perform, performIf, step}
+use Rattle.machine.specs.Grants.{Grants, barred}
+use Rattle.machine.specs.Machine.{byCaller, perform, performUnless, performIf, step}
 use Rattle.machine.specs.Sound.{Sound}
 use Rattle.machine.specs.Sorts.{looks}
-use Rattle.machine.specs.History.{Aborting, Ended, Waiting, History, isAccepted, namedLooks, lineName, waitingIn}
+use Rattle.machine.specs.History.{Aborting, Ended, Waiting, History, namedLooks, lineName, waitingIn}
 use Rattle.machine.specs.Walk.{letsGo, reportOf, reportIf, walk}
 use Rattle.machine.specs.Outcomes.{Outcome, apart, unchanged, courseOf, outcomeIf}
 use Rattle.machine.specs.Recorded.{recorded, told}
@@ -311,17 +312,19 @@ module _ (past : List Call) (s : State) (h : History) (I : Inv past s h) (e a b 
       ap (λ (x : ℕ). noted x c) (eqb-true f e (r .0)) ∙ ap (noted e) (eqb-true c b (r .1))
 
   pub advance12 :
-      Inv (past ++ (Abort e a b ∷ [])) (step s (Abort e a b) .state) (told (Abort e a b) s (step s (Abort e a b)) h)
-  unfolding step performIf perform abort abortUnless
-  advance12 = go (inRange (Abort e a b)) refl (step-sound s (Abort e a b) (I .sound))
+      (g : Grants)
+      → Inv (past ++ (Abort e a b ∷ [])) (step g s (Abort e a b) .state)
+      (told (Abort e a b) s (step g s (Abort e a b)) h)
+  unfolding step performIf performUnless perform abort abortUnless
+  advance12 g = go (inRange (Abort e a b)) refl (step-sound g s (Abort e a b) (I .sound))
     where
-      unless :
+      noted-or-not :
           (t : ℕ) → s .runs ≡ some t → inRange (Abort e a b) ≡ true → (x : Bool)
           → hasNote e b (s .threads t .debt) ≡ x → Sound (abortUnless x t e a b s .state)
           → Inv (past ++ (Abort e a b ∷ [])) (abortUnless x t e a b s .state)
           (told (Abort e a b) s (abortUnless x t e a b s) h)
-      unless t runs range true p S = noted12 t runs (noted-is (s .threads t .debt) p) S
-      unless t runs range false p S = at12 t runs p range (s .endpoints e .status) refl S
+      noted-or-not t runs range true p S = noted12 t runs (noted-is (s .threads t .debt) p) S
+      noted-or-not t runs range false p S = at12 t runs p range (s .endpoints e .status) refl S
 
       by :
           inRange (Abort e a b) ≡ true → (k : Option ℕ) → s .runs ≡ k
@@ -329,10 +332,16 @@ module _ (past : List Call) (s : State) (h : History) (I : Inv past s h) (e a b 
           → Inv (past ++ (Abort e a b ∷ [])) (byCaller k (λ t. abort t e a b) s .state)
           (told (Abort e a b) s (byCaller k (λ t. abort t e a b) s) h)
       by range none p S = refused12 19 refl
-      by range (some t) p S = unless t p range (hasNote e b (s .threads t .debt)) refl S
+      by range (some t) p S = noted-or-not t p range (hasNote e b (s .threads t .debt)) refl S
 
-      go : (x : Bool) → inRange (Abort e a b) ≡ x → Sound (performIf x (Abort e a b) s .state)
-          → Inv (past ++ (Abort e a b ∷ [])) (performIf x (Abort e a b) s .state)
-          (told (Abort e a b) s (performIf x (Abort e a b) s) h)
-      go true p S = by p (s .runs) refl S
+      unless : inRange (Abort e a b) ≡ true → (x : Bool) → Sound (performUnless x (Abort e a b) s .state)
+          → Inv (past ++ (Abort e a b ∷ [])) (performUnless x (Abort e a b) s .state)
+          (told (Abort e a b) s (performUnless x (Abort e a b) s) h)
+      unless range true S = refused12 28 refl
+      unless range false S = by range (s .runs) refl S
+
+      go : (x : Bool) → inRange (Abort e a b) ≡ x → Sound (performIf x g (Abort e a b) s .state)
+          → Inv (past ++ (Abort e a b ∷ [])) (performIf x g (Abort e a b) s .state)
+          (told (Abort e a b) s (performIf x g (Abort e a b) s) h)
+      go true p S = unless p (barred (s .runs) g (Abort e a b)) S
       go false p S = refused12 18 refl

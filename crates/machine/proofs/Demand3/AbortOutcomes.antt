@@ -7,10 +7,10 @@ use mathlib.Core.List.{List, [], map}
 use native.Mathlib.Omega.{arith}
 use Rattle.machine.specs.State.{State, Debt, nothing, owns, noted}
 use Rattle.machine.specs.Endpoints.{senders}
-use Rattle.machine.specs.Results.{Result}
+use Rattle.machine.specs.Results.{Result, isAccepted}
 use Rattle.machine.specs.Aborts.{hasNote}
 use Rattle.machine.specs.Sorts.{looks}
-use Rattle.machine.specs.History.{Reported, History, isAccepted, namedLooks}
+use Rattle.machine.specs.History.{Reported, History, namedLooks}
 use Rattle.machine.specs.Walk.{Walk, letsGo, isNoteOf, reportIf, walk, close}
 use Rattle.machine.specs.Outcomes.{apart, comesIn, courseOf, startOf, walked, walks, abortsBy, abortsOf}
 use Rattle.machine.specs.Outcomes.{outcomeOf, outcomeIf}

@@ -4,9 +4,11 @@ use mathlib.Core.Path.{_≡_, refl, sym, _∙_, ap, subst}
 use mathlib.Core.Logic.{inl, inr}
 use mathlib.Core.Bool.{Bool, true, false}
 use mathlib.Core.Option.{Option, none, some}
+use lib.Dec.{eqb}
 use Rattle.machine.specs.declared.Call.{Call}
 use Rattle.machine.specs.declared.Call.the-variants.{CreateThread, DestroyThread, SetPriority, CreateEndpoint}
 use Rattle.machine.specs.declared.Call.the-variants.{Interrupt, Tick, Send, Receive, Yield, Wait, Delete, Abort}
+use Rattle.machine.specs.declared.Call.the-variants.{Grant}
 use Rattle.machine.specs.Calls.{inRange}
 use Rattle.machine.specs.Lists.{put, first}
 use Rattle.machine.specs.State.{State, Thread, Place, able, sending, receiving, waiting, Status, missing, live}
@@ -14,9 +16,10 @@ use Rattle.machine.specs.State.{closing, Endpoint, Line, quiet, pending,
 use Rattle.machine.specs.Scheduling.{enqueue, standDown, block}
 use Rattle.machine.specs.Endpoints.{senders, receivers, underAbort, joinEndpoint, wakeFrom, dropDebt}
 use Rattle.machine.specs.Results.{Result, blocked}
+use Rattle.machine.specs.Grants.{Grants, barred}
 use Rattle.machine.specs.Machine.{isAbsent, createThread, destroyThread, setPriority, sendTo, sendUnless, sendAt}
 use Rattle.machine.specs.Machine.{send, receiveFrom, receiveAt, receive, yield, waitAt, wait, byCaller, perform}
-use Rattle.machine.specs.Machine.{performIf, step}
+use Rattle.machine.specs.Machine.{grantAt, grantIf, grant, performUnless, performIf, step}
 use Rattle.machine.specs.Sound.{Sound}
 use Rattle.machine.specs.Sorts.{Sort, other, destroys, waits, receives, yields, removes, looks, sortOf}
 use Rattle.machine.specs.History.{queues?}
@@ -25,7 +28,7 @@ use Rattle.machine.proofs.Demand3.Standing.{waiterCall}
 use Rattle.machine.proofs.Preserved.Sites.{differ}
 use Rattle.machine.proofs.Preserved.Statuses.{keeps-place}
 use Rattle.machine.proofs.Preserved.Debts.{mid-dropDebt, dropDebt-drops}
-use Rattle.machine.proofs.Demand3.Leaving.{leaves-then, leaves-wakeFrom, leaves-dropDebt}
+use Rattle.machine.proofs.Demand3.Leaving.{leaves-self, leaves-then, leaves-wakeFrom, leaves-dropDebt}
 use Rattle.machine.proofs.Calls.Ticks.{is-absent}
 use Rattle.machine.proofs.Demand3.Owing.{Still, still-self, still-then, still-thread, still-endpoint}
 use Rattle.machine.proofs.Demand3.Owing.{still-wakeFrom}
@@ -33,7 +36,7 @@ use Rattle.machine.proofs.Running.{choose-keeps}
 use Rattle.machine.proofs.Demand3.Blocking.{JoinsTail, CallerBlocks, leaves-choose, still-choose}
 use Rattle.machine.specs.Mid.{Mid}
 use Rattle.machine.proofs.Preserved.Mid.{sound-mid}
-use Rattle.machine.proofs.Demand3.HostCalls.{dropsOf, Sheds, sheds, Arrival, idle, blocks, turn-refused}
+use Rattle.machine.proofs.Demand3.HostCalls.{dropsOf, Sheds, keeps, sheds, Arrival, idle, blocks, turn-refused}
 use Rattle.machine.proofs.Demand3.HostCalls.{turn-create, turn-destroy, turn-priority, turn-endpoint}
 use Rattle.machine.proofs.Demand3.HostCalls.{turn-interrupt, turn-tick}
 
@@ -167,6 +170,19 @@ module _ (s : State) (S : Sound s) (t : ℕ) (runs : s .runs ≡ some t) where
       go live = turn-receiveFrom (first (senders (s .threads) (s .endpoints e .waiters))) e
       go closing = turn-refused s (Receive e) 25 refl refl
 
+-- Call 13 changes nothing of the state.
+module _ (s : State) (t e r b : ℕ) where
+  turn-grantAt : (x : Status) → Arrival s (Grant t e r b) (grantAt x s)
+  unfolding grantAt
+  turn-grantAt missing = turn-refused s (Grant t e r b) 23 refl refl
+  turn-grantAt live = idle (leaves-choose s s (leaves-self s)) refl (keeps refl (still-choose s s (still-self s)))
+  turn-grantAt closing = idle (leaves-choose s s (leaves-self s)) refl (keeps refl (still-choose s s (still-self s)))
+
+turn-grant : (s : State) (x : Bool) (t e r b : ℕ) → Arrival s (Grant t e r b) (grantIf x e s)
+unfolding grantIf
+turn-grant s true t e r b = turn-refused s (Grant t e r b) 21 refl refl
+turn-grant s false t e r b = turn-grantAt s t e r b (s .endpoints e .status)
+
 -- Every call but 11 and 12.
 abbrev pub Simple : Sort → Type 0
 Simple other = Unit {0}
@@ -187,7 +203,7 @@ turn-caller s c f q h = go (s .runs) refl
     go (some t) e = h t e
 
 turn-perform : (s : State) → Sound s → (c : Call) → Simple (sortOf c) → Arrival s c (perform c s)
-unfolding perform createThread destroyThread setPriority
+unfolding perform createThread destroyThread setPriority grant
 turn-perform s S (CreateThread t p) _ =
     turn-create s (isAbsent (s .threads t .place)) t p
     (λ h. ap (λ (x : Thread). x .debt) (S .ranges .unused-thread t (is-absent (s .threads t .place) h)))
@@ -202,20 +218,26 @@ turn-perform s S Yield _ = turn-caller s Yield (λ t. yield t) refl (λ t r. tur
 turn-perform s S (Wait l) _ = turn-caller s (Wait l) (λ t. wait t l) refl (λ t r. turn-wait s S t r l)
 turn-perform s S (Delete e a) n = absurd n
 turn-perform s S (Abort e a b) n = absurd n
+turn-perform s S (Grant t e r b) _ = turn-grant s (isAbsent (s .threads t .place)) t e r b
 
-refused-name : (x : Sort) → queues? x 19 ≡ false
-refused-name other = refl
-refused-name (destroys t) = refl
-refused-name waits = refl
-refused-name (receives e) = refl
-refused-name yields = refl
-refused-name (removes e) = refl
-refused-name (looks e a b) = refl
+-- A refused call makes nobody a waiter.
+refused-name : (x : Sort) (n : ℕ) → eqb n 1 ≡ false → queues? x n ≡ false
+refused-name other n h = refl
+refused-name (destroys t) n h = refl
+refused-name waits n h = h
+refused-name (receives e) n h = h
+refused-name yields n h = refl
+refused-name (removes e) n h = refl
+refused-name (looks e a b) n h = refl
 
-pub turn : (s : State) → Sound s → (c : Call) → Simple (sortOf c) → Arrival s c (step s c)
-unfolding step performIf
-turn s S c n = go (inRange c)
+pub turn : (g : Grants) (s : State) → Sound s → (c : Call) → Simple (sortOf c) → Arrival s c (step g s c)
+unfolding step performIf performUnless
+turn g s S c n = go (inRange c)
   where
-    go : (b : Bool) → Arrival s c (performIf b c s)
-    go true = turn-perform s S c n
-    go false = turn-refused s c 19 refl (refused-name (sortOf c))
+    unless : (b : Bool) → Arrival s c (performUnless b c s)
+    unless true = turn-refused s c 29 refl (refused-name (sortOf c) 29 refl)
+    unless false = turn-perform s S c n
+
+    go : (b : Bool) → Arrival s c (performIf b g c s)
+    go true = unless (barred (s .runs) g c)
+    go false = turn-refused s c 19 refl (refused-name (sortOf c) 19 refl)

@@ -12,12 +12,13 @@ use Rattle.machine.specs.Calls.{inRange}
 use Rattle.machine.specs.Lists.{Rising}
 use Rattle.machine.specs.State.{State, Status, missing, live, closing}
 use Rattle.machine.specs.Endpoints.{dropDebt, endAbort}
-use Rattle.machine.specs.Results.{Look, Result, plain, refuse}
+use Rattle.machine.specs.Results.{Look, Result, plain, refuse, isAccepted}
 use Rattle.machine.specs.Aborts.{deleteFrom, deleteAt, delete, abort}
-use Rattle.machine.specs.Machine.{byCaller, perform, performIf, step}
+use Rattle.machine.specs.Grants.{Grants, barred}
+use Rattle.machine.specs.Machine.{byCaller, perform, performUnless, performIf, step}
 use Rattle.machine.specs.Sound.{Sound}
 use Rattle.machine.specs.Sorts.{removes, sortOf}
-use Rattle.machine.specs.History.{Aborting, Ended, History, isAccepted, queues?, named}
+use Rattle.machine.specs.History.{Aborting, Ended, History, queues?, named}
 use Rattle.machine.specs.Outcomes.{Outcome, unchanged, deletes, outcomeOf, outcomeIf}
 use Rattle.machine.specs.Recorded.{recorded, told}
 use Rattle.machine.specs.Claim.{In}
@@ -146,9 +147,10 @@ module _ (past : List Call) (s : State) (h : History) (I : Inv past s h) where
     delete-at t runs closing S = deletes-next t runs S
 
     pub advance11 :
-        Inv (past ++ (Delete e a ∷ [])) (step s (Delete e a) .state) (told (Delete e a) s (step s (Delete e a)) h)
-    unfolding step performIf perform delete
-    advance11 = go (inRange (Delete e a)) (step-sound s (Delete e a) (I .sound))
+        (g : Grants)
+        → Inv (past ++ (Delete e a ∷ [])) (step g s (Delete e a) .state) (told (Delete e a) s (step g s (Delete e a)) h)
+    unfolding step performIf performUnless perform delete
+    advance11 g = go (inRange (Delete e a)) (step-sound g s (Delete e a) (I .sound))
       where
         by : (k : Option ℕ) → s .runs ≡ k → Sound (byCaller k (λ t. delete t e a) s .state)
             → Inv (past ++ (Delete e a ∷ [])) (byCaller k (λ t. delete t e a) s .state)
@@ -156,8 +158,14 @@ module _ (past : List Call) (s : State) (h : History) (I : Inv past s h) where
         by none p S = refused11 20 refl
         by (some t) p S = delete-at t p (s .endpoints e .status) S
 
-        go : (b : Bool) → Sound (performIf b (Delete e a) s .state)
-            → Inv (past ++ (Delete e a ∷ [])) (performIf b (Delete e a) s .state)
-            (told (Delete e a) s (performIf b (Delete e a) s) h)
-        go true S = by (s .runs) refl S
+        unless : (b : Bool) → Sound (performUnless b (Delete e a) s .state)
+            → Inv (past ++ (Delete e a ∷ [])) (performUnless b (Delete e a) s .state)
+            (told (Delete e a) s (performUnless b (Delete e a) s) h)
+        unless true S = refused11 29 refl
+        unless false S = by (s .runs) refl S
+
+        go : (b : Bool) → Sound (performIf b g (Delete e a) s .state)
+            → Inv (past ++ (Delete e a ∷ [])) (performIf b g (Delete e a) s .state)
+            (told (Delete e a) s (performIf b g (Delete e a) s) h)
+        go true S = unless (barred (s .runs) g (Delete e a)) S
         go false S = refused11 19 refl

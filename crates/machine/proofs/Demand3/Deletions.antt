@@ -9,7 +9,8 @@ use Rattle.machine.specs.Lists.{put}
 use Rattle.machine.specs.State.{State, Thread, Abort, closing, Endpoint, missingEndpoint, setEndpoint}
 use Rattle.machine.specs.Endpoints.{ownerOf, wakeFrom, dropDebt, note, endAbort}
 use Rattle.machine.specs.Aborts.{Removal, oneMore, removeUpTo, deleted, deleteFrom}
-use Rattle.machine.specs.History.{Aborting, Ended, Debts, isAccepted}
+use Rattle.machine.specs.Results.{isAccepted}
+use Rattle.machine.specs.History.{Aborting, Ended, Debts}
 use Rattle.machine.specs.Walk.{letsGo, hears, reportOf}
 use Rattle.machine.specs.Tied.{Tied}
 use Rattle.machine.specs.Mid.{Mid}

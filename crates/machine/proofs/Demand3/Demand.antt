@@ -8,13 +8,17 @@ use native.Mathlib.Omega.{arith}
 use Rattle.machine.specs.declared.Call.{Call}
 use Rattle.machine.specs.declared.Call.the-variants.{CreateThread, DestroyThread, SetPriority, CreateEndpoint}
 use Rattle.machine.specs.declared.Call.the-variants.{Interrupt, Tick, Send, Receive, Yield, Wait, Delete, Abort}
+use Rattle.machine.specs.declared.Call.the-variants.{Grant}
 use Rattle.machine.specs.State.{State, freshState}
+use Rattle.machine.specs.Results.{Result}
+use Rattle.machine.specs.Grants.{Grants, grantsAfter}
 use Rattle.machine.specs.Aborts.{abortUnless, abort}
-use Rattle.machine.specs.Machine.{byCaller, perform, performIf, step}
+use Rattle.machine.specs.Machine.{byCaller, perform, step}
 use Rattle.machine.specs.History.{Reported, History}
 use Rattle.machine.specs.Recorded.{Run, told, runFrom, freshHistory, freshRun, historyOf}
 use Rattle.machine.specs.Claim.{Claim}
 use Rattle.machine.specs.Tied.{Tied, NotesFirst}
+use Rattle.machine.proofs.Permits.{performed, has-right}
 use Rattle.machine.proofs.Demand3.Leaving.{no-call}
 use Rattle.machine.proofs.Preserved.Steps.{fresh-sound}
 use Rattle.machine.proofs.Demand3.Invariant.{Inv, claim}
@@ -52,20 +56,21 @@ fresh =
 
 -- One more call.
 onward :
-    (past : List Call) (s : State) (h : History) (c : Call) → Inv past s h
-    → Inv (past ++ (c ∷ [])) (step s c .state) (told c s (step s c) h)
-onward past s h (CreateThread t p) I = advance past s h I (CreateThread t p) tt
-onward past s h (DestroyThread t) I = advance past s h I (DestroyThread t) tt
-onward past s h (SetPriority t p) I = advance past s h I (SetPriority t p) tt
-onward past s h (CreateEndpoint e) I = advance past s h I (CreateEndpoint e) tt
-onward past s h (Interrupt l) I = advance past s h I (Interrupt l) tt
-onward past s h Tick I = advance past s h I Tick tt
-onward past s h (Send e b m) I = advance past s h I (Send e b m) tt
-onward past s h (Receive e) I = advance past s h I (Receive e) tt
-onward past s h Yield I = advance past s h I Yield tt
-onward past s h (Wait l) I = advance past s h I (Wait l) tt
-onward past s h (Delete e a) I = advance11 past s h I e a
-onward past s h (Abort e a b) I = advance12 past s h I e a b
+    (past : List Call) (g : Grants) (s : State) (h : History) (c : Call) → Inv past s h
+    → Inv (past ++ (c ∷ [])) (step g s c .state) (told c s (step g s c) h)
+onward past g s h (CreateThread t p) I = advance past s h I g (CreateThread t p) tt
+onward past g s h (DestroyThread t) I = advance past s h I g (DestroyThread t) tt
+onward past g s h (SetPriority t p) I = advance past s h I g (SetPriority t p) tt
+onward past g s h (CreateEndpoint e) I = advance past s h I g (CreateEndpoint e) tt
+onward past g s h (Interrupt l) I = advance past s h I g (Interrupt l) tt
+onward past g s h Tick I = advance past s h I g Tick tt
+onward past g s h (Send e b m) I = advance past s h I g (Send e b m) tt
+onward past g s h (Receive e) I = advance past s h I g (Receive e) tt
+onward past g s h Yield I = advance past s h I g Yield tt
+onward past g s h (Wait l) I = advance past s h I g (Wait l) tt
+onward past g s h (Delete e a) I = advance11 past s h I e a g
+onward past g s h (Abort e a b) I = advance12 past s h I e a b g
+onward past g s h (Grant t e r b) I = advance past s h I g (Grant t e r b) tt
 
 -- The rest of the list.
 along :
@@ -79,12 +84,13 @@ along (c ∷ l) past x I =
     (append-assoc past (c ∷ []) l)
     (along l (past ++ (c ∷ []))
     (record {
-      state = step (x .state) c .state;
-      history = told c (x .state) (step (x .state) c) (x .history);
+      state = step (x .grants) (x .state) c .state;
+      grants = grantsAfter (step (x .grants) (x .state) c .answer) c (x .grants);
+      history = told c (x .state) (step (x .grants) (x .state) c) (x .history);
     })
-    (onward past (x .state) (x .history) c I))
+    (onward past (x .grants) (x .state) (x .history) c I))
 
--- For every list of the twelve calls, with any numbers, refused ones included, made in turn from fresh tables, the
+-- For every list of the thirteen calls, with any numbers, refused ones included, made in turn from fresh tables, the
 -- claim holds after the list.
 pub demand : (calls : List Call) → Claim calls (historyOf calls)
 demand calls = claim calls (runFrom step calls freshRun .state) (historyOf calls) (along calls [] freshRun fresh)
@@ -99,12 +105,16 @@ debts-are calls = along calls [] freshRun fresh .tied
 
 -- Whoever has a note in the history is answered from it, whatever has become of the endpoint.
 pub notes-first : NotesFirst step
-unfolding step performIf perform abort abortUnless
-notes-first calls t e a b range runs note =
-    ap (λ (x : Bool). performIf x (Abort e a b) s .answer) range
+unfolding perform abort abortUnless
+notes-first calls t e a b range runs right note =
+    ap (λ (r : Result). r .answer)
+    (performed (x .grants) s (Abort e a b) range (has-right (s .runs) (x .grants) (Abort e a b) t runs right))
     ∙ ap (λ (o : Option ℕ). byCaller o (λ u. abort u e a b) s .answer) runs
-    ∙ ap (λ (x : Bool). abortUnless x t e a b s .answer)
+    ∙ ap (λ (y : Bool). abortUnless y t e a b s .answer)
     (sym (note-is e b (historyOf calls .aborts .debts .notes t) (s .threads t .debt) (debts-are calls .notes t)) ∙ note)
   where
+    x : Run
+    x = runFrom step calls freshRun
+
     s : State
     s = runFrom step calls freshRun .state

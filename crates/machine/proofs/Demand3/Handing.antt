@@ -13,7 +13,9 @@ use Rattle.machine.specs.State.{State, Thread, sending, Status, missing,
 use Rattle.machine.specs.Scheduling.{enqueue, wake}
 use Rattle.machine.specs.Endpoints.{isSending, senders, leaveEndpoint, wakeFrom, dropDebt}
 use Rattle.machine.specs.Results.{Result}
-use Rattle.machine.specs.Machine.{receiveFrom, receiveAt, receive, byCaller, perform, performIf, step}
+use Rattle.machine.specs.Grants.{Grants, barred}
+use Rattle.machine.specs.Machine.{receiveFrom, receiveAt, receive, byCaller, perform, performUnless, performIf}
+use Rattle.machine.specs.Machine.{step}
 use Rattle.machine.specs.Sound.{Sound, Queued}
 use Rattle.machine.specs.History.{isIn}
 use Rattle.machine.proofs.Lists.{put-same, without-first, only-nil, only-hit, only-none}
@@ -119,10 +121,16 @@ module _ (s : State) (S : Sound s) (e : ℕ) where
   takes-caller none k = no-code 19 k
   takes-caller (some t) k = takes-at t (s .endpoints e .status) refl k
 
-  pub takes : step s (Receive e) .answer .code ≡ 0 → TakesFirst s e (step s (Receive e))
-  unfolding step performIf perform
-  takes k = go (inRange (Receive e)) k
+  pub takes : (g : Grants) → step g s (Receive e) .answer .code ≡ 0 → TakesFirst s e (step g s (Receive e))
+  unfolding step performIf performUnless perform
+  takes g k = go (inRange (Receive e)) k
     where
-      go : (b : Bool) → performIf b (Receive e) s .answer .code ≡ 0 → TakesFirst s e (performIf b (Receive e) s)
-      go true h = takes-caller (s .runs) h
+      unless :
+          (b : Bool) → performUnless b (Receive e) s .answer .code ≡ 0
+          → TakesFirst s e (performUnless b (Receive e) s)
+      unless true h = no-code 28 h
+      unless false h = takes-caller (s .runs) h
+
+      go : (b : Bool) → performIf b g (Receive e) s .answer .code ≡ 0 → TakesFirst s e (performIf b g (Receive e) s)
+      go true h = unless (barred (s .runs) g (Receive e)) h
       go false h = no-code 18 h

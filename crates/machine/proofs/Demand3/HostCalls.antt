@@ -15,13 +15,13 @@ use Rattle.machine.specs.State.{State, Place, absent, able, sending, rec
 use Rattle.machine.specs.State.{live, closing, Line, quiet, pending, awaited, absentThread, setThread}
 use Rattle.machine.specs.Scheduling.{enqueue, unqueue, standDown, wake}
 use Rattle.machine.specs.Endpoints.{ownerOf, leaveEndpoint, dropDebt}
-use Rattle.machine.specs.Results.{Result, plain, refuse}
+use Rattle.machine.specs.Results.{Result, plain, refuse, isAccepted}
 use Rattle.machine.specs.Machine.{isAble, isRunning, createIf, leaveReady, leave, destroyIf, moveReady}
 use Rattle.machine.specs.Machine.{changeUnless, priorityIf, createAt, createEndpoint, fire, interrupt, leaveTicks}
 use Rattle.machine.specs.Machine.{tickFor, tick}
 use Rattle.machine.specs.Sound.{Sound}
 use Rattle.machine.specs.Sorts.{Sort, other, destroys, waits, receives, yields, removes, looks, sortOf}
-use Rattle.machine.specs.History.{isAccepted, queues?}
+use Rattle.machine.specs.History.{queues?}
 use Rattle.machine.proofs.Preserved.Debts.{live-present, dropDebt-drops}
 use Rattle.machine.proofs.Demand3.Leaving.{NobodyComes, no-call, leaves-clear, leaves-self, leaves-then}
 use Rattle.machine.proofs.Demand3.Leaving.{leaves-thread, leaves-endpoint, leaves-queue, leaves-dropDebt}

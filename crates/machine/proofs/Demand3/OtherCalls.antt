@@ -1,4 +1,4 @@
--- Calls 1 to 11 carry what holds of the history from the list so far to the list with one more call.
+-- Calls 1 to 10 and 13 carry what holds of the history from the list so far to the list with one more call.
 use Prim.Native.Nat.{ℕ, suc, _≤_, _<_}
 use mathlib.Core.Path.{_≡_, refl, sym, _∙_, ap, subst}
 use mathlib.Core.Logic.{inl, inr, ⊎-elim}
@@ -11,14 +11,16 @@ use Rattle.machine.specs.declared.Answer.{Answer}
 use Rattle.machine.specs.declared.Call.{Call}
 use Rattle.machine.specs.declared.Call.the-variants.{CreateThread, DestroyThread, SetPriority, CreateEndpoint}
 use Rattle.machine.specs.declared.Call.the-variants.{Interrupt, Tick, Send, Receive, Yield, Wait, Delete, Abort}
+use Rattle.machine.specs.declared.Call.the-variants.{Grant}
 use Rattle.machine.specs.Calls.{numberOf}
 use Rattle.machine.specs.Lists.{put, without, only, Mem, Distinct, Rising}
 use Rattle.machine.specs.State.{State}
-use Rattle.machine.specs.Results.{Look, Result, plain}
+use Rattle.machine.specs.Results.{Look, Result, plain, isAccepted}
+use Rattle.machine.specs.Grants.{Grants}
 use Rattle.machine.specs.Machine.{step}
 use Rattle.machine.specs.Sound.{Sound}
 use Rattle.machine.specs.Sorts.{Sort, other, destroys, waits, receives, yields, removes, looks, sortOf}
-use Rattle.machine.specs.History.{Waiting, History, isIn, isAccepted, queues?, named, waitingIn}
+use Rattle.machine.specs.History.{Waiting, History, isIn, queues?, named, waitingIn}
 use Rattle.machine.specs.Outcomes.{Outcome, letGoBy, drops, outcomeOf, outcomeIf}
 use Rattle.machine.specs.Recorded.{recorded, told}
 use Rattle.machine.specs.Tied.{Tied}
@@ -65,6 +67,7 @@ simple-number Yield n h = omega arith
 simple-number (Wait l) n h = omega arith
 simple-number (Delete e a) n h = n
 simple-number (Abort e a b) n h = n
+simple-number (Grant t e r b) n h = omega arith
 
 module _ (past : List Call) (s : State) (h : History) (I : Inv past s h) where
   pub fits : suc (h .now) ≤ suc (length past)
@@ -165,6 +168,7 @@ module _ (past : List Call) (s : State) (h : History) (I : Inv past s h) where
   simple-duty8 c r since o (Wait l) d = tt
   simple-duty8 c r since o (Delete e a) d = tt
   simple-duty8 c r since o (Abort e a b) d = tt
+  simple-duty8 c r since o (Grant t e k b) d = tt
 
   simple-duty12 :
       (c : Call) (r : Result) (since : ℕ → ℕ) (o : Outcome) (x : Sort) → Simple x → Duty12 past s h I c r since o x
@@ -311,10 +315,11 @@ module _ (past : List Call) (s : State) (h : History) (I : Inv past s h) where
             ∙ ap (λ (b : Bool). named b (s .runs) (h .now) (h .since)) (B .queues)
             ∙ ap (λ (k : Option ℕ). named true k (h .now) (h .since)) (B .runs)
 
-  -- Calls 1 to 10.
-  pub advance : (c : Call) → Simple (sortOf c) → Inv (past ++ (c ∷ [])) (step s c .state) (told c s (step s c) h)
-  advance c n =
-      advance-simple c n (step s c) (step-sound s c (I .sound)) (no-looks s c (simple-number c n))
-      (λ e p q. subst (λ (x : Call). TakesFirst s e (step s x)) (sym p)
-      (takes s (I .sound) e (ap (λ (x : Call). step s x .answer .code) (sym p) ∙ q)))
-      (turn s (I .sound) c n)
+  -- Calls 1 to 10, and 13.
+  pub advance :
+      (g : Grants) (c : Call) → Simple (sortOf c) → Inv (past ++ (c ∷ [])) (step g s c .state) (told c s (step g s c) h)
+  advance g c n =
+      advance-simple c n (step g s c) (step-sound g s c (I .sound)) (no-looks g s c (simple-number c n))
+      (λ e p q. subst (λ (x : Call). TakesFirst s e (step g s x)) (sym p)
+      (takes s (I .sound) e g (ap (λ (x : Call). step g s x .answer .code) (sym p) ∙ q)))
+      (turn g s (I .sound) c n)

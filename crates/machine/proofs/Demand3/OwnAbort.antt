@@ -13,10 +13,10 @@ use Rattle.machine.specs.State.{State, nothing, owns, noted, Abort, Stat
 use Rattle.machine.specs.Scheduling.{choose}
 use Rattle.machine.specs.Endpoints.{isSending, senders, pendingOf, ownerOf, withOwner, dropDebt, noteTo, note}
 use Rattle.machine.specs.Endpoints.{endAbort}
-use Rattle.machine.specs.Results.{Look, Result, counted}
+use Rattle.machine.specs.Results.{Look, Result, counted, isAccepted}
 use Rattle.machine.specs.Aborts.{Looked, pendingAt, lookUpTo, begin, ended, lookedOwn, workOwn}
 use Rattle.machine.specs.Sound.{Present}
-use Rattle.machine.specs.History.{Aborting, Ended, isAccepted, Reported, NamedLook, namedLooks}
+use Rattle.machine.specs.History.{Aborting, Ended, Reported, NamedLook, namedLooks}
 use Rattle.machine.specs.Walk.{Walk, Course, takesUp, hearsBy, begins, ends, passes, settles, settle, walk}
 use Rattle.machine.specs.Walk.{closes, close, reportOf, reportIf}
 use Rattle.machine.specs.Claim.{In}

@@ -5,6 +5,7 @@ use Rattle.machine.specs.Scheduling.{highestBelow, highest, dispatchHead
 use Rattle.machine.specs.Scheduling.{chooseFor, choose}
 use Rattle.machine.specs.Endpoints.{joinEndpoint, leaveEndpoint, wakeFrom, dropped, dropDebt, noteTo, note}
 use Rattle.machine.specs.Endpoints.{endAbort}
+use Rattle.machine.specs.Grants.{lacks, regranted, grantsAfter}
 use Rattle.machine.specs.Aborts.{oneMore, removeUpTo, deleted, deleteFrom, deleteAt, delete, hits, lookAt, look}
 use Rattle.machine.specs.Aborts.{afterLook, lookUpTo, begin, joinAs, join, ended, lookedOwn, workOwn, beginAfter}
 use Rattle.machine.specs.Aborts.{finished, lookedOther, workOther, underBadge, abortFrom, dropUnless, dropOther}
@@ -12,7 +13,8 @@ use Rattle.machine.specs.Aborts.{abortOpen, abortAt, abortUnless, abort}
 use Rattle.machine.specs.Machine.{createIf, createThread, leaveReady, leave, destroyIf, destroyThread, moveReady}
 use Rattle.machine.specs.Machine.{changeUnless, priorityIf, setPriority, createAt, createEndpoint, fire}
 use Rattle.machine.specs.Machine.{interrupt, leaveTicks, tickFor, tick, sendTo, sendUnless, sendAt, send}
-use Rattle.machine.specs.Machine.{receiveFrom, receiveAt, receive, yield, waitAt, wait, perform, performIf, step}
+use Rattle.machine.specs.Machine.{receiveFrom, receiveAt, receive, yield, waitAt, wait, grantAt}
+use Rattle.machine.specs.Machine.{grantIf, grant, perform, performUnless, performIf, step}
 use Rattle.machine.specs.History.{named}
 use Rattle.machine.specs.Walk.{leftOf, begins, ends, passes, settles, settle, takes, takeLook, walk, takesUp}
 use Rattle.machine.specs.Walk.{joinsIn, letsGo, hears, closes, close}
@@ -26,7 +28,8 @@ unfolding put without only enqueue enqueueFirst unqueue standDown standBack wake
     begin joinAs join ended lookedOwn workOwn beginAfter finished lookedOther workOther underBadge abortFrom
     dropUnless dropOther abortOpen abortAt abortUnless abort createIf createThread leaveReady leave destroyIf
     destroyThread moveReady changeUnless priorityIf setPriority createAt createEndpoint fire interrupt leaveTicks
-    tickFor tick sendTo sendUnless sendAt send receiveFrom receiveAt receive yield waitAt wait perform performIf step
-    named leftOf begins ends passes settles settle takes takeLook walk takesUp joinsIn letsGo hears closes close
-    deletes walks abortsBy abortsOf outcomeOf outcomeIf deliveredIf delivered abortCallsOf recorded told runFrom
+    tickFor tick sendTo sendUnless sendAt send receiveFrom receiveAt receive yield waitAt wait grantAt grantIf grant
+    perform performUnless performIf step lacks regranted grantsAfter named leftOf begins ends passes settles settle
+    takes takeLook walk takesUp joinsIn letsGo hears closes close deletes walks abortsBy abortsOf outcomeOf outcomeIf
+    deliveredIf delivered abortCallsOf recorded told runFrom
 computed = tt

@@ -8,15 +8,16 @@ use Rattle.machine.specs.declared.Answer.{Answer}
 use Rattle.machine.specs.declared.Call.{Call}
 use Rattle.machine.specs.declared.Call.the-variants.{CreateThread, DestroyThread, SetPriority, CreateEndpoint}
 use Rattle.machine.specs.declared.Call.the-variants.{Interrupt, Tick, Send, Receive, Yield, Wait, Delete, Abort}
+use Rattle.machine.specs.declared.Call.the-variants.{Grant}
 use Rattle.machine.specs.Calls.{numberOf}
 use Rattle.machine.specs.Lists.{pick, first}
 use Rattle.machine.specs.State.{State, Place, absent, able, sending, receiving, waiting, noted, Status, missing}
 use Rattle.machine.specs.State.{live, closing, Abort as Standing, Endpoint, setThread, withTicks, withDebt}
 use Rattle.machine.specs.State.{withPlace}
 use Rattle.machine.specs.Endpoints.{senders, underAbort, pendingOf, setAbort, leaveEndpoint, dropDebt}
-use Rattle.machine.specs.Results.{Look, Result, counted, refuse}
+use Rattle.machine.specs.Results.{Look, Result, counted, refuse, isAccepted}
+use Rattle.machine.specs.Grants.{Grants, barred}
 use Rattle.machine.specs.Aborts.{abort}
-use Rattle.machine.specs.History.{isAccepted}
 use Rattle.machine.specs.Machine.{receiveFrom, receiveAt, byCaller, step}
 
 -- Another result for a call 12, a call 8 or a call 2; the result given for the others.
@@ -33,6 +34,7 @@ instead12 f Yield r = r
 instead12 f (Wait l) r = r
 instead12 f (Delete e a) r = r
 instead12 f (Abort e a b) r = f e a b
+instead12 f (Grant t e k b) r = r
 
 abbrev instead8 : (ℕ → Result) → Call → Result → Result
 instead8 f (CreateThread t p) r = r
@@ -47,6 +49,7 @@ instead8 f Yield r = r
 instead8 f (Wait l) r = r
 instead8 f (Delete e a) r = r
 instead8 f (Abort e a b) r = r
+instead8 f (Grant t e k b) r = r
 
 abbrev instead2 : (ℕ → Result) → Call → Result → Result
 instead2 f (CreateThread t p) r = r
@@ -61,6 +64,11 @@ instead2 f Yield r = r
 instead2 f (Wait l) r = r
 instead2 f (Delete e a) r = r
 instead2 f (Abort e a b) r = r
+instead2 f (Grant t e k b) r = r
+
+-- 29 all the same.
+abbrev unlessBarred : Grants → Call → (State → Result) → State → Result
+unlessBarred g c f s = pick (barred (s .runs) g c) (refuse 29 s) (f s)
 
 -- The state or the answer of a result changed.
 abbrev withState : State → Result → Result
@@ -74,20 +82,20 @@ withPending l none = none
 withPending l (some a) = some (record { badge = a .badge; owner = a .owner; pending = l })
 
 -- It works in an abort's first call and afterwards only answers 0.
-unfoldable pub idler : State → Call → Result
-idler s c =
+unfoldable pub idler : Grants → State → Call → Result
+idler g s c =
     instead12
     (λ e a b.
     pick (underAbort b (s .endpoints e .abort)) (record { state = s; answer = counted 0 0; looks = [] })
-    (step s (Abort e a b)))
-    c (step s c)
+    (step g s (Abort e a b)))
+    c (step g s c)
 
 -- It removes whoever it looks at, as if all sent under the aborted badge.
-unfoldable pub remover : State → Call → Result
-remover s c =
+unfoldable pub remover : Grants → State → Call → Result
+remover g s c =
     instead12
     (λ e a b.
-    step
+    step g
     (record {
       threads = λ t. withPlace (s .threads t .place) (s .threads t .outcome) b (s .threads t .message) (s .threads t);
       runs = s .runs;
@@ -96,25 +104,25 @@ remover s c =
       lines = s .lines;
     })
     (Abort e a b))
-    c (step s c)
+    c (step g s c)
 
 -- Its count, where it accepts, is the allowance.
 abbrev copied : ℕ → Result → Result
 copied a r = withAnswer (pick (isAccepted (r .answer)) (counted (r .answer .code) a) (r .answer)) r
 
-unfoldable pub copier : State → Call → Result
-copier s c = instead12 (λ e a b. copied a (step s (Abort e a b))) c (step s c)
+unfoldable pub copier : Grants → State → Call → Result
+copier g s c = instead12 (λ e a b. copied a (step g s (Abort e a b))) c (step g s c)
 
 -- It answers 0 where it should answer 2: with work left.
 abbrev boasted : Result → Result
 boasted r = withAnswer (pick (eqb (r .answer .code) 2) (counted 0 (r .answer .count)) (r .answer)) r
 
-unfoldable pub boaster : State → Call → Result
-boaster s c = instead12 (λ e a b. boasted (step s (Abort e a b))) c (step s c)
+unfoldable pub boaster : Grants → State → Call → Result
+boaster g s c = instead12 (λ e a b. boasted (step g s (Abort e a b))) c (step g s c)
 
 -- It receives from an endpoint that is closing as from a live one.
-unfoldable pub taker : State → Call → Result
-taker s c = instead8 (λ e. byCaller (s .runs) (λ t. receiveAt live t e) s) c (step s c)
+unfoldable pub taker : Grants → State → Call → Result
+taker g s c = instead8 (λ e. unlessBarred g c (byCaller (s .runs) (λ t. receiveAt live t e)) s) c (step g s c)
 
 -- A destroyed thread stays the end mark, and an abort goes on from its cursor to wherever the mark then stands.
 abbrev from : ℕ → List ℕ → List ℕ
@@ -151,16 +159,22 @@ withMarks s r =
       lines = r .lines;
     }
 
-unfoldable pub marker : State → Call → Result
-marker s c =
+-- Its abort goes on to look at a destroyed thread.
+unfoldable pub ghost : Grants → State → Call → Result
+ghost g s c =
+    instead2 (λ t. withState (withMarks s (step g s (DestroyThread t) .state)) (step g s (DestroyThread t))) c
+    (step g s c)
+
+unfoldable pub marker : Grants → State → Call → Result
+marker g s c =
     instead12
     (λ e a b.
-    step
+    step g
     (setAbort e
     (withPending (span (pendingOf (s .endpoints e .abort)) (s .endpoints e .waiters)) (s .endpoints e .abort)) s)
     (Abort e a b))
     c
-    (instead2 (λ t. withState (withMarks s (step s (DestroyThread t) .state)) (step s (DestroyThread t))) c (step s c))
+    (ghost g s c)
 
 -- The cursor does not move from a kept waiter at which the call is broken off.
 abbrev again : List Look → List ℕ → List ℕ
@@ -176,8 +190,8 @@ unmoved e r =
     (withPending (again (r .looks) (pendingOf (r .state .endpoints e .abort))) (r .state .endpoints e .abort))
     (r .state)) r) r
 
-unfoldable pub repeater : State → Call → Result
-repeater s c = instead12 (λ e a b. unmoved e (step s (Abort e a b))) c (step s c)
+unfoldable pub repeater : Grants → State → Call → Result
+repeater g s c = instead12 (λ e a b. unmoved e (step g s (Abort e a b))) c (step g s c)
 
 -- Its call 12, refused because nobody runs, takes the first waiter from the queue, whatever its badge, and logs a look
 -- that removed it.
@@ -190,25 +204,26 @@ stolen e (w ∷ l) s =
       looks = record { waiter = w; removed = true } ∷ [];
     }
 
-abbrev stealing : Option ℕ → ℕ → ℕ → ℕ → State → Result
-stealing none e a b s = stolen e (s .endpoints e .waiters) s
-stealing (some t) e a b s = step s (Abort e a b)
+abbrev stealing : Option ℕ → ℕ → ℕ → ℕ → Grants → State → Result
+stealing none e a b g s = stolen e (s .endpoints e .waiters) s
+stealing (some t) e a b g s = step g s (Abort e a b)
 
-unfoldable pub thief : State → Call → Result
-thief s c = instead12 (λ e a b. stealing (s .runs) e a b s) c (step s c)
+unfoldable pub thief : Grants → State → Call → Result
+thief g s c = instead12 (λ e a b. stealing (s .runs) e a b g s) c (step g s c)
 
 -- Broken off, it gives the caller a note, and so answers 0 at the next call, with work left.
 abbrev noteFor : Option ℕ → ℕ → ℕ → State → State
 noteFor none e b s = s
 noteFor (some t) e b s = setThread t (withDebt (noted e b) (s .threads t)) s
 
-unfoldable pub noter : State → Call → Result
-noter s c =
+unfoldable pub noter : Grants → State → Call → Result
+noter g s c =
     instead12
     (λ e a b.
-    pick (eqb (step s (Abort e a b) .answer .code) 2)
-    (withState (noteFor (s .runs) e b (step s (Abort e a b) .state)) (step s (Abort e a b))) (step s (Abort e a b)))
-    c (step s c)
+    pick (eqb (step g s (Abort e a b) .answer .code) 2)
+    (withState (noteFor (s .runs) e b (step g s (Abort e a b) .state)) (step g s (Abort e a b)))
+    (step g s (Abort e a b)))
+    c (step g s c)
 
 -- A receive takes the sender who came last.
 abbrev reversed : List ℕ → List ℕ → List ℕ
@@ -219,8 +234,8 @@ abbrev receiveLast : ℕ → ℕ → State → Result
 receiveLast e t s =
     receiveFrom (first (reversed (senders (s .threads) (s .endpoints e .waiters)) [])) t e (dropDebt t s)
 
-unfoldable pub lifo : State → Call → Result
-lifo s c = instead8 (λ e. byCaller (s .runs) (receiveLast e) s) c (step s c)
+unfoldable pub lifo : Grants → State → Call → Result
+lifo g s c = instead8 (λ e. unlessBarred g c (byCaller (s .runs) (receiveLast e)) s) c (step g s c)
 
 -- Its senders stand in the queue as receivers: no abort finds them.
 abbrev hidden : Place → Place
@@ -243,13 +258,8 @@ hiding s =
       lines = s .lines;
     }
 
-unfoldable pub hider : State → Call → Result
-hider s c = withState (hiding (step s c .state)) (step s c)
-
--- Its abort goes on to look at a destroyed thread.
-unfoldable pub ghost : State → Call → Result
-ghost s c =
-    instead2 (λ t. withState (withMarks s (step s (DestroyThread t) .state)) (step s (DestroyThread t))) c (step s c)
+unfoldable pub hider : Grants → State → Call → Result
+hider g s c = withState (hiding (step g s c .state)) (step g s c)
 
 -- It tries 23 and 25 before the note.
 abbrev late : Status → ℕ → ℕ → ℕ → ℕ → State → Result
@@ -257,14 +267,15 @@ late missing e a b t s = refuse 23 s
 late closing e a b t s = refuse 25 s
 late live e a b t s = abort t e a b s
 
-unfoldable pub latecomer : State → Call → Result
-latecomer s c = instead12 (λ e a b. byCaller (s .runs) (late (s .endpoints e .status) e a b) s) c (step s c)
+unfoldable pub latecomer : Grants → State → Call → Result
+latecomer g s c =
+    instead12 (λ e a b. unlessBarred g c (byCaller (s .runs) (late (s .endpoints e .status) e a b)) s) c (step g s c)
 
 -- A yield gives its caller 5 ticks.
 abbrev refilled : Option ℕ → State → State
 refilled none s = s
 refilled (some t) s = setThread t (withTicks 5 (s .threads t)) s
 
-unfoldable pub refiller : State → Call → Result
-refiller s c =
-    pick (eqb (numberOf c) 9) (withState (refilled (s .runs) (step s c .state)) (step s c)) (step s c)
+unfoldable pub refiller : Grants → State → Call → Result
+refiller g s c =
+    pick (eqb (numberOf c) 9) (withState (refilled (s .runs) (step g s c .state)) (step g s c)) (step g s c)

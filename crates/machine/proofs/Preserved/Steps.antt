@@ -6,14 +6,19 @@ use mathlib.Core.Option.{Option, none, some}
 use Rattle.machine.specs.declared.Call.{Call}
 use Rattle.machine.specs.declared.Call.the-variants.{CreateThread, DestroyThread, SetPriority, CreateEndpoint}
 use Rattle.machine.specs.declared.Call.the-variants.{Interrupt, Tick, Send, Receive, Yield, Wait, Delete, Abort}
+use Rattle.machine.specs.declared.Call.the-variants.{Grant}
 use Rattle.machine.specs.Calls.{inRange}
-use Rattle.machine.specs.State.{State, freshState}
+use Rattle.machine.specs.State.{State, Status, missing, live, closing, freshState}
 use Rattle.machine.specs.Results.{Result}
-use Rattle.machine.specs.Machine.{byCaller, perform, performIf, step}
+use Rattle.machine.specs.Grants.{Grants, barred}
+use Rattle.machine.specs.Machine.{isAbsent, byCaller, grantAt, grantIf, grant, perform, performUnless}
+use Rattle.machine.specs.Machine.{performIf, step}
 use Rattle.machine.specs.Sound.{Sound}
 use Rattle.machine.proofs.Ranges.{bounds}
+use Rattle.machine.proofs.Preserved.Mid.{sound-mid}
 use Rattle.machine.proofs.Preserved.Ready.{none-some}
 use Rattle.machine.proofs.Preserved.Sites.{differ, not-at, not-awaited}
+use Rattle.machine.proofs.Preserved.Choosing.{choose-sound}
 use Rattle.machine.proofs.Preserved.Threads.{create-sound, destroy-sound, priority-sound, tick-sound}
 use Rattle.machine.proofs.Preserved.Threads.{yield-sound}
 use Rattle.machine.proofs.Preserved.Transfers.{endpoint-sound, send-sound, receive-sound}
@@ -31,6 +36,20 @@ by-caller f s S h = go (s .runs) refl
     go : (r : Option ℕ) → s .runs ≡ r → Sound (byCaller r f s .state)
     go none e = S
     go (some t) e = h t e
+
+-- Nothing has changed: whoever runs goes on.
+grant-sound : (s : State) (t e : ℕ) → Sound s → Sound (grant t e s .state)
+unfolding grant grantIf grantAt
+grant-sound s t e S = go (isAbsent (s .threads t .place))
+  where
+    at : (x : Status) → Sound (grantAt x s .state)
+    at missing = S
+    at live = choose-sound s (sound-mid S)
+    at closing = choose-sound s (sound-mid S)
+
+    go : (x : Bool) → Sound (grantIf x e s .state)
+    go true = S
+    go false = at (s .endpoints e .status)
 
 perform-sound : (s : State) (c : Call) → Sound s → inRange c ≡ true → Sound (perform c s .state)
 unfolding perform
@@ -51,6 +70,7 @@ perform-sound s (Delete e a) S h =
     by-caller _ s S (λ t r. delete-sound t e a s S r (bounds (Delete e a) h .0))
 perform-sound s (Abort e a b) S h =
     let k = bounds (Abort e a b) h in by-caller _ s S (λ t r. abort-sound t e a b s S r (k .0) (k .2))
+perform-sound s (Grant t e r b) S h = grant-sound s t e S
 
 -- Make tables fresh: no thread, endpoint or pending line.
 pub fresh-sound : Sound freshState
@@ -83,10 +103,14 @@ fresh-sound =
     }
 
 -- Every call, whatever its numbers, leaves sound tables sound.
-pub step-sound : (s : State) (c : Call) → Sound s → Sound (step s c .state)
-unfolding step performIf
-step-sound s c S = go (inRange c) refl
+pub step-sound : (g : Grants) (s : State) (c : Call) → Sound s → Sound (step g s c .state)
+unfolding step performIf performUnless
+step-sound g s c S = go (inRange c) refl
   where
-    go : (b : Bool) → inRange c ≡ b → Sound (performIf b c s .state)
-    go true h = perform-sound s c S h
+    unless : (x : Bool) → inRange c ≡ true → Sound (performUnless x c s .state)
+    unless true h = S
+    unless false h = perform-sound s c S h
+
+    go : (b : Bool) → inRange c ≡ b → Sound (performIf b g c s .state)
+    go true h = unless (barred (s .runs) g c) h
     go false h = S

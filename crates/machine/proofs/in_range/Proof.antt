@@ -51,6 +51,9 @@ enum-known-c-10 c = search needs
 is-allowance-requires-2 : tie.Need-is-allowance-requires-2
 is-allowance-requires-2 c κs = search needs
 
+enum-known-c-11 : tie.Need-enum-known-c-11
+enum-known-c-11 c = search needs
+
 -- where the halves of `endpoint <= 63 && badge < 0x1000_0000` meet, the flag is their conjunction
 joined3 :
     (c : tie.Joined3) →
@@ -72,6 +75,28 @@ joined6 c =
     (λ w. rw (le-leb _ _ (w .0 .taken)) (w .2 ∙ w .1 .ensures))
     (λ w. rw (lt-leb _ _ (w .0 .left)) (w .1 ∙ lt-leb _ _ (w .0 .left)))
     (c .if6 .came)
+
+-- the same for the first two tests of a grant, `thread <= 255 && endpoint <= 63`,
+joined8 :
+    (c : tie.Joined8) →
+    let grant = c .before .before .c11 .given .0 in
+    c .if8 .if9 ≡ leb (grant .0) 255 && leb (grant .1 .0) 63
+joined8 c =
+    ⊎-elim
+    (λ w. rw (le-leb _ _ (w .0 .taken)) (w .1))
+    (λ w. rw (lt-leb _ _ (w .0 .left)) (w .1 ∙ lt-leb _ _ (w .0 .left)))
+    (c .if8 .came)
+
+-- and of these with `rights <= 15`
+joined9 :
+    (c : tie.Joined9) →
+    let grant = c .before .before .before .c11 .given .0 in
+    c .if9 .if10 ≡ (leb (grant .0) 255 && leb (grant .1 .0) 63) && leb (grant .1 .1 .0) 15
+joined9 c =
+    ⊎-elim
+    (λ w. rw (← joined8 (c .before), w .0 .taken) (w .1))
+    (λ w. rw (← joined8 (c .before), w .0 .left) (w .1 ∙ w .0 .left))
+    (c .if9 .came)
 
 returns : tie.Need-returns
 returns c = rw (c .before .before .c .given .1, le-leb _ _ (c .if1 .taken))
@@ -135,6 +160,16 @@ returns-17 c =
     let at-c10 = c .before .before .before in
     rw (at-c10 .c10 .given .1, ← joined6 (c .before), c .if7 .left)
 
+returns-18 : tie.Need-returns-18
+returns-18 c =
+    let at-c11 = c .before .before .before .before in
+    rw (at-c11 .c11 .given .1, ← joined9 (c .before), c .if10 .taken)
+
+returns-19 : tie.Need-returns-19
+returns-19 c =
+    let at-c11 = c .before .before .before .before in
+    rw (at-c11 .c11 .given .1, ← joined9 (c .before), c .if10 .left)
+
 pub in-range-spec : {M : Type 1} → statement M
 in-range-spec =
     tie.close
@@ -153,6 +188,7 @@ in-range-spec =
     is-allowance-requires
     enum-known-c-10
     is-allowance-requires-2
+    enum-known-c-11
     returns
     returns-2
     returns-3
@@ -169,4 +205,6 @@ in-range-spec =
     returns-14
     returns-15
     returns-16
-    returns-17)
+    returns-17
+    returns-18
+    returns-19)

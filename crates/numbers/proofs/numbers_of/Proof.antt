@@ -40,6 +40,9 @@ enum-known-call-9 c = search needs
 enum-known-call-10 : tie.Need-enum-known-call-10
 enum-known-call-10 c = search needs
 
+enum-known-call-11 : tie.Need-enum-known-call-11
+enum-known-call-11 c = search needs
+
 returns : tie.Need-returns
 unfolding numbersOf
 returns c = rw (c .before .call .given .1)
@@ -88,6 +91,10 @@ returns-12 : tie.Need-returns-12
 unfolding numbersOf
 returns-12 c = rw (c .before .call10 .given .1)
 
+returns-13 : tie.Need-returns-13
+unfolding numbersOf
+returns-13 c = rw (c .before .call11 .given .1)
+
 pub numbers-of-spec : {M : Type 1} → statement M
 numbers-of-spec =
     tie.close
@@ -104,6 +111,7 @@ numbers-of-spec =
     enum-known-call-8
     enum-known-call-9
     enum-known-call-10
+    enum-known-call-11
     returns
     returns-2
     returns-3
@@ -115,4 +123,5 @@ numbers-of-spec =
     returns-9
     returns-10
     returns-11
-    returns-12)
+    returns-12
+    returns-13)

@@ -1,5 +1,5 @@
-//! fuzz SEED CALLS: runs steered random calls, checks the tables after each,
-//! and prints how often each call, code and situation came up.
+//! fuzz SEED CALLS: runs steered random calls, checks tables and grants after
+//! each, and prints how often each call, code and situation came up.
 
 use second::{read, write, Answer, Bond, Call, Machine, Read, Rng, Steer, Step, Tally};
 
@@ -19,7 +19,10 @@ fn main() {
             std::process::exit(1);
         }
     }
-    println!("seed {seed}, {calls} calls in {} lists, tables sound after each", tally.lists());
+    println!(
+        "seed {seed}, {calls} calls in {} lists, tables and grants sound after each",
+        tally.lists()
+    );
     print!("{tally}");
 }
 
@@ -43,7 +46,10 @@ fn check(before: &Machine, call: &Call, answer: &Answer, after: &Machine) -> Res
     if !answer.accepted() && before != after {
         return Err(String::from("a refusal changed the tables"));
     }
-    let counted = call.number() >= 11;
+    if before.grants() != after.grants() && !matches!(call.number(), 1 | 4 | 13) {
+        return Err(String::from("grants changed by a call that leaves them"));
+    }
+    let counted = matches!(call.number(), 11 | 12);
     if !counted && answer.count != 0 {
         return Err(String::from("count of a call that has none"));
     }

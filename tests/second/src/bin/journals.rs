@@ -2,7 +2,7 @@
 //! listing, NAME.txt, and the telling, NAME.told. What each is for stands in
 //! the folder's README.
 
-use second::{listing, telling, write, Machine, Steer};
+use second::{listing, telling, write, Machine, Steer, ABORT, DELETE, RECEIVE, SEND};
 use std::{env, fs, io, path::Path};
 
 /// A call's words; its numbers may be out of range.
@@ -60,9 +60,18 @@ fn abort(endpoint: u32, allowance: u32, badge: u32) -> Words {
     [one(12, endpoint, allowance), vec![0x2000_0000 + badge]].concat()
 }
 
+fn grant(thread: u32, endpoint: u32, rights: u32, badge: u32) -> Words {
+    [one(13, thread, rights << 8 | endpoint), vec![0x2000_0000 + badge]].concat()
+}
+
+/// A new thread with rights at an endpoint.
+fn holder(thread: u32, priority: u32, endpoint: u32, rights: u32, badge: u32) -> Words {
+    [create(thread, priority), grant(thread, endpoint, rights, badge)].concat()
+}
+
 /// A new thread at level 10 that sends and is left queued.
 fn sender(thread: u32, endpoint: u32, badge: u32) -> Words {
-    [create(thread, 10), send(endpoint, badge, 100 + thread)].concat()
+    [holder(thread, 10, endpoint, SEND, badge), send(endpoint, badge, 100 + thread)].concat()
 }
 
 /// A new endpoint with senders 2, 3 and so on of these badges queued.
@@ -74,6 +83,8 @@ fn queued(at: u32, badges: &[u32]) -> Words {
 /// The largest badge, message and allowance.
 const TOP: u32 = (1 << 28) - 1;
 const ALL: u32 = 65_535;
+/// All four rights.
+const ANY: u32 = SEND | RECEIVE | DELETE | ABORT;
 
 fn example() -> Words {
     [
@@ -81,6 +92,9 @@ fn example() -> Words {
         create(2, 10),
         create(3, 20),
         endpoint(0),
+        grant(1, 0, SEND, 8),
+        grant(2, 0, ABORT, 0),
+        grant(3, 0, SEND | RECEIVE | ABORT, 7),
         send(0, 7, 100),
         send(0, 8, 200),
         abort(0, 1, 7),
@@ -97,15 +111,16 @@ fn incident() -> Words {
     [
         create(2, 5),
         endpoint(0),
+        grant(2, 0, SEND, 7),
         send(0, 7, 100),
-        create(3, 5),
+        holder(3, 5, 0, SEND, 8),
         send(0, 8, 200),
-        create(4, 5),
+        holder(4, 5, 0, SEND, 7),
         send(0, 7, 101),
-        create(1, 10),
+        holder(1, 10, 0, RECEIVE | ABORT, 0),
         abort(0, 1, 7),
         destroy(3),
-        create(5, 11),
+        holder(5, 11, 0, SEND, 7),
         send(0, 7, 300),
         wait(0),
         abort(0, 5, 7),
@@ -120,10 +135,15 @@ fn endpoints() -> Words {
     [
         create(1, 10),
         create(2, 5),
+        endpoint(62),
+        grant(1, 62, SEND | DELETE, 1),
+        delete(62, 1),
         endpoint(63),
+        grant(1, 63, RECEIVE | DELETE, 0),
+        grant(2, 63, SEND, 1),
         receive(63),
         send(63, 1, 2),
-        send(62, 1, 2),
+        send(62, 1, 2), // gone: its right is left
         delete(63, 1),
         receive(63),
         endpoint(64),
@@ -197,10 +217,12 @@ fn displaced() -> Words {
         priority(1, 6), // ready, so to its new tail
         priority(1, 5), // and behind 3 and 4
         endpoint(0),
+        grant(8, 0, SEND, 7),
         send(0, 7, 1), // 8 blocks, 3 runs
-        create(6, 20),
+        holder(6, 20, 0, SEND, 7),
         send(0, 7, 2),
         priority(6, 5), // blocked at level 5
+        grant(3, 0, DELETE, 0),
         delete(0, ALL), // 3 wakes 8, which displaces it, and 6, which joins the tail behind 4 and 1
         wait(2),        // 3 runs
         yields(),
@@ -214,10 +236,10 @@ fn displaced() -> Words {
 fn allowances() -> Words {
     [
         queued(0, &[7, 7, 8, 7, 7]),
-        create(1, 20),
+        holder(1, 20, 0, ABORT | DELETE, 0),
         abort(0, 1, 7), // removes 2, broken off
         abort(0, 1, 7), // removes 3
-        create(9, 21),
+        holder(9, 21, 0, ABORT, 0),
         abort(0, 1, 7),   // 9 joins, keeps 4
         abort(0, ALL, 7), // 9 finishes, so 1 gets a note
         destroy(9),
@@ -234,17 +256,18 @@ fn allowances() -> Words {
 fn badges() -> Words {
     [
         queued(0, &[0, TOP, 0]),
-        create(1, 20),
+        holder(1, 20, 0, RECEIVE | ABORT, 0),
         abort(0, 1, 0), // removes 2, broken off
-        create(5, 30),
+        holder(5, 30, 0, SEND | ABORT, 0),
         abort(0, 2, TOP), // finishes that of badge 0, its own not yet begun
         send(0, 0, 1),    // 5 blocks: badge 0 is free again
         abort(0, 1, 0),   // 1 has a note
         abort(0, 1, 8),   // keeps 3, broken off
-        create(6, 40),
+        holder(6, 40, 0, RECEIVE | ABORT, 0),
         abort(0, 3, TOP), // keeps 5 for badge 8; for its own, removes 3 and keeps 5
         receive(0),       // 5's message
         receive(0),       // 6 blocks
+        grant(5, 0, SEND, TOP),
         send(0, TOP, TOP),
         wait(0),
         send(0, TOP, TOP), // 5 blocks
@@ -285,29 +308,23 @@ fn destroyed() -> Words {
         sender(3, 0, 7),
         sender(4, 0, 7),
         sender(5, 0, 7),
-        create(1, 20),
+        holder(1, 20, 0, SEND | ABORT, 7),
         abort(0, 1, 7), // removes 2; cursor at 3, end mark at 5
         destroy(3),     // the cursor passes to 4
         destroy(5),     // so does the end mark
-        create(5, 30),
+        holder(5, 30, 0, SEND, 8),
         send(0, 8, 205), // 5 is queued again, behind the end mark
         send(0, 7, 1),   // refused: the abort stands
         destroy(1),      // the owner
-        abort(0, 1, 7),  // 2 joins: removes 4, and nothing is left
-        abort(0, 1, 8),  // removes 5
+        grant(2, 0, ABORT, 0),
+        abort(0, 1, 7), // 2 joins: removes 4, and nothing is left
+        abort(0, 1, 8), // removes 5
         wait(2),
-        send(1, 9, 1),
-        send(1, 9, 2),
-        create(6, 10),
-        abort(1, 1, 9), // removes 4; cursor and end mark at 2
-        destroy(2),     // nothing is left
-        send(1, 9, 3),  // refused all the same
-        abort(1, 1, 9), // ends it
-        send(1, 9, 4),
+        destroyed_at_both(),
         destroy(5), // the waiter on line 2
         interrupt(2),
         wait(2), // so it was pending
-        destroy(4),
+        destroy(2),
         destroy(6),
         destroy(6),
         endpoint(1),
@@ -315,12 +332,29 @@ fn destroyed() -> Words {
     .concat()
 }
 
+/// Threads 2 and 4 queue at endpoint 1; 2 is left to run.
+fn destroyed_at_both() -> Words {
+    [
+        grant(2, 1, SEND, 9),
+        grant(4, 1, SEND, 9),
+        send(1, 9, 1),
+        send(1, 9, 2),
+        holder(6, 10, 1, SEND | ABORT, 9),
+        abort(1, 1, 9), // removes 2; cursor and end mark at 4
+        destroy(4),     // nothing is left
+        send(1, 9, 3),  // refused all the same
+        abort(1, 1, 9), // ends it
+        send(1, 9, 4),
+    ]
+    .concat()
+}
+
 fn deletes() -> Words {
     [
         queued(0, &[7, 7, 8, 7]),
-        create(1, 20),
+        holder(1, 20, 0, DELETE | ABORT, 0),
         abort(0, 1, 7), // removes 2
-        create(6, 30),
+        holder(6, 30, 0, ANY, 8),
         delete(0, 1), // ends the abort, removes 3, broken off: 1 gets a note
         send(0, 8, 1),
         receive(0),
@@ -332,15 +366,11 @@ fn deletes() -> Words {
         delete(0, 1),   // 1 goes on: removes 4
         delete(0, ALL), // removes 5
         delete(0, 1),
-        endpoint(0),
-        receive(0), // 1 blocks
-        receive(0),
-        interrupt(0),
-        delete(0, 1), // 6 removes the receiver 1
-        destroy(1),
-        destroy(6),
-        delete(0, ALL), // 4 goes on: removes the receiver 2
+        deletes_receivers(),
         endpoint(3),
+        grant(3, 3, SEND, 1),
+        grant(4, 3, SEND, 1),
+        grant(5, 3, DELETE, 0),
         send(3, 1, 1),
         send(3, 1, 2),
         create(7, 10),
@@ -348,8 +378,28 @@ fn deletes() -> Words {
         destroy(4),
         destroy(5),
         endpoint(3), // closing and empty
+        grant(2, 3, DELETE, 0),
         delete(3, 1),
         endpoint(3),
+    ]
+    .concat()
+}
+
+/// Endpoint 0 is made anew: threads 1 and 2 receive there.
+fn deletes_receivers() -> Words {
+    [
+        endpoint(0),
+        grant(1, 0, RECEIVE, 0),
+        grant(2, 0, RECEIVE, 0),
+        grant(3, 0, DELETE, 0),
+        grant(6, 0, DELETE, 0),
+        receive(0), // 1 blocks
+        receive(0),
+        interrupt(0),
+        delete(0, 1), // 6 removes the receiver 1
+        destroy(1),
+        destroy(6),
+        delete(0, ALL), // 3 goes on: removes the receiver 2
     ]
     .concat()
 }
@@ -362,31 +412,157 @@ fn refusals() -> Words {
         wait(0),
         delete(0, 1),
         abort(0, 1, 0),
-        destroy(1), // 21
+        destroy(1), // 21, and so the next two
         priority(1, 1),
+        grant(1, 0, ANY, 0),
         create(1, 10),
-        create(1, 11), // 22
-        send(0, 0, 0), // 23, and so the next three
-        receive(0),
-        delete(0, 1),
-        abort(0, 1, 0),
+        create(1, 11),       // 22
+        grant(1, 0, ANY, 0), // 23
+        refused_at_nothing(),
         endpoint(0),
         endpoint(0), // 24
         create(2, 10),
         create(3, 10),
         create(4, 10),
+        send(0, 0, 0), // 29: nobody has a right at the new endpoint
+        grant(1, 0, ANY, 7),
+        grant(2, 0, SEND, 7),
+        grant(3, 0, SEND | ABORT, 7),
         send(0, 7, 1),
         send(0, 7, 2),
         abort(0, 1, 7),
         send(0, 7, 3), // 26
+        send(0, 8, 3), // 29: not the badge of 3
+        grant(3, 0, SEND, 8),
         send(0, 8, 3),
         wait(1),
         wait(1), // 27
+        refused_at_closing(),
+    ]
+    .concat()
+}
+
+/// Endpoint 0 is absent, before it is made and when it is gone.
+fn refused_at_nothing() -> Words {
+    [
+        send(0, 0, 0), // 29, and so the next three
+        receive(0),
         delete(0, 1),
+        abort(0, 1, 0),
+        endpoint(0),
+        grant(1, 0, ANY, 0),
+        delete(0, 1),
+        send(0, 0, 0), // 23, and so the next three
+        receive(0),
+        delete(0, 1),
+        abort(0, 1, 0),
+    ]
+    .concat()
+}
+
+fn refused_at_closing() -> Words {
+    [
+        delete(0, 1),
+        send(0, 8, 3), // 29: not the badge of 1
         send(0, 7, 3), // 25, and so the next two
         receive(0),
         abort(0, 1, 7),
         endpoint(0), // 24
+    ]
+    .concat()
+}
+
+fn grants() -> Words {
+    let stray = vec![0x1D01_0140, 0x2000_0007]; // bit 6 is neither endpoint nor rights
+    [granted(), granted_again(), granted_anew(), granted_closing(), stray].concat()
+}
+
+/// Rights are given and missing; 1 sends, 2 receives.
+fn granted() -> Words {
+    [
+        endpoint(0),
+        grant(1, 0, SEND, 7), // no such thread
+        create(1, 10),
+        grant(1, 1, SEND, 7), // no such endpoint
+        send(0, 7, 1),        // refused: nothing is granted
+        send(1, 7, 1),        // so it is where there is no endpoint
+        wait(0),
+        grant(1, 0, SEND, 7), // nobody runs
+        interrupt(0),
+        send(0, 8, 1), // another badge
+        receive(0),    // other rights
+        delete(0, 1),
+        abort(0, 1, 7),
+        holder(2, 20, 0, RECEIVE, 0),
+        receive(0),        // 2 blocks
+        grant(2, 0, 0, 9), // no right any more, whatever the badge
+        send(0, 7, 5),     // handed over to 2 all the same
+        receive(0),
+    ]
+    .concat()
+}
+
+/// The right of 2 is taken away while its abort is broken off, and given back
+/// when it has a note.
+fn granted_again() -> Words {
+    [
+        grant(2, 0, ABORT, 0),
+        holder(3, 30, 0, SEND, 7),
+        send(0, 7, 103),
+        holder(4, 30, 0, SEND, 7),
+        send(0, 7, 104),
+        abort(0, 1, 7), // removes 3, which runs; broken off
+        grant(2, 0, 0, 0),
+        grant(3, 0, ABORT, 0),
+        abort(0, 1, 7), // 3 removes 4: 2 has a note
+        destroy(3),
+        send(0, 7, 204), // 4 is queued again
+        abort(0, 1, 7),  // 2 is refused, and keeps its note
+        grant(2, 0, ABORT, 0),
+        abort(0, 1, 7), // from the note
+        abort(0, 1, 7), // a new one: removes 4
+    ]
+    .concat()
+}
+
+/// Thread 4 is created anew, then endpoint 0.
+fn granted_anew() -> Words {
+    [
+        destroy(4),
+        create(4, 30),
+        send(0, 7, 1), // refused: its grants are gone
+        grant(4, 0, DELETE, 0),
+        delete(0, 1),
+        endpoint(0),
+        delete(0, 1), // refused: so are those at the endpoint
+        wait(1),
+        abort(0, 1, 7), // also the one of 2
+    ]
+    .concat()
+}
+
+/// Thread 2 has 5 and 6 queued at endpoint 0 and deletes it.
+fn granted_closing() -> Words {
+    [
+        grant(2, 0, DELETE, 0),
+        holder(5, 30, 0, SEND, 5),
+        send(0, 5, 105),
+        holder(6, 30, 0, SEND, 6),
+        send(0, 6, 106),
+        delete(0, 1),  // removes 5, which runs; broken off
+        send(0, 5, 1), // refused: the endpoint is closing
+        send(0, 6, 1), // refused before that: another badge
+        grant(2, 0, 0, 0),
+        grant(5, 0, DELETE, 0),
+        priority(5, 5), // 2 runs
+        delete(0, 1),   // refused: its right is gone
+        destroy(2),
+        destroy(1),
+        delete(0, 1), // 5 goes on: removes 6
+        destroy(6),
+        delete(0, 1),           // no such endpoint
+        receive(0),             // refused before that
+        grant(5, 0, DELETE, 0), // no such endpoint
     ]
     .concat()
 }
@@ -424,13 +600,14 @@ fn journals() -> Vec<(&'static str, Words, &'static [u8])> {
         ("destroyed", destroyed(), &[]),
         ("deletes", deletes(), &[]),
         ("refusals", refusals(), &[]),
+        ("grants", grants(), &[]),
         ("empty", vec![], &[]),
         ("one", vec![], &[0x11]),
         ("two", vec![], &[0, 0]),
         ("three", vec![], &[0x0A, 0, 1]),
         ("odd", example(), &[0x0A, 0, 1]),
-        ("cut", cut(example(), 20), &[]),
-        ("cut_word", cut(example(), 20), &[7, 0, 0]),
+        ("cut", cut(example(), 26), &[]),
+        ("cut_word", cut(example(), 26), &[7, 0, 0]),
         ("wrong", [create(1, 10), vec![0x2000_0007], create(2, 20)].concat(), &[]),
         ("range", [create(1, 10), endpoint(0), delete(0, 0), create(2, 20)].concat(), &[1]),
         ("long", long(), &[]),

@@ -1,4 +1,4 @@
-//! Reads cases from standard input, a line each: the five numbers of a call and
+//! Reads cases from standard input, a line each: the six numbers of a call and
 //! the four of an answer, a tab and their sentence. Says how many sentences are
 //! worded otherwise here.
 
@@ -24,15 +24,17 @@ fn main() -> io::Result<ExitCode> {
     Ok(if passed { ExitCode::SUCCESS } else { ExitCode::FAILURE })
 }
 
-/// The sentence of nine numbers, without its newline.
+/// The sentence of ten numbers, without its newline.
 fn worded(numbers: &str) -> Option<String> {
     let numbers: Vec<u32> = numbers.split(' ').map(|n| n.parse().ok()).collect::<Option<_>>()?;
-    let &[number, subject, argument, badge, message, code, count, told_badge, told_message] =
-        numbers.as_slice()
+    let &[number, subject, argument, badge, message, rights, ref answer @ ..] = numbers.as_slice()
     else {
         return None;
     };
-    let call = call_of(number, subject, argument, badge, message)?;
-    let answer = Answer { code, count, badge: told_badge, message: told_message };
+    let call = call_of(number, subject, argument, badge, message, rights)?;
+    let &[code, count, badge, message] = answer else {
+        return None;
+    };
+    let answer = Answer { code, count, badge, message };
     Some(String::from(sentence(&call, &answer).trim_end_matches('\n')))
 }

@@ -125,6 +125,15 @@ say-requires-13 c κs =
     let at-match = c .before .before in
     room-is (ap cause (at-match .match .keys13)) (at-match .before .before .pre)
 
+slice-aggregate-say-14 : tie.Need-slice-aggregate-say-14
+slice-aggregate-say-14 c = search needs
+
+say-requires-14 : tie.Need-say-requires-14
+unfolding bytes cause
+say-requires-14 c κs =
+    let at-match = c .before .before in
+    room-is (ap cause (at-match .match .keys14)) (at-match .before .before .pre)
+
 same-length : tie.Need-same-length
 same-length c = search needs
 
@@ -255,8 +264,18 @@ returns-13 c =
     let at-match = at-say13 .before .before .before in
     wrote-is (sym (ap cause (at-match .match .keys13))) (at-say13 .say13 .ensures)
 
+same-length-14 : tie.Need-same-length-14
+same-length-14 c = search needs
+
 returns-14 : tie.Need-returns-14
+unfolding bytes cause
 returns-14 c =
+    let at-say14 = c .before .before in
+    let at-match = at-say14 .before .before .before in
+    wrote-is (sym (ap cause (at-match .match .keys14))) (at-say14 .say14 .ensures)
+
+returns-15 : tie.Need-returns-15
+returns-15 c =
     wrote-is (sym (uncaused _ (c .match .rest))) (wrote-nothing _ _)
 
 pub cause-spec : {M : Type 1} → statement M
@@ -289,6 +308,8 @@ cause-spec =
     say-requires-12
     slice-aggregate-say-13
     say-requires-13
+    slice-aggregate-say-14
+    say-requires-14
     same-length
     returns
     same-length-2
@@ -315,4 +336,6 @@ cause-spec =
     returns-12
     same-length-13
     returns-13
-    returns-14)
+    same-length-14
+    returns-14
+    returns-15)

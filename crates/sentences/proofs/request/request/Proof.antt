@@ -166,6 +166,16 @@ abort-requires c κs =
     let at-start = at-call10 .before .before .before in
     room-is (ap request (at-call10 .call10 .given .1)) (at-start .pre)
 
+enum-known-call-11 : tie.Need-enum-known-call-11
+enum-known-call-11 c = search needs
+
+grant-requires : tie.Need-grant-requires
+unfolding bytes request
+grant-requires c κs =
+    let at-call11 = c .before .before in
+    let at-start = at-call11 .before .before .before in
+    room-is (ap request (at-call11 .call11 .given .1)) (at-start .pre)
+
 same-length : tie.Need-same-length
 same-length c = search needs
 
@@ -286,6 +296,16 @@ returns-12 c =
     let at-call10 = at-abort .before .before .before in
     wrote-is (sym (ap request (at-call10 .call10 .given .1))) (at-abort .abort .ensures)
 
+same-length-13 : tie.Need-same-length-13
+same-length-13 c = search needs
+
+returns-13 : tie.Need-returns-13
+unfolding bytes request
+returns-13 c =
+    let at-grant = c .before .before in
+    let at-call11 = at-grant .before .before .before in
+    wrote-is (sym (ap request (at-call11 .call11 .given .1))) (at-grant .grant .ensures)
+
 pub request-spec : {M : Type 1} → statement M
 request-spec =
     tie.close
@@ -327,6 +347,8 @@ request-spec =
     two-requires-3
     enum-known-call-10
     abort-requires
+    enum-known-call-11
+    grant-requires
     same-length
     returns
     same-length-2
@@ -350,4 +372,6 @@ request-spec =
     same-length-11
     returns-11
     same-length-12
-    returns-12)
+    returns-12
+    same-length-13
+    returns-13)

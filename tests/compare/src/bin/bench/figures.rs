@@ -60,6 +60,20 @@ impl Figures {
         Some(counts[work as usize] - counts[Work::Nothing as usize])
     }
 
+    /// Of the check's figures, by this measure, the part of the grants. The check
+    /// stops after the memory that it finds unsound, so that the other is left
+    /// out where it comes later.
+    pub fn grants_part(&self, measure: impl Fn(Work) -> Option<f64>) -> Option<f64> {
+        let [check, tables, grants] =
+            [Work::Check, Work::TablesRefused, Work::GrantsRefused].map(measure);
+        let after_tables = check? - tables?;
+        if after_tables > check? / 8.0 {
+            Some(after_tables)
+        } else {
+            grants
+        }
+    }
+
     /// Instructions of a step.
     pub fn step_count(&self, step: Step) -> Option<f64> {
         match step {

@@ -1,6 +1,6 @@
 //! bench [--plot FILE]: what the core's calls cost, beside the second machine's
-//! and beside a plain pass over the tables, as tables in Markdown; the file gets
-//! a picture of what grows with the senders that wait.
+//! and beside a plain pass over what is lent, as tables in Markdown; the file
+//! gets a picture of what grows with the senders that wait.
 
 mod figures;
 mod markdown;

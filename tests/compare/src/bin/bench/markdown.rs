@@ -3,6 +3,7 @@
 use crate::figures::{Figures, Step};
 use crate::measure::Work;
 use crate::scenes::{ALL, AT_QUEUE, CALLS, FILLS, SENDERS};
+use core_c::GRANTS;
 use std::iter::once;
 
 /// The number of the call with the most instructions.
@@ -84,7 +85,7 @@ impl Report<'_> {
         text
     }
 
-    /// The check, and the dearest call, beside passes over the tables.
+    /// The check, and the dearest call, beside passes over what is lent.
     fn passes(&self, unit: Unit) -> String {
         let mut text = head(&[
             "Tables",
@@ -112,12 +113,36 @@ impl Report<'_> {
         text
     }
 
+    /// What the grants take of the check, beside the sum of their words.
+    fn grants(&self, unit: Unit) -> String {
+        let mut text =
+            head(&["Tables", "check", "the grants' part", "a word", "sum", "part : sum"]);
+        for (fill, (name, _)) in FILLS.iter().enumerate() {
+            let figures = self.call(fill, ABORT);
+            let own = |work| (unit.work)(figures, work);
+            let part = figures.grants_part(own);
+            let sum = own(Work::GrantsSum);
+            let cells = [
+                whole(own(Work::Check)),
+                whole(part),
+                ratio(part, Some(GRANTS as f64)),
+                whole(sum),
+                ratio(part, sum),
+            ];
+            text += &row(once(String::from(*name)).chain(cells));
+        }
+        text
+    }
+
     /// Instructions of reading the calls from their words, and words that begin
     /// none: too few for the clock.
     fn readings(&self) -> String {
         let mut text = head(&["Call", "core", "second machine", "core : second"]);
         for (number, name) in (1..).zip(CALLS) {
-            let name = if number == CALLS.len() { "no call, refused by 18" } else { name };
+            let name = match number {
+                _ if number == CALLS.len() => "no call, refused by 18",
+                _ => name.split(',').next().unwrap_or(name),
+            };
             let works = [Work::Read, Work::SecondRead];
             let [core, second] = works.map(|work| self.call(0, number).count(work));
             let cells = [whole(core), whole(second), ratio(core, second)];
@@ -153,6 +178,10 @@ impl Report<'_> {
         for &unit in units {
             text += &format!("\n## The check and plain passes, {}\n\n", unit.name);
             text += &self.passes(unit);
+        }
+        for &unit in units {
+            text += &format!("\n## The grants in the check, {}\n\n", unit.name);
+            text += &self.grants(unit);
         }
         for (fill, (name, _)) in FILLS.iter().enumerate() {
             for &unit in units {

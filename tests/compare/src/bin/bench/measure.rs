@@ -2,7 +2,7 @@
 
 use crate::scenes::Scene;
 use comparison::numbers;
-use core_c::{Core, Numbers, Read};
+use core_c::{Core, Numbers, Read, GRANTS, TABLES};
 use second::Machine;
 use std::hint::black_box;
 use std::time::Instant;
@@ -12,12 +12,18 @@ use std::time::Instant;
 pub enum Work {
     /// Only what measuring costs by itself.
     Nothing,
-    /// Every word of the tables compared with a constant, in turn.
+    /// Every word of tables and grants compared with a constant, in turn.
     Pass,
-    /// The sum of all words, several at a time if the compiler sees to it.
+    /// The sum of all these words, several at a time if the compiler sees to it.
     Sum,
+    /// The sum of the grants' words alone.
+    GrantsSum,
     Fresh,
     Check,
+    /// The check where the last word of the tables makes them unsound.
+    TablesRefused,
+    /// The check where the last word of the grants makes them unsound.
+    GrantsRefused,
     /// The core's call, the check in it.
     Call,
     /// The second machine's check.
@@ -32,12 +38,15 @@ pub enum Work {
     SecondRead,
 }
 
-pub const WORKS: [Work; 11] = [
+pub const WORKS: [Work; 14] = [
     Work::Nothing,
     Work::Pass,
     Work::Sum,
+    Work::GrantsSum,
     Work::Fresh,
     Work::Check,
+    Work::TablesRefused,
+    Work::GrantsRefused,
     Work::Call,
     Work::SecondCheck,
     Work::SecondCall,
@@ -46,7 +55,7 @@ pub const WORKS: [Work; 11] = [
     Work::SecondRead,
 ];
 
-/// Both sides, with the tables of a scene.
+/// Both sides, with the tables and grants of a scene.
 pub struct Bench {
     core: Core,
     machine: Machine,
@@ -60,20 +69,32 @@ impl Default for Bench {
 }
 
 impl Bench {
-    fn load(&mut self, scene: &Scene) {
-        self.core.tables.copy_from_slice(&scene.words);
-        self.machine.copy_tables(&scene.machine);
+    /// What the work begins with; the side that it does not need stays, and with
+    /// it more of the cache.
+    fn load(&mut self, scene: &Scene, work: Work) {
         self.numbers = numbers(&scene.call);
+        if let Work::SecondCheck | Work::SecondCall | Work::SecondStep = work {
+            self.machine.copy_tables(&scene.machine);
+            return;
+        }
+        self.core.grants.copy_from_slice(scene.machine.grants());
+        self.core.tables.copy_from_slice(&scene.words);
+        match work {
+            Work::TablesRefused => self.core.tables[TABLES - 1] = 1,
+            Work::GrantsRefused => self.core.grants[GRANTS - 1] = 1,
+            _ => (),
+        }
     }
 
     fn run(&mut self, scene: &Scene, work: Work) {
-        let tables = &self.core.tables;
+        let (tables, grants) = (&self.core.tables, &self.core.grants);
         match work {
             Work::Nothing => (),
-            Work::Pass => seen(tables.iter().all(|&word| word != u32::MAX)),
-            Work::Sum => seen(tables.iter().fold(0, |sum: u32, &word| sum.wrapping_add(word))),
+            Work::Pass => seen([tables, grants].into_iter().all(|words| passes(words))),
+            Work::Sum => seen([tables, grants].map(|words| sum(words))),
+            Work::GrantsSum => seen(sum(grants)),
             Work::Fresh => seen(self.core.fresh()),
-            Work::Check => seen(self.core.check()),
+            Work::Check | Work::TablesRefused | Work::GrantsRefused => seen(self.core.check()),
             Work::Call => seen(self.core.call(black_box(&self.numbers))),
             Work::SecondCheck => seen(self.machine.sound()),
             Work::SecondCall => {
@@ -89,7 +110,12 @@ impl Bench {
     /// Both sides answer the scene's call, and as the scene wants it; the core
     /// reads it.
     pub fn agree(&mut self, scene: &Scene) {
-        self.load(scene);
+        for work in [Work::TablesRefused, Work::GrantsRefused] {
+            self.load(scene, work);
+            assert_eq!(self.core.check(), 17, "{work:?}");
+        }
+        self.load(scene, Work::Call);
+        self.load(scene, Work::SecondCall);
         let (core, second) = (self.core.call(&self.numbers), self.machine.call(&scene.call));
         assert_eq!((core.code, core.count), (second.code, second.count), "{:?}", scene.call);
         assert_eq!(second.accepted(), scene.call.in_range(), "{:?}: {second:?}", scene.call);
@@ -100,7 +126,7 @@ impl Bench {
     /// The time of the work, in nanoseconds: the least of many runs.
     pub fn time(&mut self, scene: &Scene, work: Work, runs: u32) -> f64 {
         let run = |_| {
-            self.load(scene);
+            self.load(scene, work);
             self.once(scene, work)
         };
         (0..runs).map(run).fold(f64::MAX, f64::min)
@@ -110,7 +136,7 @@ impl Bench {
     /// each after a check that is not timed.
     pub fn steps(&mut self, scene: &Scene, check: Work, call: Work, runs: u32) -> Vec<f64> {
         let run = |_| {
-            self.load(scene);
+            self.load(scene, check);
             self.run(scene, check);
             let checked = self.once(scene, check);
             self.once(scene, call) - checked
@@ -126,11 +152,20 @@ impl Bench {
 
     /// Does the work where callgrind counts it, once it has been done before.
     pub fn count(&mut self, scene: &Scene, work: Work) {
-        self.load(scene);
+        self.load(scene, work);
         self.run(scene, work);
-        self.load(scene);
+        self.load(scene, work);
         measured(self, scene, work);
     }
+}
+
+/// The pass stops at a word that no scene has.
+fn passes(words: &[u32]) -> bool {
+    words.iter().all(|&word| word != u32::MAX)
+}
+
+fn sum(words: &[u32]) -> u32 {
+    words.iter().fold(0, |sum, &word| sum.wrapping_add(word))
 }
 
 /// Takes a result, which must then be there.

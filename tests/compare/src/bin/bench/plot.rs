@@ -57,7 +57,7 @@ fn check(report: &Report) -> Option<Panel> {
     let counts = counts(report, 0, |figures| figures.count(Work::Check))?;
     let lines = vec![Line { name: "check", colour: "#1b6ca8", lower: 4.0, counts }];
     let title = "The check, which every call begins with: instructions";
-    Some(Panel { title, top: 40.0, most: 50_000.0, every: 10_000, lines })
+    Some(Panel { title, top: 40.0, most: 80_000.0, every: 20_000, lines })
 }
 
 fn steps(report: &Report) -> Option<Panel> {

@@ -1,4 +1,4 @@
-//! The tables that calls are measured on, built by calls.
+//! The tables and grants that calls are measured on, built by calls.
 
 use second::{memory, write, Call, Machine};
 use std::ops::RangeInclusive;
@@ -41,9 +41,18 @@ impl Stage {
         self.make(Call::CreateEndpoint { endpoint });
     }
 
+    /// All rights at an endpoint.
+    fn grant(&mut self, thread: u32, endpoint: u32, badge: u32) {
+        self.make(Call::Grant { thread, endpoint, rights: 15, badge });
+    }
+
     /// A thread that makes a call at once, and is of a lower level then.
     fn caller(&mut self, thread: u32, priority: u32, call: Call) {
         self.thread(thread, TOP);
+        let own = call.named();
+        if let Some(endpoint) = own.endpoint {
+            self.grant(thread, endpoint, own.badge.unwrap_or(0));
+        }
         self.make(call);
         self.make(Call::SetPriority { thread, priority });
     }
@@ -100,12 +109,13 @@ fn crowd(threads: u32) -> Stage {
     stage
 }
 
-/// What is called: the twelve calls, and one that is refused.
-pub const CALLS: [&str; 13] = [
-    "create thread",
+/// What is called: the thirteen calls, and one that is refused. A create clears
+/// 64 grants in a run, or 256 that stand 256 bytes apart.
+pub const CALLS: [&str; 14] = [
+    "create thread, its row cleared",
     "destroy thread",
     "set priority",
-    "create endpoint",
+    "create endpoint, its column cleared",
     "interrupt",
     "tick",
     "send",
@@ -114,18 +124,14 @@ pub const CALLS: [&str; 13] = [
     "wait",
     "delete",
     "abort",
+    "grant",
     "wait, refused by 19",
 ];
 
-/// The tables with so many threads on which a call is measured, by its number
-/// in `CALLS` from 1.
-pub fn scene(number: u32, threads: u32) -> Scene {
-    let mut s = crowd(threads);
+/// The call that is measured, by its number in `CALLS` from 1.
+fn call(number: u32) -> Call {
     let (endpoint, line, badge) = (ENDPOINT, LINE, BADGE);
-    if number != 4 {
-        s.endpoint(endpoint);
-    }
-    let call = match number {
+    match number {
         1 => Call::CreateThread { thread: 3, priority: 50 },
         2 => Call::DestroyThread { thread: 2 },
         3 => Call::SetPriority { thread: 1, priority: 160 },
@@ -138,8 +144,18 @@ pub fn scene(number: u32, threads: u32) -> Scene {
         10 => Call::Wait { line },
         11 => Call::Delete { endpoint, allowance: 1 },
         12 => Call::Abort { endpoint, allowance: 1, badge },
+        13 => Call::Grant { thread: 1, endpoint, rights: 15, badge },
         _ => Call::Wait { line: 32 },
-    };
+    }
+}
+
+/// The tables with so many threads on which a call is measured.
+pub fn scene(number: u32, threads: u32) -> Scene {
+    let mut s = crowd(threads);
+    let (endpoint, line, badge) = (ENDPOINT, LINE, BADGE);
+    if number != 4 {
+        s.endpoint(endpoint);
+    }
     match number {
         2 | 8 | 11 | 12 => (1..=3).for_each(|t| s.sender(t, endpoint, badge)),
         5 => s.waiter(1, line, 220),
@@ -149,6 +165,9 @@ pub fn scene(number: u32, threads: u32) -> Scene {
         s.bystanders(if number == 1 { 2..=2 } else { 2..=3 });
     }
     s.thread(ACTOR, 200);
+    if number != 4 {
+        s.grant(ACTOR, endpoint, badge);
+    }
     match number {
         2 => s.make(Call::Abort { endpoint, allowance: 1, badge: OTHER }),
         6 => {
@@ -158,7 +177,7 @@ pub fn scene(number: u32, threads: u32) -> Scene {
         9 => s.make(Call::SetPriority { thread: 1, priority: 200 }),
         _ => (),
     }
-    s.scene(call)
+    s.scene(call(number))
 }
 
 /// What one call does at a queue of senders.
@@ -186,6 +205,7 @@ pub fn queue(senders: u32, what: usize) -> Scene {
     s.endpoint(endpoint);
     (1..=senders).for_each(|t| s.sender(t, endpoint, badge));
     s.thread(ACTOR, 200);
+    s.grant(ACTOR, endpoint, badge);
     let allowance = if what < ALL { 1 } else { 65_535 };
     s.scene(match what {
         0 | 5 => Call::Abort { endpoint, allowance, badge: OTHER },
@@ -196,7 +216,7 @@ pub fn queue(senders: u32, what: usize) -> Scene {
     })
 }
 
-/// All that is measured: the twelve calls for each fill, then what is done at
+/// All that is measured: the calls for each fill, then what is done at
 /// queues of each length.
 pub fn scenes() -> Vec<Scene> {
     let numbers = 1..=CALLS.len() as u32;
