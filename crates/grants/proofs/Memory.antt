@@ -1,8 +1,8 @@
 -- The memory of grants and the grants in a memory are inverse, and the test tells the sound ones.
-use Prim.Native.Nat.{ℕ, _+_, _*_, _^_, _/_, _%_, _≤_, _<_}
+use Prim.Native.Nat.{ℕ, zero, suc, _+_, _*_, _^_, _/_, _%_, _≤_, _<_}
 use mathlib.Core.Path.{_≡_, refl, sym, _∙_, ap, subst, fun-ext}
 use mathlib.Core.Logic.{_⊎_, inl, inr, _↔_, ⊎-elim}
-use mathlib.Core.Bool.{Bool, true, false, and-false}
+use mathlib.Core.Bool.{Bool, true, false, _&&_, and-false, true≢false}
 use mathlib.Core.List.{List}
 use native.Mathlib.Omega.{arith}
 use lib.Dec.{leb}
@@ -11,9 +11,11 @@ use lib.Seq.{ext-getD}
 use borrow.Author.Tests.{le-leb, lt-leb, leb-true, leb-false}
 use Rattle.machine.specs.Grants.{Grants, freshGrants, SoundGrants}
 use Rattle.layout.specs.Addresses.{word}
+use Rattle.layout.specs.Tests.{all}
 use Rattle.layout.proofs.Image.{length-tabulate, getD-tabulate}
 use Rattle.layout.proofs.Tests.{Decides, tells-below, tells-or, tells-eqb, tells-leb}
-use Rattle.grants.specs.Memory.{grantWords, Words32, grantsOf, grantImage, soundWord, soundAt, grantsTest}
+use Rattle.grants.specs.Memory.{grantWords, Words32, grantsOf, grantImage, Bare, soundWord, soundAt}
+use Rattle.grants.specs.Memory.{grantsTest}
 
 -- Words
 
@@ -148,3 +150,45 @@ pub fresh-image : grantImage freshGrants ≡ replicate grantWords 0
 fresh-image =
     sym (memory-is (replicate grantWords 0) freshGrants (length-replicate {A = ℕ} grantWords 0)
     (λ t e h k. unfold word in getD-replicate grantWords (64 * t + e) 0 0 (omega arith)))
+
+-- "one holding a badge without any right": the test fails exactly where some word has a badge, and of the rights none.
+
+fails-somewhere : (n : ℕ) (f : ℕ → Bool) → all n f ≡ false → (i : ℕ) × (i < n) × (f i ≡ false)
+unfolding all
+fails-somewhere zero f h = absurd (true≢false h)
+fails-somewhere (suc n) f h = go (f n) refl h (fails-somewhere n f)
+  where
+    go : (b : Bool) → f n ≡ b → b && all n f ≡ false → (all n f ≡ false → (i : ℕ) × (i < n) × (f i ≡ false))
+        → (i : ℕ) × (i < suc n) × (f i ≡ false)
+    go false e h below = (n, omega arith, e)
+    go true e h below = let k = below h in (k .0, omega (arith, k .1), k .2)
+
+bare-exactly : (w : ℕ) → (soundWord w ≡ false) ↔ Bare w
+bare-exactly w = (λ h. there (leb (2 ^ 28) w) refl h, λ k. back (soundWord w) refl k)
+  where
+    there : (b : Bool) → leb (2 ^ 28) w ≡ b → soundWord w ≡ false → Bare w
+    there true e h = absurd (true≢false (sym (tells-word w .back (inr (leb-true (2 ^ 28) w e))) ∙ h))
+    there false e h =
+        let less = leb-false (2 ^ 28) w e in
+        (omega (arith, less), λ z. true≢false (sym (tells-word w .back (inl (omega (arith, less, z)))) ∙ h))
+
+    back : (b : Bool) → soundWord w ≡ b → Bare w → soundWord w ≡ false
+    back false e k = e
+    back true e k =
+        let rights = k .0 in
+        absurd (⊎-elim (λ z. k .1 (omega (arith, z))) (λ z. omega (arith, z, rights)) (tells-word w .holds e))
+
+pub unsound-exactly : (l : List ℕ) → (grantsTest l ≡ false) ↔ ((i : ℕ) × (i < grantWords) × Bare (word l i))
+unfolding grantsTest soundAt
+unsound-exactly l = (there, back (grantsTest l) refl)
+  where
+    there : grantsTest l ≡ false → (i : ℕ) × (i < grantWords) × Bare (word l i)
+    there h = let k = fails-somewhere grantWords (soundAt l) h in (k .0, k .1, bare-exactly (word l (k .0)) .0 (k .2))
+
+    back : (b : Bool) → grantsTest l ≡ b → (i : ℕ) × (i < grantWords) × Bare (word l i) → grantsTest l ≡ false
+    back false e k = e
+    back true e k =
+        absurd
+        (true≢false
+        (sym (tells-word (word l (k .0)) .back (tells-grants l .holds e (k .0) (k .1)))
+        ∙ bare-exactly (word l (k .0)) .1 (k .2)))

@@ -1,10 +1,11 @@
 -- The lent memory of the grants: which word is whose, and which memories are sound.
 use Prim.Native.Nat.{ℕ, _+_, _*_, _^_, _/_, _%_, _<_}
+use mathlib.Core.Path.{_≡_}
 use mathlib.Core.Bool.{Bool, _&&_, _||_}
 use mathlib.Core.List.{List}
 use lib.Dec.{eqb, leb}
 use Rattle.machine.specs.Lists.{pick}
-use Rattle.machine.specs.Grants.{Grants}
+use Rattle.machine.specs.Grants.{Grants, rightsIn, badgeIn}
 use Rattle.layout.specs.Addresses.{word}
 use Rattle.layout.specs.Words.{tabulate}
 use Rattle.layout.specs.Tests.{all}
@@ -25,7 +26,11 @@ grantsOf l t e = pick (leb t 255 && leb e 63) (word l (64 * t + e)) 0
 unfoldable pub grantImage : Grants → List ℕ
 grantImage g = tabulate grantWords (λ i. g (i / 64) (i % 64))
 
--- Unsound is a word "holding a badge without any right": it is not 0, and its top four bits are.
+-- "one holding a badge without any right"
+abbrev pub Bare : ℕ → Type 0
+Bare w = (rightsIn w ≡ 0) × (badgeIn w ≡ 0 → ⊥)
+
+-- The test of a word: it is 0, or has a right.
 abbrev pub soundWord : ℕ → Bool
 soundWord w = eqb w 0 || leb (2 ^ 28) w
 

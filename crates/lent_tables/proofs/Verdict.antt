@@ -1,26 +1,30 @@
 -- From the tests to the entries' promises.
-use Prim.Native.Nat.{ℕ}
-use mathlib.Core.Bool.{Bool, true, false, _&&_}
+use Prim.Native.Nat.{ℕ, _<_}
+use mathlib.Core.Logic.{_⊎_, inl, inr, _↔_, ⊎-elim}
+use mathlib.Core.Bool.{Bool, true, false, _&&_, true≢false}
+use native.Mathlib.Omega.{arith}
 use mathlib.Core.List.{List}
-use mathlib.Core.Option.{none, some}
+use mathlib.Core.Option.{Option, none, some}
 use mathlib.Core.Path.{_≡_, refl, ap, sym, _∙_}
 use lib.ListN.{length, replicate, length-replicate}
 use lib.Dec.{eqb}
 use borrow.Author.Tests.{eq-eqb, ne-eqb}
 use Rattle.machine.specs.Lists.{pick}
-use Rattle.machine.specs.State.{freshState}
+use Rattle.machine.specs.State.{State, freshState}
 use Rattle.machine.specs.Grants.{freshGrants}
 use Rattle.layout.proofs.Image.{image-fresh}
-use Rattle.layout.specs.Addresses.{tableWords, scratchWords}
+use Rattle.layout.specs.Addresses.{tableWords, scratchWords, word}
+use Rattle.layout.proofs.Ends.{none-some}
 use Rattle.layout.specs.Words.{image}
 use Rattle.layout.specs.Decode.{decode}
 use Rattle.layout.specs.Tests.{all}
 use Rattle.soundness.specs.Tables.{stateOf}
-use Rattle.grants.specs.Memory.{grantWords, grantImage, grantsTest}
-use Rattle.grants.proofs.Memory.{fresh-image}
+use Rattle.grants.specs.Memory.{grantWords, grantImage, Bare, grantsTest}
+use Rattle.grants.proofs.Memory.{fresh-image, unsound-exactly}
 use Rattle.soundness.specs.Checks.{blockTest, levelTest, endpointTest, lineTest, summaryTest, runningTest}
 use Rattle.soundness.specs.Checks.{unusedTest, placedTest, goodTest, metBelow}
-use Rattle.lent_tables.specs.Entries.{lent, zeros, Freshened, Checked, freshened, verdict, checked}
+use Rattle.lent_tables.specs.Entries.{Lent, lent, Sized, zeros, Freshened, Checked, freshened, verdict}
+use Rattle.lent_tables.specs.Entries.{checked}
 use Rattle.sound_queues.specs.Met.{metIn}
 use Rattle.soundness.proofs.Every.{and-false}
 use Rattle.soundness.proofs.Tables.{good-state}
@@ -130,6 +134,29 @@ module _ (m g s : List ℕ) where
       pub check-unsound :
           p ≡ false → _≡_ {A = Checked} (record { code = 17; scratch = after }) (checked (lent m g s))
       check-unsound h = rw (clear, checked-is, ← is, h)
+
+-- 17 exactly where the tables show no sound state, or a word of the grants has a badge without any right.
+pub seventeen-exactly :
+    (l : Lent) → Sized l
+    → (checked l .code ≡ 17)
+    ↔ ((stateOf (l .tables) ≡ none) ⊎ ((i : ℕ) × (i < grantWords) × Bare (word (l .grants) i)))
+unfolding checked
+seventeen-exactly l z =
+    rw (
+      eq-eqb (length (l .tables)) tableWords (z .0),
+      eq-eqb (length (l .grants)) grantWords (z .1),
+      eq-eqb (length (l .scratch)) scratchWords (z .2),
+    )
+    (go (stateOf (l .tables)) (grantsTest (l .grants)) refl (unsound-exactly (l .grants)))
+  where
+    go : {P : Type 0} (o : Option State) (b : Bool) → grantsTest (l .grants) ≡ b
+        → (grantsTest (l .grants) ≡ false) ↔ P → (verdict o b .code ≡ 17) ↔ ((o ≡ none) ⊎ P)
+    go none b e u = (λ h. inl refl, λ h. refl)
+    go (some s) false e u = (λ h. inr (u .0 e), λ h. refl)
+    go (some s) true e u = (
+      λ h. absurd (omega arith),
+      ⊎-elim (λ h. none-some (sym h)) (λ p. absurd (true≢false (sym e ∙ u .1 p))),
+    )
 
 -- Make fresh
 
