@@ -32,6 +32,7 @@ enum {
     PLACED = 8000,  /* cases of random words in random places, for each seed */
     RANDOM = 1000,  /* cases of random words everywhere, for each seed */
     GRANTED = 1000, /* cases of random grants, for each seed */
+    CASTS = 8,      /* of each thread into a set, for each seed */
     COMPLAINTS = 20 /* printed in all */
 };
 
@@ -144,16 +145,18 @@ struct kind {
     unsigned long wrong;
 };
 
-enum { KINDS = 7 };
+enum { KINDS = 9 };
 
 static struct kind kinds[KINDS] = {
     {"every single word", 1, 0, 0, 0},
     {"random words in random places", 1, 0, 0, 0},
     {"cycles and crossed links", 0, 0, 0, 0},
+    {"threads put into sets", 1, 0, 0, 0},
     {"random words everywhere", 0, 0, 0, 0},
     {"every single grant", 1, 0, 0, 0},
     {"random grants in random places", 1, 0, 0, 0},
     {"lengths", 0, 0, 0, 0},
+    {"254 members of one abort", 1, 0, 0, 0},
 };
 
 /* The kind of the case. */
@@ -394,11 +397,11 @@ static void random_everywhere(const uint32_t *seed)
     memcpy(words, seed, sizeof words);
 }
 
-/* Cycles and crossed links, by docs/LAYOUT.md. */
+/* The tables, by docs/LAYOUT.md. */
 
-enum { NEXT = 6, PREV = 7 };  /* of a thread */
-enum { HEAD = 0, TAIL = 1 };  /* of a queue */
-enum { CURSOR = 4, END = 5 }; /* of an endpoint */
+enum { PLACE = 0, PRIORITY = 1, NEXT = 6, PREV = 7, OWES = 8, NOTE = 9 }; /* of a thread */
+enum { HEAD = 0, TAIL = 1 };                                             /* of a queue */
+enum { STATUS = 0, ABORTING = 1, ABORTED = 2, CURSOR = 3, END = 4 };      /* of an endpoint */
 
 static int thread_word(int thread, int word)
 {
@@ -412,15 +415,17 @@ static int queue_word(int queue, int word)
 
 static int endpoint_word(int endpoint, int word)
 {
-    return 3200 + 6 * endpoint + word;
+    return 3200 + 5 * endpoint + word;
 }
+
+/* Cycles and crossed links. */
 
 /* The queue that a thread's place and priority name, or -1. */
 static int queue_of(const uint32_t *seed, int thread)
 {
-    uint32_t place = seed[thread_word(thread, 0)];
+    uint32_t place = seed[thread_word(thread, PLACE)];
     if (place == 1)
-        return (int)seed[thread_word(thread, 1)];
+        return (int)seed[thread_word(thread, PRIORITY)];
     if (place >= 2 && place < 130)
         return 256 + (int)((place - 2) % 64);
     return -1;
@@ -537,6 +542,33 @@ static void links(const uint32_t *seed)
         queue_links(seed, queue);
     for (int endpoint = 0; endpoint < ENDPOINTS; endpoint++)
         abort_marks(seed, endpoint);
+}
+
+/* Members of sets. */
+
+/* A note that the thread had is gone. */
+static void put_member(int thread, int endpoint)
+{
+    put(thread_word(thread, OWES), 1 + (uint32_t)endpoint);
+    put(thread_word(thread, NOTE), 0);
+}
+
+/* A member must be there, and an abort must stand; it may be blocked. */
+static void try_member(const uint32_t *seed, int thread, int endpoint)
+{
+    put_member(thread, endpoint);
+    int sound = seed[thread_word(thread, PLACE)] != 0 && seed[endpoint_word(endpoint, ABORTING)] == 1;
+    expect((try() == NAZSOMBET_DONE) == sound, "whether the member is sound");
+    memcpy(words, seed, sizeof words);
+}
+
+/* Each thread into the sets of some endpoints, and of all where an abort stands. */
+static void single_members(const uint32_t *seed)
+{
+    for (int thread = 0; thread < THREADS; thread++)
+        for (int endpoint = 0; endpoint < ENDPOINTS; endpoint++)
+            if ((endpoint + thread) % (ENDPOINTS / CASTS) == 0 || seed[endpoint_word(endpoint, ABORTING)] == 1)
+                try_member(seed, thread, endpoint);
 }
 
 /* Grants, beside sound tables. */
@@ -670,6 +702,98 @@ static void lengths(const uint32_t *seed)
     }
 }
 
+/* 254 members of one abort: as many as calls can lead to. */
+
+/* Makes a call on the tables that the others were made on; it is answered so. */
+static void make(struct nazsombet_numbers numbers, uint32_t code)
+{
+    *call = numbers;
+    uint32_t *tables = tables_room.start;
+    uint32_t *grants = grants_room.start;
+    uint32_t got = nazsombet_call(tables, TABLES, grants, GRANTS, scratch_room.start, SCRATCH, call, answer);
+    expect(got == code, "a call on the way to the members");
+}
+
+/* All threads but one wait at endpoint 0 under badge 1, then one after the other removes one and is broken off. */
+static void make_members(int members)
+{
+    static const struct nazsombet_numbers endpoint = {NAZSOMBET_CREATE_ENDPOINT, 0, 0, 0, 0, 0};
+    static const struct nazsombet_numbers send = {NAZSOMBET_SEND, 0, 0, 1, 0, 0};
+    static const struct nazsombet_numbers abort_one = {NAZSOMBET_ABORT, 0, 1, 1, 0, 0};
+    nazsombet_fresh(tables_room.start, TABLES, grants_room.start, GRANTS);
+    make(endpoint, NAZSOMBET_DONE);
+    for (uint32_t thread = 0; thread < THREADS; thread++) {
+        struct nazsombet_numbers create = {NAZSOMBET_CREATE_THREAD, thread, 1, 0, 0, 0};
+        struct nazsombet_numbers grant = {NAZSOMBET_GRANT, thread, 0, 1, 0, 15};
+        make(create, NAZSOMBET_DONE);
+        make(grant, NAZSOMBET_DONE);
+    }
+    for (int n = 1; n < THREADS; n++)
+        make(send, NAZSOMBET_BLOCKED);
+    for (int n = 0; n < members; n++) {
+        struct nazsombet_numbers lower = {NAZSOMBET_SET_PRIORITY, 0, 0, 0, 0, 0};
+        lower.subject = nazsombet_running(tables_room.start, TABLES);
+        make(abort_one, NAZSOMBET_BROKEN_OFF);
+        make(lower, NAZSOMBET_DONE);
+    }
+    memcpy(words, tables_room.start, sizeof words);
+    memcpy(granted, grants_room.start, sizeof granted);
+}
+
+/* The call ends their abort, by a thread that is none of them: all of them are noted, and nobody else. */
+static void try_ending(int members, struct nazsombet_numbers ending, uint32_t code)
+{
+    make_members(members);
+    uint32_t *tables = lent_tables();
+    uint32_t *grants = lent_grants();
+    uint32_t *scratch = lent_scratch();
+    *call = ending;
+    uint32_t got = nazsombet_call(tables, TABLES, grants, GRANTS, scratch, SCRATCH, call, answer);
+    expect(got == code, "the call that ends the abort");
+    for (int thread = 0; thread < THREADS; thread++) {
+        int noted = tables[thread_word(thread, OWES)] == 65 && tables[thread_word(thread, NOTE)] == 1;
+        int nothing = tables[thread_word(thread, OWES)] == 0 && tables[thread_word(thread, NOTE)] == 0;
+        expect(words[thread_word(thread, OWES)] == 1 ? noted : nothing, "who is noted");
+    }
+    expect(tables[endpoint_word(0, ABORTING)] == 0, "that the abort has ended");
+    expect_sound(tables, grants);
+    kind->sound++;
+}
+
+/* All members at another endpoint, where no abort stands. */
+static void try_elsewhere(int endpoint, uint32_t status)
+{
+    make_members(254);
+    put(endpoint_word(endpoint, STATUS), status);
+    for (int thread = 0; thread < THREADS; thread++)
+        if (words[thread_word(thread, OWES)] == 1)
+            put_member(thread, endpoint);
+    expect(try() == NAZSOMBET_UNSOUND, "members without an abort");
+}
+
+static void many_members(const uint32_t *seed)
+{
+    static const struct nazsombet_numbers same = {NAZSOMBET_ABORT, 0, 1, 1, 0, 0};
+    static const struct nazsombet_numbers other = {NAZSOMBET_ABORT, 0, 1, 2, 0, 0};
+    static const struct nazsombet_numbers delete = {NAZSOMBET_DELETE, 0, 1, 0, 0, 0};
+    (void)seed;
+    make_members(254);
+    int members = 0;
+    for (int thread = 0; thread < THREADS; thread++)
+        members += words[thread_word(thread, OWES)] == 1;
+    expect(members == 254 && try() == NAZSOMBET_DONE, "254 members");
+    for (int thread = 0; thread < THREADS; thread++)
+        put_member(thread, 0);
+    expect(try() == NAZSOMBET_DONE, "all threads members");
+    try_elsewhere(63, 0);
+    try_elsewhere(63, 1);
+    try_elsewhere(63, 2);
+    try_ending(254, same, NAZSOMBET_DONE);
+    try_ending(254, other, NAZSOMBET_BROKEN_OFF);
+    try_ending(254, delete, NAZSOMBET_DONE);
+    try_ending(253, delete, NAZSOMBET_BROKEN_OFF);
+}
+
 /* Seeds. */
 
 static struct room journal_room;
@@ -757,7 +881,7 @@ static void print_seed(const char *name, const struct seed *seed)
     int aborts = 0;
     int grants = 0;
     for (int thread = 0; thread < THREADS; thread++)
-        threads += seed->words[thread_word(thread, 0)] != 0;
+        threads += seed->words[thread_word(thread, PLACE)] != 0;
     for (int endpoint = 0; endpoint < ENDPOINTS; endpoint++)
         aborts += seed->words[endpoint_word(endpoint, CURSOR)] != 0;
     for (int at = 0; at < GRANTS; at++)
@@ -775,7 +899,8 @@ static void make_grants(const uint32_t *grants)
 static void damage(const struct seed *seed)
 {
     static void (*const ways[KINDS])(const uint32_t *) = {
-        single_words, random_places, links, random_everywhere, single_grants, random_grants, lengths,
+        single_words,  random_places, links,   single_members, random_everywhere,
+        single_grants, random_grants, lengths, many_members,
     };
     make_grants(seed->grants);
     for (int n = 0; n < KINDS; n++) {

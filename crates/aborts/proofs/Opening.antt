@@ -6,58 +6,51 @@ use mathlib.Core.Option.{Option, none, some}
 use mathlib.Core.List.{List, []}
 use native.Mathlib.Omega.{arith}
 use Rattle.machine.specs.declared.Answer.{Answer}
-use Rattle.machine.specs.State.{State, Debt, nothing, owns, noted, Abort, Status, missing, live, closing}
-use Rattle.machine.specs.Endpoints.{underAbort, ownerOf}
+use Rattle.machine.specs.State.{State, Abort, Status, missing, live, closing}
+use Rattle.machine.specs.Endpoints.{underAbort, isAborting, dropDebt}
 use Rattle.machine.specs.Results.{plain, accept}
-use Rattle.machine.specs.Aborts.{joinAs, join, workOwn, workOther, underBadge, abortFrom, ownsThis, dropUnless}
-use Rattle.machine.specs.Aborts.{dropOther, abortOpen, abortAt, hasNote, abortUnless, abort}
+use Rattle.machine.specs.Aborts.{join, workOwn, workOther, underBadge, abortFrom, abortOpen, abortAt, abortUnless}
+use Rattle.machine.specs.Aborts.{abort}
+use Rattle.machine.specs.Sound.{Sound}
 use Rattle.machine.proofs.Lists.{clash}
 use Rattle.machine.proofs.Preserved.Mid.{sound-mid}
-use Rattle.machine.proofs.Preserved.Debts.{mid-forget, mid-dropDebt, dropDebt-drops}
+use Rattle.machine.proofs.Preserved.Debts.{mid-dropDebt, dropDebt-drops}
 use Rattle.machine.proofs.Preserved.AbortSteps.{mid-join}
-use Rattle.machine.specs.Mid.{clear, mine}
-use Rattle.machine.proofs.Preserved.Aborts.{running-present, join-status, unowed, unowned, owns-this}
+use Rattle.machine.proofs.Preserved.Aborts.{running-present, join-status}
 use Rattle.layout.specs.declared.Part.{Part}
 use Rattle.layout.specs.Words.{statusCode, abortCode}
 use Rattle.layout.specs.Shows.{Shows}
 use Rattle.store.specs.Steps.{Shown, Does, Tells}
-use Rattle.store.specs.Store.{IsThread, IsEndpoint, owing, SetsDebt}
+use Rattle.store.specs.Store.{IsThread, IsEndpoint}
 use Rattle.store.specs.Readings.{endpointIn}
 use Rattle.queues.specs.Queues.{Chooses}
-use Rattle.debts.specs.Debts.{Says, InCall, JoinsAbort, underIn, notedIn}
+use Rattle.debts.specs.Debts.{Says, InRange, InCall, underIn, notedIn}
 use Rattle.endings.specs.Results.{Calling, Performs, Accepts}
 use Rattle.endings.proofs.Ends.{refused, performs-as, performs-for, performs-after, does-for, shown-for}
-use Rattle.endings.proofs.Conditions.{mid-chooses, running-thread, running-calls, running-joins}
-use Rattle.aborts.specs.Aborts.{Open, Clear, Bare, Owing, Joining, Continues, ownBegun, joinedOn, unnoted}
+use Rattle.endings.proofs.Conditions.{mid-chooses, running-thread, running-range, running-calls}
+use Rattle.aborts.specs.Aborts.{Open, Joining, Continues, ownBegun, joinedOn, unnoted}
 
 -- Joining.
 
-joining-joins : {t e : ℕ} {s : State} → Joining t e s → JoinsAbort t e s
-joining-joins J = running-joins (J .opened .mid) (J .opened .runs) (J .stands)
-
-join-runs : (t e : ℕ) (s : State) → join t e s .runs ≡ s .runs
-unfolding join joinAs
-join-runs t e s = go (ownerOf (s .endpoints e .abort))
-  where
-    go : (o : Option ℕ) → joinAs o t e s .runs ≡ s .runs
-    go none = refl
-    go (some u) = refl
+joining-joins : {t e : ℕ} {s : State} → Joining t e s → InRange t e s
+joining-joins J = let O = J .opened in running-range (O .mid) (O .runs) (O .endpoint)
 
 joined-open : {t e : ℕ} {s : State} → Joining t e s → Open t e (join t e s)
+unfolding join
 joined-open {t} {e} {s} J =
     let O = J .opened in
     record {
-      mid = mid-join t e s (J .abort) (J .stands) (O .mid) (running-present (O .mid) (O .runs)) (J .may-own);
+      mid = mid-join t e s (J .stands) (O .mid) (running-present (O .mid) (O .runs));
       endpoint = O .endpoint;
-      runs = join-runs t e s ∙ O .runs;
+      runs = O .runs;
       status = join-status t e s ∙ O .status;
     }
 
 module _ {m : List ℕ} {t e : ℕ} where
-  pub joins-asked : Shown m (Joining t e) → Shown m (JoinsAbort t e)
+  pub joins-asked : Shown m (Joining t e) → Shown m (InRange t e)
   joins-asked S = shown-for S (λ s J. joining-joins J)
 
-  module _ {n : List ℕ} (D : Does m n (JoinsAbort t e) (join t e)) where
+  module _ {n : List ℕ} (D : Does m n (InRange t e) (join t e)) where
     pub joined-asked : Shown m (Joining t e) → Shown n (Open t e)
     joined-asked S =
         record {
@@ -78,65 +71,46 @@ no-abort : (k : Option Abort) {r : ℕ} → r ≡ abortCode k → r ≡ 0 → k 
 no-abort none i z = refl
 no-abort (some a) i z = absurd (omega arith)
 
-module _ {t e b : ℕ} {s : State} (W : Owing t e b s) where
-  owing-clear : underAbort b (s .endpoints e .abort) ≡ false → Clear t e s
-  owing-clear u = record { opened = W .opened; debt = unowed (W .owed) u }
+joins-under :
+    {t e : ℕ} {s : State} (b : ℕ) → Open t e s → underAbort b (s .endpoints e .abort) ≡ true → Joining t e s
+joins-under {t} {e} {s} b O u = record { opened = O; stands = go (s .endpoints e .abort) u }
+  where
+    go : (k : Option Abort) → underAbort b k ≡ true → isAborting k ≡ true
+    go none h = absurd (clash h refl)
+    go (some a) h = refl
 
-  owing-bare : s .endpoints e .abort ≡ none → Bare t e s
-  owing-bare k = record { clear = owing-clear (ap (underAbort b) k); abort = k }
-
-  owing-joins : underAbort b (s .endpoints e .abort) ≡ true → Joining t e s
-  owing-joins u = go (s .endpoints e .abort) refl
-    where
-      go : (k : Option Abort) → s .endpoints e .abort ≡ k → Joining t e s
-      go none h = absurd (clash u (ap (underAbort b) h))
-      go (some a) h =
-          record {
-            opened = W .opened;
-            abort = a;
-            stands = h;
-            may-own = λ o. unowned (W .opened .mid) (W .owed) (ap ownerOf h ∙ o);
-          }
-
-module _ {m : List ℕ} {t e b : ℕ} where
+module _ {m : List ℕ} {t e : ℕ} (b : ℕ) where
   module _ {r : ℕ} (T : Tells m (IsEndpoint e) r (endpointIn Part.Aborting e)) (z : r ≡ 0) where
-    bare-at : (s : State) → Shows m s → Owing t e b s → Bare t e s
-    bare-at s M W =
-        owing-bare W (no-abort (s .endpoints e .abort) (T .tells s M (W .opened .endpoint)) z)
-
-    pub bare-shown : Shown m (Owing t e b) → Shown m (Bare t e)
-    bare-shown S =
-        record { state = S .state; shows = S .shows; holds = bare-at (S .state) (S .shows) (S .holds) }
-
     pub opens-none :
-        {n : List ℕ} {x : Answer} (a : ℕ) → Continues m 0 x (Bare t e) (ownBegun t e b a) n
-        → Performs m n x (Owing t e b) (abortOpen t e a b)
+        {n : List ℕ} {x : Answer} (a : ℕ) → Continues m 0 x (Open t e) (ownBegun t e b a) n
+        → Performs m n x (Open t e) (abortOpen t e a b)
     unfolding abortOpen abortFrom
     opens-none a C =
-        performs-as (performs-for (C .performs [] refl) bare-at)
-        (λ s M W.
-        ap (λ (k : Option Abort). abortFrom k t e a b s) (sym (bare-at s M W .abort)))
+        performs-as (C .performs [] refl)
+        (λ s M O.
+        ap (λ (k : Option Abort). abortFrom k t e a b s)
+        (sym (no-abort (s .endpoints e .abort) (T .tells s M (O .endpoint)) z)))
 
   module _ {u : Bool} (U : Says m (IsEndpoint e) u (underIn e b)) where
     module _ (z : u ≡ true) where
-      same-badge : (s : State) → Shows m s → Owing t e b s → underAbort b (s .endpoints e .abort) ≡ true
-      same-badge s M W = sym (U .says s M (W .opened .endpoint)) ∙ z
+      same-badge : (s : State) → Shows m s → Open t e s → underAbort b (s .endpoints e .abort) ≡ true
+      same-badge s M O = sym (U .says s M (O .endpoint)) ∙ z
 
-      pub joining-shown : Shown m (Owing t e b) → Shown m (Joining t e)
+      pub joining-shown : Shown m (Open t e) → Shown m (Joining t e)
       joining-shown S =
           record {
             state = S .state;
             shows = S .shows;
-            holds = owing-joins (S .holds) (same-badge (S .state) (S .shows) (S .holds));
+            holds = joins-under b (S .holds) (same-badge (S .state) (S .shows) (S .holds));
           }
 
       pub opens-same :
           {n : List ℕ} {x : Answer} (a : ℕ) → Performs m n x (Joining t e) (joinedOn t e a)
-          → Performs m n x (Owing t e b) (abortOpen t e a b)
+          → Performs m n x (Open t e) (abortOpen t e a b)
       unfolding abortOpen abortFrom underBadge
       opens-same a F =
-          performs-as (performs-for F (λ s M W. owing-joins W (same-badge s M W)))
-          (λ s M W. go s (same-badge s M W))
+          performs-as (performs-for F (λ s M O. joins-under b O (same-badge s M O)))
+          (λ s M O. go s (same-badge s M O))
         where
           go : (s : State) → underAbort b (s .endpoints e .abort) ≡ true → joinedOn t e a s ≡ abortOpen t e a b s
           go s h = case (s .endpoints e .abort) refl h
@@ -147,25 +121,14 @@ module _ {m : List ℕ} {t e b : ℕ} where
               case (some x) i h = ap (λ (q : Bool). underBadge q t e a b s) (sym h)
 
     module _ (z : u ≡ false) where
-      other-badge : (s : State) → Shows m s → Owing t e b s → underAbort b (s .endpoints e .abort) ≡ false
-      other-badge s M W = sym (U .says s M (W .opened .endpoint)) ∙ z
-
-      pub clear-shown : Shown m (Owing t e b) → Shown m (Clear t e)
-      clear-shown S =
-          record {
-            state = S .state;
-            shows = S .shows;
-            holds = owing-clear (S .holds) (other-badge (S .state) (S .shows) (S .holds));
-          }
-
       pub opens-other :
           {n : List ℕ} {x : Answer} {r : ℕ} (a : ℕ) → Tells m (IsEndpoint e) r (endpointIn Part.Aborting e)
           → (r ≡ 0 → ⊥)
-          → Performs m n x (Clear t e) (workOther t e a b) → Performs m n x (Owing t e b) (abortOpen t e a b)
+          → Performs m n x (Open t e) (workOther t e a b) → Performs m n x (Open t e) (abortOpen t e a b)
       unfolding abortOpen abortFrom underBadge
       opens-other {r = r} a T n F =
-          performs-as (performs-for F (λ s M W. owing-clear W (other-badge s M W)))
-          (λ s M W. go s (T .tells s M (W .opened .endpoint)) (other-badge s M W))
+          performs-as F
+          (λ s M O. go s (T .tells s M (O .endpoint)) (sym (U .says s M (O .endpoint)) ∙ z))
         where
           go : (s : State) → r ≡ endpointIn Part.Aborting e s → underAbort b (s .endpoints e .abort) ≡ false
               → workOther t e a b s ≡ abortOpen t e a b s
@@ -176,28 +139,17 @@ module _ {m : List ℕ} {t e b : ℕ} where
               case none i h = absurd (n i)
               case (some x) i h = ap (λ (q : Bool). underBadge q t e a b s) (sym h)
 
--- The caller's other debts go.
+-- The caller leaves its set, or loses its note.
 
-other-dropped : {t e b : ℕ} {s : State} → Open t e s → Owing t e b (dropOther t e b s)
-unfolding dropOther dropUnless
-other-dropped {t} {e} {b} {s} O = go (ownsThis (s .endpoints e .abort) e b (s .threads t .debt)) refl
-  where
-    go : (q : Bool) → ownsThis (s .endpoints e .abort) e b (s .threads t .debt) ≡ q → Owing t e b (dropUnless q t s)
-    go true q =
-        let r = owns-this (s .endpoints e .abort) e b (s .threads t .debt) q in
-        record { opened = O; owed = mine (r .0) (r .1) }
-    go false q =
-        let D = dropDebt-drops s t in
-        record {
-          opened =
-              record {
-                mid = mid-dropDebt s t (O .mid);
-                endpoint = O .endpoint;
-                runs = D .keeps .runs ∙ O .runs;
-                status = D .status e ∙ O .status;
-              };
-          owed = clear (D .debt);
-        }
+open-dropped : {t e : ℕ} {s : State} → Open t e s → Open t e (dropDebt t s)
+open-dropped {t} {e} {s} O =
+    let D = dropDebt-drops s t in
+    record {
+      mid = mid-dropDebt s t (O .mid);
+      endpoint = O .endpoint;
+      runs = D .keeps .runs ∙ O .runs;
+      status = D .status e ∙ O .status;
+    }
 
 -- By the endpoint's status.
 
@@ -259,56 +211,47 @@ module _ {m : List ℕ} {t e a b : ℕ} where
             status = live-at s M C;
           }
 
-      module _ {o : List ℕ} (D : Does m o (InCall t e) (dropOther t e b)) where
-        pub owing-asked : Shown m (Calling t (Numbers e a b)) → Shown o (Owing t e b)
-        owing-asked S =
+      module _ {o : List ℕ} (D : Does m o (IsThread t) (dropDebt t)) where
+        pub open-asked : Shown m (Calling t (Numbers e a b)) → Shown o (Open t e)
+        open-asked S =
             let C = S .holds in
             record {
-              state = dropOther t e b (S .state);
-              shows = D .shows (S .state) (S .shows) (running-calls (sound-mid (C .sound)) (C .runs) (C .numbers .0));
-              holds = other-dropped (open-at (S .state) (S .shows) C);
+              state = dropDebt t (S .state);
+              shows = D .shows (S .state) (S .shows) (running-thread (sound-mid (C .sound)) (C .runs));
+              holds = open-dropped (open-at (S .state) (S .shows) C);
             }
 
         pub opened :
-            {q : List ℕ} {x : Answer} → Performs o q x (Owing t e b) (abortOpen t e a b)
+            {q : List ℕ} {x : Answer} → Performs o q x (Open t e) (abortOpen t e a b)
             → Performs m q x (Calling t (Numbers e a b)) (unnoted t e a b)
         unfolding abortAt
         opened F =
             performs-as
             (performs-after
-            (does-for D (λ s C. running-calls (sound-mid (C .sound)) (C .runs) (C .numbers .0)))
-            (λ s M C. other-dropped (open-at s M C)) F)
+            (does-for D (λ s C. running-thread (sound-mid (C .sound)) (C .runs)))
+            (λ s M C. open-dropped (open-at s M C)) F)
             (λ s M C. ap (λ (x : Status). abortAt x t e a b s) (sym (live-at s M C)))
 
 -- The note.
 
-has-note : (e b : ℕ) (d : Debt) → hasNote e b d ≡ true → (f : ℕ) × (c : ℕ) × (d ≡ noted f c)
-has-note e b nothing h = absurd (clash h refl)
-has-note e b (owns f) h = absurd (clash h refl)
-has-note e b (noted f c) h = (f, c, refl)
+dropped-chooses : (t : ℕ) {s : State} → Sound s → Chooses (dropDebt t s)
+dropped-chooses t {s} S = mid-chooses (mid-dropDebt s t (sound-mid S))
 
-forgets : {m n : List ℕ} {t : ℕ} → SetsDebt m t 0 0 n → Does m n (IsThread t) (owing t nothing)
-forgets O = O .does nothing refl refl
+pub dropped-asked :
+    {m n : List ℕ} {t : ℕ} {N : Type 0} → Does m n (IsThread t) (dropDebt t) → Shown m (Calling t N) → Shown n Chooses
+dropped-asked {t = t} D S =
+    let C = S .holds in
+    record {
+      state = dropDebt t (S .state);
+      shows = D .shows (S .state) (S .shows) (running-thread (sound-mid (C .sound)) (C .runs));
+      holds = dropped-chooses t (C .sound);
+    }
 
 module _ {m : List ℕ} {t e a b : ℕ} {u : Bool} (U : Says m (InCall t e) u (notedIn t e b)) where
   says-note : (s : State) → Shows m s → Calling t (Numbers e a b) s → u ≡ notedIn t e b s
   says-note s M C = U .says s M (running-calls (sound-mid (C .sound)) (C .runs) (C .numbers .0))
 
-  module _ (z : u ≡ true) {n : List ℕ} (O : SetsDebt m t 0 0 n) where
-    forgotten : (s : State) → Shows m s → Calling t (Numbers e a b) s → Chooses (owing t nothing s)
-    forgotten s M C =
-        let h = has-note e b (s .threads t .debt) (sym (says-note s M C) ∙ z) in
-        mid-chooses (mid-forget t (sound-mid (C .sound)) (h .0) (h .1) (h .2))
-
-    pub forgotten-asked : Shown m (Calling t (Numbers e a b)) → Shown n Chooses
-    forgotten-asked S =
-        let C = S .holds in
-        record {
-          state = owing t nothing (S .state);
-          shows = forgets O .shows (S .state) (S .shows) (running-thread (sound-mid (C .sound)) (C .runs));
-          holds = forgotten (S .state) (S .shows) C;
-        }
-
+  module _ (z : u ≡ true) {n : List ℕ} (D : Does m n (IsThread t) (dropDebt t)) where
     pub noted-answered :
         {o : List ℕ} {x y : Answer} → x ≡ plain 0 → Accepts n x y Chooses o
         → Performs m o y (Calling t (Numbers e a b)) (abort t e a b)
@@ -316,9 +259,10 @@ module _ {m : List ℕ} {t e a b : ℕ} {u : Bool} (U : Says m (InCall t e) u (n
     noted-answered {x = x} k A =
         performs-as
         (performs-after
-        (does-for (forgets O) (λ s C. running-thread (sound-mid (C .sound)) (C .runs))) forgotten (A .performs []))
+        (does-for D (λ s C. running-thread (sound-mid (C .sound)) (C .runs))) (λ s M C. dropped-chooses t (C .sound))
+        (A .performs []))
         (λ s M C.
-        ap (λ (v : Answer). accept v [] (owing t nothing s)) k
+        ap (λ (v : Answer). accept v [] (dropDebt t s)) k
         ∙ ap (λ (q : Bool). abortUnless q t e a b s) (sym z ∙ says-note s M C))
 
   pub not-noted :

@@ -8,25 +8,24 @@ use Rattle.machine.specs.declared.Answer.{Answer}
 use Rattle.machine.specs.State.{State, Endpoint, live}
 use Rattle.machine.specs.Endpoints.{dropDebt, endAbort}
 use Rattle.machine.specs.Results.{Result, Look, counted, accept}
-use Rattle.machine.specs.Aborts.{Looked, pendingAt, begin, ended, lookedOwn, workOwn, beginAfter, finished}
+use Rattle.machine.specs.Aborts.{Looked, pendingAt, join, begin, ended, lookedOwn, workOwn, beginAfter, finished}
 use Rattle.machine.specs.Aborts.{lookedOther, workOther}
 use Rattle.machine.specs.Mid.{Mid}
-use Rattle.machine.proofs.Preserved.Debts.{nothing-owns, live-present, mid-dropDebt, dropDebt-drops, mid-endAbort}
-use Rattle.machine.proofs.Preserved.Debts.{endAbort-entry}
-use Rattle.machine.proofs.Preserved.Debts.{endAbort-runs, endAbort-debt}
+use Rattle.machine.proofs.Preserved.Debts.{live-present, mid-dropDebt, dropDebt-drops, mid-endAbort, endAbort-entry}
+use Rattle.machine.proofs.Preserved.Debts.{endAbort-runs}
 use Rattle.machine.proofs.Preserved.AbortSteps.{mid-begin, mid-lookUpTo, steady-lookUpTo}
 use Rattle.machine.proofs.Preserved.Aborts.{running-present, begin-status}
 use Rattle.layout.specs.declared.Part.{Part}
 use Rattle.layout.specs.Shows.{Shows}
 use Rattle.store.specs.Steps.{Shown, Does, Tells}
-use Rattle.store.specs.Store.{IsEndpoint}
+use Rattle.store.specs.Store.{IsThread, IsEndpoint}
 use Rattle.store.specs.Readings.{endpointIn}
 use Rattle.queues.specs.Queues.{Chooses}
-use Rattle.debts.specs.Debts.{Debtor, Endable, EndsAbort, BeginsAbort}
+use Rattle.debts.specs.Debts.{EndsAbort, BeginsAbort}
 use Rattle.endings.specs.Results.{Performs, Accepts}
 use Rattle.endings.proofs.Ends.{performs-as, performs-for, performs-after, does-for, shown-for}
-use Rattle.endings.proofs.Conditions.{mid-chooses, running-debtor, mid-endable, running-begins}
-use Rattle.aborts.specs.Aborts.{InMid, Open, Clear, Bare, looked, LooksOn, Continues, ownEnded, ownBegun}
+use Rattle.endings.proofs.Conditions.{mid-chooses, running-thread, running-begins}
+use Rattle.aborts.specs.Aborts.{InMid, Open, looked, LooksOn, Continues, ownEnded, ownBegun}
 use Rattle.aborts.proofs.Looks.{nothing-left, HasFirst, some-left, looks-few}
 
 -- A call's result for one state: the answer is its, and the memory shows its state.
@@ -62,8 +61,8 @@ module _ {m : List ℕ} {t e : ℕ} where
   pub chooses-asked : Shown m (Open t e) → Shown m Chooses
   chooses-asked S = shown-for S (λ s O. open-chooses O)
 
-  pub debtor-asked : Shown m (Open t e) → Shown m (Debtor t)
-  debtor-asked S = shown-for S (λ s O. running-debtor (O .mid) (O .runs))
+  pub thread-asked : Shown m (Open t e) → Shown m (IsThread t)
+  thread-asked S = shown-for S (λ s O. running-thread (O .mid) (O .runs))
 
 -- The end of an abort.
 
@@ -79,14 +78,14 @@ module _ {t e : ℕ} {s : State} (O : Open t e s) where
       mid-endAbort live e (dropDebt t s) (live-present refl)
       (live-present (dropDebt-drops s t .status e ∙ O .status)) dropped-mid
 
-module _ {m n : List ℕ} {t e : ℕ} (D : Does m n (Debtor t) (dropDebt t)) where
-  pub endable-asked : Shown m (Open t e) → Shown n (Endable e)
+module _ {m n : List ℕ} {t e : ℕ} (D : Does m n (IsThread t) (dropDebt t)) where
+  pub endable-asked : Shown m (Open t e) → Shown n (IsEndpoint e)
   endable-asked S =
       let O = S .holds in
       record {
         state = dropDebt t (S .state);
-        shows = D .shows (S .state) (S .shows) (running-debtor (O .mid) (O .runs));
-        holds = mid-endable (dropped-mid O) (O .endpoint);
+        shows = D .shows (S .state) (S .shows) (running-thread (O .mid) (O .runs));
+        holds = O .endpoint;
       }
 
   module _ {o : List ℕ} (E : EndsAbort n e 1 o) where
@@ -94,8 +93,8 @@ module _ {m n : List ℕ} {t e : ℕ} (D : Does m n (Debtor t) (dropDebt t)) whe
     ends-own =
         record {
           shows = λ s M O.
-              E .does live refl .shows (dropDebt t s) (D .shows s M (running-debtor (O .mid) (O .runs)))
-              (mid-endable (dropped-mid O) (O .endpoint));
+              E .does live refl .shows (dropDebt t s) (D .shows s M (running-thread (O .mid) (O .runs)))
+              (O .endpoint);
         }
 
     pub ended-asked : Shown m (Open t e) → Shown o Chooses
@@ -127,7 +126,7 @@ module _ {m : List ℕ} {e r : ℕ} (T : Tells m (IsEndpoint e) r (endpointIn Pa
           ∙ ap (λ (l : List ℕ). ended l t e looks s) (sym (B .whole))
 
   pub own-ended :
-      {n o q : List ℕ} {t k : ℕ} {a b : Answer} → r ≡ 0 → Does m n (Debtor t) (dropDebt t) → EndsAbort n e 1 o
+      {n o q : List ℕ} {t k : ℕ} {a b : Answer} → r ≡ 0 → Does m n (IsThread t) (dropDebt t) → EndsAbort n e 1 o
       → a ≡ counted 0 k → Accepts o a b Chooses q → Continues m k b (Open t e) (ownEnded t e) q
   unfolding ended
   own-ended {n} {o} {q} {t} {k} {a} z D E i A =
@@ -195,142 +194,100 @@ module _ {m n : List ℕ} {e a k : ℕ} (L : LooksOn m e a k n) where
 
 -- The call's own abort begins.
 
-bare-begins : {t e : ℕ} {s : State} → Bare t e s → BeginsAbort t e s
-bare-begins B = let O = B .clear .opened in running-begins (O .mid) (O .runs) (O .endpoint)
+open-begins : {t e : ℕ} {s : State} → Open t e s → BeginsAbort t e s
+open-begins O = running-begins (O .mid) (O .runs) (O .endpoint)
 
-begun-open : {t e b : ℕ} {s : State} → b < 2 ^ 28 → Bare t e s → Open t e (begin t e b s)
-unfolding begin
-begun-open {t} {e} {b} {s} h B =
-    let O = B .clear .opened in
+begun-open : {t e b : ℕ} {s : State} → b < 2 ^ 28 → Open t e s → Open t e (begin t e b s)
+unfolding begin join
+begun-open {t} {e} {b} {s} h O =
     record {
-      mid =
-          mid-begin t e b s (O .mid) (running-present (O .mid) (O .runs)) (B .clear .debt) (O .status) (B .abort) h;
+      mid = mid-begin t e b s (O .mid) (running-present (O .mid) (O .runs)) (O .status) h;
       endpoint = O .endpoint;
       runs = O .runs;
       status = begin-status t e b s ∙ O .status;
     }
 
 module _ {m : List ℕ} {t e : ℕ} where
-  pub begins-asked : Shown m (Bare t e) → Shown m (BeginsAbort t e)
-  begins-asked S = shown-for S (λ s B. bare-begins B)
-
-  pub bare-chooses : Shown m (Bare t e) → Shown m Chooses
-  bare-chooses S = shown-for S (λ s B. open-chooses (B .clear .opened))
+  pub begins-asked : Shown m (Open t e) → Shown m (BeginsAbort t e)
+  begins-asked S = shown-for S (λ s B. open-begins B)
 
   module _ {n : List ℕ} {b : ℕ} (D : Does m n (BeginsAbort t e) (begin t e b)) (h : b < 2 ^ 28) where
-    pub begun-asked : Shown m (Bare t e) → Shown n (Open t e)
+    pub begun-asked : Shown m (Open t e) → Shown n (Open t e)
     begun-asked S =
         record {
           state = begin t e b (S .state);
-          shows = D .shows (S .state) (S .shows) (bare-begins (S .holds));
+          shows = D .shows (S .state) (S .shows) (open-begins (S .holds));
           holds = begun-open h (S .holds);
         }
 
     pub own-begins :
         {o : List ℕ} {k : ℕ} {r : Answer} (a : ℕ) → Continues n k r (Open t e) (workOwn t e a) o
-        → Continues m k r (Bare t e) (ownBegun t e b a) o
+        → Continues m k r (Open t e) (ownBegun t e b a) o
     own-begins a C =
         record {
           performs = λ looks j.
-              performs-after (does-for D (λ s B. bare-begins B)) (λ s M B. begun-open h B) (C .performs looks j);
+              performs-after (does-for D (λ s B. open-begins B)) (λ s M B. begun-open h B) (C .performs looks j);
         }
 
 -- After another badge's abort.
 module _ {m n : List ℕ} {t e k : ℕ} (b : ℕ) where
   pub after-broken :
       {left : ℕ} {a r : Answer} → left ≡ 0 → a ≡ counted 2 k → Accepts m a r Chooses n
-      → Continues m k r (Bare t e) (beginAfter left t e b) n
+      → Continues m k r (Open t e) (beginAfter left t e b) n
   unfolding beginAfter
   after-broken {left} {a} z i A =
       record {
         performs = λ looks j.
-            performs-as (performs-for (A .performs looks) (λ s M B. open-chooses (B .clear .opened)))
+            performs-as (performs-for (A .performs looks) (λ s M B. open-chooses B))
             (λ s M B.
             ap (λ (x : Answer). accept x looks s) (i ∙ ap (counted 2) (sym j))
             ∙ ap (λ (x : ℕ). beginAfter x t e b looks s) (sym z));
       }
 
   pub after-begins :
-      {r : Answer} (left : ℕ) → (left ≡ 0 → ⊥) → Continues m k r (Bare t e) (ownBegun t e b left) n
-      → Continues m k r (Bare t e) (beginAfter left t e b) n
+      {r : Answer} (left : ℕ) → (left ≡ 0 → ⊥) → Continues m k r (Open t e) (ownBegun t e b left) n
+      → Continues m k r (Open t e) (beginAfter left t e b) n
   unfolding beginAfter
   after-begins zero z C = absurd (z refl)
   after-begins (suc left) z C = record { performs = λ looks j. C .performs looks j }
 
--- Another badge's abort: the caller has no debt, and keeps none.
+-- Another badge's abort.
 
-clear-looked : {t e : ℕ} {s : State} (a : ℕ) → Clear t e s → Clear t e (looked e a s .state)
-clear-looked {t} {e} {s} a C =
+ended-open : {t e : ℕ} {s : State} → Open t e s → Open t e (endAbort live e s)
+ended-open {t} {e} {s} O =
     record {
-      opened = open-looked a (C .opened);
-      debt = steady-lookUpTo a (pendingAt e s) e s .debt t ∙ C .debt;
-    }
-
-clear-endable : {t e : ℕ} {s : State} → Clear t e s → Endable e s
-clear-endable C = mid-endable (C .opened .mid) (C .opened .endpoint)
-
-ended-bare : {t e : ℕ} {s : State} → Clear t e s → Bare t e (endAbort live e s)
-ended-bare {t} {e} {s} C =
-    let O = C .opened in
-    record {
-      clear =
-          record {
-            opened =
-                record {
-                  mid = mid-endAbort live e s (live-present refl) (live-present (O .status)) (O .mid);
-                  endpoint = O .endpoint;
-                  runs = endAbort-runs s e live ∙ O .runs;
-                  status = ap (λ (x : Endpoint). x .status) (endAbort-entry s e live);
-                };
-            debt =
-                endAbort-debt s e live t (λ o. nothing-owns (C .debt) (O .mid .owners .each-other e t .0 o)) ∙ C .debt;
-          };
-      abort = ap (λ (x : Endpoint). x .abort) (endAbort-entry s e live);
+      mid = mid-endAbort live e s (live-present refl) (live-present (O .status)) (O .mid);
+      endpoint = O .endpoint;
+      runs = endAbort-runs s e live ∙ O .runs;
+      status = ap (λ (x : Endpoint). x .status) (endAbort-entry s e live);
     }
 
 module _ {m : List ℕ} {t e : ℕ} where
-  pub clear-within : Shown m (Clear t e) → Shown m (InMid e)
-  clear-within S = shown-for S (λ s C. open-within (C .opened))
+  pub endpoint-asked : Shown m (Open t e) → Shown m (IsEndpoint e)
+  endpoint-asked S = shown-for S (λ s O. O .endpoint)
 
-  pub clear-endpoint : Shown m (Clear t e) → Shown m (IsEndpoint e)
-  clear-endpoint S = shown-for S (λ s C. C .opened .endpoint)
-
-  pub clear-chooses : Shown m (Clear t e) → Shown m Chooses
-  clear-chooses S = shown-for S (λ s C. open-chooses (C .opened))
-
-  pub other-endable : Shown m (Clear t e) → Shown m (Endable e)
-  other-endable S = shown-for S (λ s C. clear-endable C)
-
-  pub bare-asked : {n : List ℕ} → EndsAbort m e 1 n → Shown m (Clear t e) → Shown n (Bare t e)
-  bare-asked E S =
+  pub over-asked : {n : List ℕ} → EndsAbort m e 1 n → Shown m (Open t e) → Shown n (Open t e)
+  over-asked E S =
       record {
         state = endAbort live e (S .state);
-        shows = E .does live refl .shows (S .state) (S .shows) (clear-endable (S .holds));
-        holds = ended-bare (S .holds);
+        shows = E .does live refl .shows (S .state) (S .shows) (S .holds .endpoint);
+        holds = ended-open (S .holds);
       }
 
 module _ {m n : List ℕ} {t e a k : ℕ} (L : LooksOn m e a k n) where
-  pub looked-clear : Shown m (Clear t e) → Shown n (Clear t e)
-  looked-clear S =
-      record {
-        state = looked e a (S .state) .state;
-        shows = L .shows (S .state) (S .shows) (open-within (S .holds .opened));
-        holds = clear-looked a (S .holds);
-      }
-
   module _ {r : ℕ} (T : Tells n (IsEndpoint e) r (endpointIn Part.Cursor e)) where
     -- The cursor's link tells what is left after the looks.
     tells-looked :
-        (s : State) → Shows m s → Clear t e s
+        (s : State) → Shows m s → Open t e s
         → (Shows n (looked e a s .state)) × (r ≡ endpointIn Part.Cursor e (looked e a s .state))
         × (k ≡ length (looked e a s .looks))
     tells-looked s M C =
-        let N = L .shows s M (open-within (C .opened)) in
-        (N, T .tells (looked e a s .state) N (C .opened .endpoint), L .counts s M (open-within (C .opened)))
+        let N = L .shows s M (open-within C) in
+        (N, T .tells (looked e a s .state) N (C .endpoint), L .counts s M (open-within C))
 
     pub other-broken :
         {o : List ℕ} {x y : Answer} (b : ℕ) → (r ≡ 0 → ⊥) → x ≡ counted 2 k → Accepts n x y Chooses o
-        → Performs m o y (Clear t e) (workOther t e a b)
+        → Performs m o y (Open t e) (workOther t e a b)
     unfolding workOther lookedOther finished
     other-broken {o} {x} b z i A =
         performs-each
@@ -339,7 +296,7 @@ module _ {m n : List ℕ} {t e a k : ℕ} (L : LooksOn m e a k n) where
         let N = tells-looked s M C in
         result-as
         (go w (some-left (pendingAt e (w .state)) (N .1) z) (N .2))
-        (at-state (A .performs (w .looks)) (N .0) (open-chooses (open-looked a (C .opened)))))
+        (at-state (A .performs (w .looks)) (N .0) (open-chooses (open-looked a C))))
       where
         go : (w : Looked) → HasFirst r (pendingAt e (w .state)) → k ≡ length (w .looks)
             → accept x (w .looks) (w .state) ≡ lookedOther t e a b w
@@ -349,17 +306,17 @@ module _ {m n : List ℕ} {t e a k : ℕ} (L : LooksOn m e a k n) where
 
     pub other-ended :
         {o q : List ℕ} {x : Answer} (b : ℕ) → r ≡ 0 → EndsAbort n e 1 o
-        → Continues o k x (Bare t e) (beginAfter (a - k) t e b) q → Performs m q x (Clear t e) (workOther t e a b)
+        → Continues o k x (Open t e) (beginAfter (a - k) t e b) q → Performs m q x (Open t e) (workOther t e a b)
     unfolding workOther lookedOther finished
     other-ended {o} {q} {x} b z E C =
         performs-each
         (λ s M D.
         let w = looked e a s in
         let N = tells-looked s M D in
-        let G = clear-looked a D in
+        let G = open-looked a D in
         result-as (go w (nothing-left (pendingAt e (w .state)) (N .1) z) (N .2))
         (at-state (C .performs (w .looks) (sym (N .2)))
-        (E .does live refl .shows (w .state) (N .0) (clear-endable G)) (ended-bare G)))
+        (E .does live refl .shows (w .state) (N .0) (G .endpoint)) (ended-open G)))
       where
         go : (w : Looked) → pendingAt e (w .state) ≡ [] → k ≡ length (w .looks)
             → beginAfter (a - k) t e b (w .looks) (endAbort live e (w .state)) ≡ lookedOther t e a b w

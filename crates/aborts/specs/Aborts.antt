@@ -2,14 +2,16 @@
 -- that it has already made.
 use Prim.Native.Nat.{ℕ, _≤_}
 use mathlib.Core.Path.{_≡_}
-use mathlib.Core.Option.{none, some}
+use mathlib.Core.Bool.{true}
+use mathlib.Core.Option.{some}
 use mathlib.Core.List.{List, [], _∷_}
 use lib.ListN.{length}
 use Rattle.machine.specs.declared.Answer.{Answer}
-use Rattle.machine.specs.State.{State, nothing, Abort, live}
+use Rattle.machine.specs.State.{State, live}
+use Rattle.machine.specs.Endpoints.{isAborting}
 use Rattle.machine.specs.Results.{Result, Look}
 use Rattle.machine.specs.Aborts.{Looked, pendingAt, lookUpTo, begin, join, ended, workOwn, abortAt}
-use Rattle.machine.specs.Mid.{Mid, Owed}
+use Rattle.machine.specs.Mid.{Mid}
 use Rattle.layout.specs.Shows.{Shows}
 use Rattle.endings.specs.Results.{Performs}
 
@@ -31,27 +33,10 @@ pub record Open (t e : ℕ) (s : State) : Type 0 where
   pub runs : s .runs ≡ some t
   pub status : s .endpoints e .status ≡ live
 
--- And t neither owns an abort nor has a note.
-pub record Clear (t e : ℕ) (s : State) : Type 0 where
-  pub opened : Open t e s
-  pub debt : s .threads t .debt ≡ nothing
-
--- And no abort stands at e.
-pub record Bare (t e : ℕ) (s : State) : Type 0 where
-  pub clear : Clear t e s
-  pub abort : s .endpoints e .abort ≡ none
-
--- And t has no debt but the abort of badge b at e.
-pub record Owing (t e b : ℕ) (s : State) : Type 0 where
-  pub opened : Open t e s
-  pub owed : Owed t e b s
-
--- And an abort stands at e, which t may own if it has no owner.
+-- And an abort stands at e.
 pub record Joining (t e : ℕ) (s : State) : Type 0 where
   pub opened : Open t e s
-  pub abort : Abort
-  pub stands : s .endpoints e .abort ≡ some abort
-  pub may-own : abort .owner ≡ none → s .threads t .debt ≡ nothing
+  pub stands : isAborting (s .endpoints e .abort) ≡ true
 
 -- What as many looks as the allowance a lets come to.
 abbrev pub looked : ℕ → ℕ → State → Looked

@@ -6,7 +6,7 @@ ghost use mathlib.Core.Path.{_≡_};
 ghost use Rattle.machine.specs.Aborts.{look, workOwn, beginAfter, workOther, abortOpen, abort};
 ghost use Rattle.store.specs.Steps.{Shown, Does};
 ghost use Rattle.endings.specs.Results.{Calling, Performs};
-ghost use Rattle.aborts.specs.Aborts.{Cursor, InMid, Open, Clear, Bare, Owing, Joining, LooksOn};
+ghost use Rattle.aborts.specs.Aborts.{Cursor, InMid, Open, Joining, LooksOn};
 ghost use Rattle.aborts.specs.Aborts.{Continues, ownEnded, ownBegun, joinedOn, unnoted};
 use layout::Field;
 use layout::Part;
@@ -47,8 +47,8 @@ fn look_up_to(tables: &mut [u32], e: usize, allowance: u32) -> u32
     allowance
 }
 
-// The call's own abort ends where nothing is left: the caller's ownership goes, and another owner gets a note. Else it
-// is broken off.
+// The call's own abort ends where nothing is left: the caller leaves its set, and the other members get notes. Else it is
+// broken off.
 fn end_own(tables: &mut [u32], t: usize, e: usize, count: u32) -> Answer
     requires { ⌜ Shown (now tables) (Open t e) ⌝ }
     ensures { λ r. ⌜ Continues (now (tables .entry)) count r (Open t e) (ownEnded t e) (now (tables .exit)) ⌝ }
@@ -57,7 +57,7 @@ fn end_own(tables: &mut [u32], t: usize, e: usize, count: u32) -> Answer
     if cursor != NOBODY {
         return endings::accept(tables, machine::counted(BROKEN_OFF, count));
     }
-    debts::drop_debt(tables, t);
+    debts::drop_debt(tables, t); // the note is for the others
     debts::end_abort(tables, e, codes::LIVE);
     endings::accept(tables, machine::counted(machine::codes::DONE, count))
 }
@@ -81,8 +81,8 @@ fn begin_own(
     badge: u32,
     earlier: u32,
 ) -> Answer
-    requires { ⌜ Shown (now tables) (Bare t e) × (earlier + allowance ≤ 65535) × (badge < 2 ^ 28) ⌝ }
-    ensures { λ r. ⌜ Continues (now (tables .entry)) earlier r (Bare t e)
+    requires { ⌜ Shown (now tables) (Open t e) × (earlier + allowance ≤ 65535) × (badge < 2 ^ 28) ⌝ }
+    ensures { λ r. ⌜ Continues (now (tables .entry)) earlier r (Open t e)
         (ownBegun t e badge allowance) (now (tables .exit)) ⌝ }
 {
     debts::begin(tables, t, e, badge);
@@ -98,8 +98,8 @@ fn begin_after(
     badge: u32,
     earlier: u32,
 ) -> Answer
-    requires { ⌜ Shown (now tables) (Bare t e) × (earlier + left ≤ 65535) × (badge < 2 ^ 28) ⌝ }
-    ensures { λ r. ⌜ Continues (now (tables .entry)) earlier r (Bare t e)
+    requires { ⌜ Shown (now tables) (Open t e) × (earlier + left ≤ 65535) × (badge < 2 ^ 28) ⌝ }
+    ensures { λ r. ⌜ Continues (now (tables .entry)) earlier r (Open t e)
         (beginAfter left t e badge) (now (tables .exit)) ⌝ }
 {
     if left == 0 {
@@ -110,8 +110,8 @@ fn begin_after(
 
 // Another badge's abort is finished first, at the expense of the allowance.
 fn work_other(tables: &mut [u32], t: usize, e: usize, allowance: u32, badge: u32) -> Answer
-    requires { ⌜ Shown (now tables) (Clear t e) × (allowance ≤ 65535) × (badge < 2 ^ 28) ⌝ }
-    ensures { λ r. ⌜ Performs (now (tables .entry)) (now (tables .exit)) r (Clear t e)
+    requires { ⌜ Shown (now tables) (Open t e) × (allowance ≤ 65535) × (badge < 2 ^ 28) ⌝ }
+    ensures { λ r. ⌜ Performs (now (tables .entry)) (now (tables .exit)) r (Open t e)
         (workOther t e allowance badge) ⌝ }
 {
     let n = look_up_to(tables, e, allowance);
@@ -135,8 +135,8 @@ fn join_own(tables: &mut [u32], t: usize, e: usize, allowance: u32) -> Answer
 
 // An abort is begun where none stands, joined where it is of this badge, and finished first where it is of another.
 fn abort_open(tables: &mut [u32], t: usize, e: usize, allowance: u32, badge: u32) -> Answer
-    requires { ⌜ Shown (now tables) (Owing t e badge) × (allowance ≤ 65535) × (badge < 2 ^ 28) ⌝ }
-    ensures { λ r. ⌜ Performs (now (tables .entry)) (now (tables .exit)) r (Owing t e badge)
+    requires { ⌜ Shown (now tables) (Open t e) × (allowance ≤ 65535) × (badge < 2 ^ 28) ⌝ }
+    ensures { λ r. ⌜ Performs (now (tables .entry)) (now (tables .exit)) r (Open t e)
         (abortOpen t e allowance badge) ⌝ }
 {
     let here = store::endpoint(tables, Part::Aborting, e);
@@ -150,7 +150,7 @@ fn abort_open(tables: &mut [u32], t: usize, e: usize, allowance: u32, badge: u32
     work_other(tables, t, e, allowance, badge)
 }
 
-// Refused where the endpoint is missing or closing. Else the caller's other debts go before the work.
+// Refused where the endpoint is missing or closing. Else the caller leaves its set, or loses its note, before the work.
 fn abort_at(tables: &mut [u32], t: usize, e: usize, allowance: u32, badge: u32) -> Answer
     requires { ⌜ Shown (now tables) (Calling t ((e ≤ 63) × (allowance ≤ 65535) × (badge < 2 ^ 28))) ⌝ }
     ensures { λ r. ⌜ Performs (now (tables .entry)) (now (tables .exit)) r
@@ -163,7 +163,7 @@ fn abort_at(tables: &mut [u32], t: usize, e: usize, allowance: u32, badge: u32) 
     if status == codes::CLOSING {
         return machine::plain(machine::codes::ENDPOINT_CLOSING);
     }
-    debts::drop_other(tables, t, e, badge);
+    debts::drop_debt(tables, t);
     abort_open(tables, t, e, allowance, badge)
 }
 
@@ -175,7 +175,7 @@ pub fn abort(tables: &mut [u32], t: usize, e: usize, allowance: u32, badge: u32)
 {
     let noted = debts::has_note(tables, t, e, badge);
     if noted {
-        store::set_owes(tables, t, codes::NOTHING, 0);
+        debts::drop_debt(tables, t); // the note goes, and nothing else changes
         return endings::accept(tables, machine::plain(machine::codes::DONE));
     }
     abort_at(tables, t, e, allowance, badge)

@@ -1,14 +1,13 @@
 -- Beginning an abort: the first and the last sender of a queue in which all send or all receive.
-use Prim.Native.Nat.{ℕ, _+_, _-_, _≤_}
+use Prim.Native.Nat.{ℕ, _+_, _≤_}
 use mathlib.Core.Path.{_≡_, refl, sym, _∙_, ap}
 use mathlib.Core.Logic.{_⊎_, inl, inr}
 use mathlib.Core.Option.{some}
 use mathlib.Core.List.{List, []}
-use native.Mathlib.Numerals.{add-one}
 use Rattle.machine.specs.Lists.{Mem}
-use Rattle.machine.specs.State.{State, Thread, sending, receiving, owns, Abort}
+use Rattle.machine.specs.State.{State, Thread, sending, receiving, Abort}
 use Rattle.machine.specs.Endpoints.{isSending, senders, setAbort}
-use Rattle.machine.specs.Aborts.{begin}
+use Rattle.machine.specs.Aborts.{join, begin}
 use Rattle.machine.proofs.Lists.{only-nil, only-all, only-none}
 use Rattle.layout.specs.Addresses.{endpointQueue}
 use Rattle.layout.specs.Words.{firstOf, lastOf, queuesOf}
@@ -17,8 +16,8 @@ use Rattle.layout.proofs.Standing.{queues-endpoint}
 use Rattle.links.specs.Links.{Last}
 use Rattle.layout.proofs.Chains.{first-zero}
 use Rattle.store.specs.Steps.{Shown, Does, Tells}
-use Rattle.store.specs.Store.{IsThread, SetsDebt, SetsAbort}
-use Rattle.debts.specs.Debts.{AllAt, Alike, BeginsAbort, FirstAt, firstSender, lastSender}
+use Rattle.store.specs.Store.{SetsAbort}
+use Rattle.debts.specs.Debts.{InRange, AllAt, Alike, BeginsAbort, FirstAt, firstSender, lastSender}
 
 -- The senders among waiters that all send, and that all receive.
 module _ (threads : ℕ → Thread) (e : ℕ) (l : List ℕ) where
@@ -56,30 +55,30 @@ module _ {m : List ℕ} {e r : ℕ} (F : FirstAt m e (2 + e) r) where
           absurd (z (j ∙ ap firstOf (all-receive (s .threads) e (s .endpoints e .waiters) f)))
 
 -- The abort that begins.
-abbrev begun : ℕ → ℕ → ℕ → State → Abort
-begun t e b s =
-    record { badge = b; owner = some t; pending = senders (s .threads) (s .endpoints e .waiters) }
+abbrev begun : ℕ → ℕ → State → Abort
+begun e b s = record { badge = b; pending = senders (s .threads) (s .endpoints e .waiters) }
 
 module _ {m n : List ℕ} {t e b c d : ℕ} (C : FirstAt m e (2 + e) c)
-    (D : Tells m (Alike e) d (lastSender e)) (A : SetsAbort m e 1 b (t + 1) c d n) where
-  stands : (s : State) → Shows m s → BeginsAbort t e s → Shows n (setAbort e (some (begun t e b s)) s)
+    (D : Tells m (Alike e) d (lastSender e)) (A : SetsAbort m e 1 b c d n) where
+  stands : (s : State) → Shows m s → BeginsAbort t e s → Shows n (setAbort e (some (begun e b s)) s)
   stands s M B =
-      A .some (begun t e b s) refl refl (add-one t) (C .sends refl .tells s M (B .waiters))
-      (D .tells s M (B .waiters)) .shows s M
+      A .some (begun e b s) refl refl (C .sends refl .tells s M (B .waiters)) (D .tells s M (B .waiters)) .shows s M
       (B .waiters .endpoint)
 
-  pub beginner-asked : Shown m (BeginsAbort t e) → Shown n (IsThread t)
+  range : (s : State) → BeginsAbort t e s → InRange t e (setAbort e (some (begun e b s)) s)
+  range s B = record { thread = B .thread; endpoint = B .waiters .endpoint }
+
+  pub beginner-asked : Shown m (BeginsAbort t e) → Shown n (InRange t e)
   beginner-asked S =
       record {
-        state = setAbort e (some (begun t e b (S .state))) (S .state);
+        state = setAbort e (some (begun e b (S .state))) (S .state);
         shows = stands (S .state) (S .shows) (S .holds);
-        holds = S .holds .thread;
+        holds = range (S .state) (S .holds);
       }
 
-  pub begins : {n′ : List ℕ} → SetsDebt n t (1 + e) 0 n′ → Does m n′ (BeginsAbort t e) (begin t e b)
+  pub begins : {o : List ℕ} → Does n o (InRange t e) (join t e) → Does m o (BeginsAbort t e) (begin t e b)
   unfolding begin
-  begins {n′} W =
+  begins J =
       record {
-        shows = λ s M B.
-            W .does (owns e) refl refl .shows (setAbort e (some (begun t e b s)) s) (stands s M B) (B .thread);
+        shows = λ s M B. J .shows (setAbort e (some (begun e b s)) s) (stands s M B) (range s B);
       }

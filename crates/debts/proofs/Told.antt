@@ -1,22 +1,22 @@
--- What the numbers of an abort and of a debt tell: the badge under abort, the note and the ownership of a thread.
+-- What the numbers of an abort and of a debt tell: the badge under abort, and the note of a thread.
 use Prim.Native.Nat.{ℕ, _+_, _≤_}
 use mathlib.Core.Path.{_≡_, refl, ap}
-use mathlib.Core.Bool.{Bool, false}
+use mathlib.Core.Bool.{false}
 use mathlib.Core.Option.{Option, none, some}
 use mathlib.Core.List.{List}
 use native.Mathlib.Omega.{arith}
 use lib.Dec.{eqb}
 use borrow.Author.Tests.{eq-eqb, ne-eqb}
-use Rattle.machine.specs.State.{Debt, nothing, owns, noted, Abort}
+use Rattle.machine.specs.State.{Debt, nothing, works, noted, Abort}
 use Rattle.machine.specs.Endpoints.{underAbort}
-use Rattle.machine.specs.Aborts.{hasNote, ownsThis}
+use Rattle.machine.specs.Aborts.{hasNote}
 use Rattle.layout.specs.declared.Field.{Field}
 use Rattle.layout.specs.declared.Part.{Part}
 use Rattle.layout.specs.Words.{debtCode, noteCode, abortCode, badgeCode}
 use Rattle.store.specs.Steps.{Tells}
 use Rattle.store.specs.Store.{IsThread, IsEndpoint}
 use Rattle.store.specs.Readings.{endpointIn, threadIn}
-use Rattle.debts.specs.Debts.{Says, InCall, underIn, notedIn, ownsIn}
+use Rattle.debts.specs.Debts.{Says, InCall, underIn, notedIn}
 
 -- The badge under abort.
 module _ {m : List ℕ} {e r : ℕ} (b : ℕ) (T : Tells m (IsEndpoint e) r (endpointIn Part.Aborting e)) where
@@ -36,14 +36,14 @@ module _ {m : List ℕ} {e r : ℕ} (b : ℕ) (T : Tells m (IsEndpoint e) r (end
       go none k j = absurd (z k)
       go (some a) k j = ap (λ y. eqb y b) j
 
--- A note, and an ownership.
+-- A note.
 module _ {m : List ℕ} {t r : ℕ} (e b : ℕ) (T : Tells m (IsThread t) r (threadIn Field.Owes t)) where
   pub note-none : (r ≡ 65 + e → ⊥) → Says m (InCall t e) false (notedIn t e b)
-  note-none z = record { says = λ s M C. go (s .threads t .debt) (T .tells s M (C .debtor .thread)) }
+  note-none z = record { says = λ s M C. go (s .threads t .debt) (T .tells s M (C .range .thread)) }
     where
       go : (d : Debt) → r ≡ debtCode d → false ≡ hasNote e b d
       go nothing k = refl
-      go (owns f) k = refl
+      go (works f) k = refl
       go (noted f c) k = rw (ne-eqb f e (λ j. z (omega arith)))
 
   pub note-some :
@@ -52,33 +52,10 @@ module _ {m : List ℕ} {t r : ℕ} (e b : ℕ) (T : Tells m (IsThread t) r (thr
   note-some {c} z U =
       record {
         says = λ s M C.
-            go (s .threads t .debt) (λ f q. C .debtor .stands f q .0) (T .tells s M (C .debtor .thread))
-            (U .tells s M (C .debtor .thread));
+            go (s .threads t .debt) (C .set) (T .tells s M (C .range .thread)) (U .tells s M (C .range .thread));
       }
     where
-      go : (d : Debt) → ((f : ℕ) → d ≡ owns f → f ≤ 63) → r ≡ debtCode d → c ≡ noteCode d → eqb c b ≡ hasNote e b d
+      go : (d : Debt) → ((f : ℕ) → d ≡ works f → f ≤ 63) → r ≡ debtCode d → c ≡ noteCode d → eqb c b ≡ hasNote e b d
       go nothing h k j = absurd (omega arith)
-      go (owns f) h k j = absurd (omega (arith, h f refl))
+      go (works f) h k j = absurd (omega (arith, h f refl))
       go (noted f x) h k j = rw (eq-eqb f e (let i : f ≡ e = omega arith in i)) (ap (λ y. eqb y b) j)
-
-  pub owns-none : (r ≡ 1 + e → ⊥) → Says m (InCall t e) false (ownsIn t e b)
-  owns-none z =
-      record { says = λ s M C. go (s .endpoints e .abort) (s .threads t .debt) (T .tells s M (C .debtor .thread)) }
-    where
-      go : (x : Option Abort) (d : Debt) → r ≡ debtCode d → false ≡ ownsThis x e b d
-      go x nothing k = refl
-      go x (owns f) k = rw (ne-eqb f e (λ j. z (omega arith)))
-      go x (noted f c) k = refl
-
-  pub owns-some : {u : Bool} → r ≡ 1 + e → Says m (IsEndpoint e) u (underIn e b) → Says m (InCall t e) u (ownsIn t e b)
-  owns-some {u} z U =
-      record {
-        says = λ s M C.
-            go (s .endpoints e .abort) (s .threads t .debt) (C .endpoint) (T .tells s M (C .debtor .thread))
-            (U .says s M (C .endpoint));
-      }
-    where
-      go : (x : Option Abort) (d : Debt) → e ≤ 63 → r ≡ debtCode d → u ≡ underAbort b x → u ≡ ownsThis x e b d
-      go x nothing h k j = absurd (omega arith)
-      go x (owns f) h k j = rw (eq-eqb f e (let i : f ≡ e = omega arith in i)) j
-      go x (noted f c) h k j = absurd (omega arith)

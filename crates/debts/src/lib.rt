@@ -1,11 +1,10 @@
-// Who owns an abort and who has a note of one: dropping them, beginning, joining and ending an abort; and who is first
-// at an endpoint. Each is a few steps of the store, and does what the machine's operation of its name does.
-ghost use Rattle.machine.specs.Endpoints.{dropDebt};
-ghost use Rattle.machine.specs.Aborts.{dropOther, join, begin};
+// Who works on an abort and who has a note of one: leaving and joining its set, beginning and ending an abort; and who
+// is first at an endpoint. Each is a few steps of the store, and does what the machine's operation of its name does.
+ghost use Rattle.machine.specs.Endpoints.{dropDebt, noteAll};
+ghost use Rattle.machine.specs.Aborts.{join, begin};
 ghost use Rattle.store.specs.Steps.{Shown, Does, Tells};
-ghost use Rattle.store.specs.Store.{IsEndpoint};
-ghost use Rattle.debts.specs.Debts.{Says, Debtor, InCall, underIn, notedIn, ownsIn, JoinsAbort, Endable, noting};
-ghost use Rattle.debts.specs.Debts.{EndsAbort};
+ghost use Rattle.store.specs.Store.{IsThread, IsEndpoint};
+ghost use Rattle.debts.specs.Debts.{Says, InRange, InCall, underIn, notedIn, noteOne, noting, EndsAbort};
 ghost use Rattle.debts.specs.Debts.{Alike, BeginsAbort, FirstAt, lastSender};
 use layout::Field;
 use layout::Part;
@@ -14,22 +13,12 @@ use layout::codes::ABORTING;
 use layout::codes::LINK;
 use layout::codes::NO_ABORT;
 use layout::codes::NOBODY;
-use layout::wide;
 
-// Thread t's ownership or note goes.
+// Thread t leaves the set that it is in, or its note goes.
 pub fn drop_debt(tables: &mut [u32], t: usize)
-    requires { ⌜ Shown (now tables) (Debtor t) ⌝ }
-    ensures { λ _. ⌜ Does (now (tables .entry)) (now (tables .exit)) (Debtor t) (dropDebt t) ⌝ }
+    requires { ⌜ Shown (now tables) (IsThread t) ⌝ }
+    ensures { λ _. ⌜ Does (now (tables .entry)) (now (tables .exit)) (IsThread t) (dropDebt t) ⌝ }
 {
-    let owes = store::thread(tables, Field::Owes, t);
-    if owes == codes::NOTHING {
-        return;
-    }
-    if owes < codes::NOTE {
-        store::set_owner(tables, (owes - codes::OWNER) as usize, NOBODY);
-        store::set_owes(tables, t, codes::NOTHING, 0);
-        return;
-    }
     store::set_owes(tables, t, codes::NOTHING, 0);
 }
 
@@ -60,69 +49,60 @@ pub fn has_note(tables: &[u32], t: usize, e: usize, badge: u32) -> bool
     note == badge
 }
 
-// Whether thread t owns the abort of this endpoint and badge.
-pub fn owns_this(tables: &[u32], t: usize, e: usize, badge: u32) -> bool
-    requires { ⌜ Shown (now tables) (InCall t e) ⌝ }
-    ensures { λ r. ⌜ Says (now (tables .entry)) (InCall t e) r (ownsIn t e badge) ⌝ }
+// Thread t joins the set at endpoint e.
+pub fn join(tables: &mut [u32], t: usize, e: usize)
+    requires { ⌜ Shown (now tables) (InRange t e) ⌝ }
+    ensures { λ _. ⌜ Does (now (tables .entry)) (now (tables .exit)) (InRange t e) (join t e) ⌝ }
+{
+    store::set_owes(tables, t, codes::MEMBER + e as u32, 0);
+}
+
+// Thread t gets a note of the badge if it is in the set at endpoint e.
+fn note_member(tables: &mut [u32], t: usize, e: usize, badge: u32)
+    requires { ⌜ Shown (now tables) (InRange t e) ⌝ }
+    ensures { λ _. ⌜ Does (now (tables .entry)) (now (tables .exit)) (InRange t e) (noteOne t e badge) ⌝ }
 {
     let owes = store::thread(tables, Field::Owes, t);
-    let code = codes::OWNER + e as u32;
-    if owes != code {
-        return false;
-    }
-    under_abort(tables, e, badge)
-}
-
-// Thread t's ownership or note goes, unless it owns the abort of this endpoint and badge.
-pub fn drop_other(tables: &mut [u32], t: usize, e: usize, badge: u32)
-    requires { ⌜ Shown (now tables) (InCall t e) ⌝ }
-    ensures { λ _. ⌜ Does (now (tables .entry)) (now (tables .exit)) (InCall t e) (dropOther t e badge) ⌝ }
-{
-    let own = owns_this(tables, t, e, badge);
-    if own {
+    let member = codes::MEMBER + e as u32;
+    if owes != member {
         return;
     }
-    drop_debt(tables, t);
+    store::set_owes(tables, t, codes::NOTE + e as u32, badge);
 }
 
-// Thread t joins the abort at endpoint e, and becomes its owner if it has none.
-pub fn join(tables: &mut [u32], t: usize, e: usize)
-    requires { ⌜ Shown (now tables) (JoinsAbort t e) ⌝ }
-    ensures { λ _. ⌜ Does (now (tables .entry)) (now (tables .exit)) (JoinsAbort t e) (join t e) ⌝ }
+// Each member of the set at endpoint e gets a note of the badge. The set stands in the threads' words alone, so all are
+// gone through.
+fn note_members(tables: &mut [u32], e: usize, badge: u32)
+    requires { ⌜ Shown (now tables) (IsEndpoint e) ⌝ }
+    ensures { λ _. ⌜ Does (now (tables .entry)) (now (tables .exit)) (IsEndpoint e) (noteAll e badge) ⌝ }
 {
-    let owner = store::endpoint(tables, Part::Owner, e);
-    if owner != NOBODY {
-        return;
+    let mut t = 0;
+    while t < 256 {
+        note_member(tables, t, e, badge);
+        t += 1;
     }
-    store::set_owner(tables, e, (t + wide::LINK) as u32);
-    store::set_owes(tables, t, codes::OWNER + e as u32, 0);
 }
 
-// The owner of the abort at endpoint e, if there is one, gets a note.
-fn note_owner(tables: &mut [u32], e: usize)
-    requires { ⌜ Shown (now tables) (Endable e) ⌝ }
-    ensures { λ _. ⌜ Does (now (tables .entry)) (now (tables .exit)) (Endable e) (noting e) ⌝ }
+// Each member of the set of the abort at endpoint e, if one stands, gets its note.
+fn note_set(tables: &mut [u32], e: usize)
+    requires { ⌜ Shown (now tables) (IsEndpoint e) ⌝ }
+    ensures { λ _. ⌜ Does (now (tables .entry)) (now (tables .exit)) (IsEndpoint e) (noting e) ⌝ }
 {
-    let owner = store::endpoint(tables, Part::Owner, e);
-    if owner == NOBODY {
+    let here = store::endpoint(tables, Part::Aborting, e);
+    if here == NO_ABORT {
         return;
     }
     let badge = store::endpoint(tables, Part::Aborted, e);
-    store::set_owes(
-        tables,
-        (owner - LINK) as usize,
-        codes::NOTE + e as u32,
-        badge,
-    );
+    note_members(tables, e, badge);
 }
 
 // The abort at endpoint e, if one stands, ends, and the endpoint has the status given.
 pub fn end_abort(tables: &mut [u32], e: usize, status: u32)
-    requires { ⌜ Shown (now tables) (Endable e) ⌝ }
+    requires { ⌜ Shown (now tables) (IsEndpoint e) ⌝ }
     ensures { λ _. ⌜ EndsAbort (now (tables .entry)) e status (now (tables .exit)) ⌝ }
 {
-    note_owner(tables, e);
-    store::set_abort(tables, e, NO_ABORT, 0, NOBODY, NOBODY, NOBODY);
+    note_set(tables, e);
+    store::set_abort(tables, e, NO_ABORT, 0, NOBODY, NOBODY);
     store::set_status(tables, e, status);
 }
 
@@ -162,14 +142,6 @@ pub fn begin(tables: &mut [u32], t: usize, e: usize, badge: u32)
 {
     let cursor = first_at(tables, e, codes::SENDING + e as u32);
     let end = last_sender(tables, e);
-    store::set_abort(
-        tables,
-        e,
-        ABORTING,
-        badge,
-        (t + wide::LINK) as u32,
-        cursor,
-        end,
-    );
-    store::set_owes(tables, t, codes::OWNER + e as u32, 0);
+    store::set_abort(tables, e, ABORTING, badge, cursor, end);
+    join(tables, t, e);
 }

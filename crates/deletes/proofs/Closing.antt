@@ -7,11 +7,10 @@ use mathlib.Core.List.{List, [], _∷_}
 use native.Mathlib.Omega.{arith}
 use Rattle.machine.specs.Lists.{Mem}
 use Rattle.machine.specs.State.{State, missing, closing, Endpoint, missingEndpoint, setEndpoint}
-use Rattle.machine.specs.Endpoints.{ownerOf, wakeFrom, dropDebt, endAbort}
+use Rattle.machine.specs.Endpoints.{wakeFrom, dropDebt, endAbort}
 use Rattle.machine.specs.Aborts.{oneMore, removeUpTo}
 use Rattle.machine.specs.Mid.{Mid}
-use Rattle.machine.proofs.Preserved.Statuses.{mid-entry}
-use Rattle.machine.proofs.Preserved.Ready.{none-some}
+use Rattle.machine.proofs.Preserved.Deletes.{mid-missing}
 use Rattle.machine.proofs.Preserved.Debts.{closing-present, closing-live, mid-dropDebt, dropDebt-drops, mid-endAbort}
 use Rattle.machine.proofs.Preserved.Debts.{endAbort-entry}
 use Rattle.machine.proofs.Preserved.Waking.{mid-wakeFrom}
@@ -63,16 +62,7 @@ pub closes-bare : {s : State} {e : ℕ} → Closes e s → s .endpoints e .abort
 closes-bare {s} {e} C = C .mid .statuses .no-abort e (closing-live (C .status))
 
 -- With nobody left it may be missing.
-pub mid-missing :
+pub closes-missing :
     {s : State} {e : ℕ} → Closes e s → s .endpoints e .waiters ≡ [] → Mid (setEndpoint e missingEndpoint s)
-mid-missing {s} {e} C w =
-    mid-entry s e missingEndpoint (sym w) (C .mid)
-    (record {
-      unused = λ h. refl;
-      empty = λ h. refl;
-      no-abort = λ h. refl;
-      badge = λ b h. absurd (none-some refl h);
-      part = λ b h. absurd (none-some refl h);
-      none-outside = λ t b h. absurd (none-some refl h);
-    })
-    (sym (ap ownerOf (closes-bare C)))
+closes-missing {s} {e} C w =
+    mid-missing e s (C .mid) w (closes-bare C)

@@ -9,22 +9,21 @@ use Rattle.machine.specs.Endpoints.{dropDebt, endAbort}
 use Rattle.machine.specs.Results.{Result, plain, counted, accept, refuse}
 use Rattle.machine.specs.Aborts.{deleted, deleteFrom, deleteAt, delete}
 use Rattle.machine.proofs.Preserved.Mid.{sound-mid}
-use Rattle.machine.proofs.Preserved.Debts.{mid-dropDebt}
 use Rattle.layout.specs.Addresses.{endpointQueue}
 use Rattle.layout.specs.declared.Part.{Part}
 use Rattle.layout.specs.Words.{statusCode}
 use Rattle.layout.specs.Shows.{Shows}
 use Rattle.links.specs.Links.{First}
 use Rattle.store.specs.Steps.{Shown, Does, Tells}
-use Rattle.store.specs.Store.{IsEndpoint, SetsStatus}
+use Rattle.store.specs.Store.{IsThread, IsEndpoint, SetsStatus}
 use Rattle.store.specs.Readings.{endpointIn}
 use Rattle.queues.specs.Queues.{Chooses}
-use Rattle.debts.specs.Debts.{Debtor, Endable, EndsAbort}
+use Rattle.debts.specs.Debts.{EndsAbort}
 use Rattle.endings.specs.Results.{Calling, Performs, Accepts}
 use Rattle.endings.proofs.Ends.{refused, performs-as, performs-after, shown-for}
-use Rattle.endings.proofs.Conditions.{mid-chooses, mid-endable, running-debtor}
+use Rattle.endings.proofs.Conditions.{mid-chooses, running-thread}
 use Rattle.deletes.specs.Deletes.{Closes, removal, Removes}
-use Rattle.deletes.proofs.Closing.{closes-ended, closes-removal, closes-bare, mid-missing}
+use Rattle.deletes.proofs.Closing.{closes-ended, closes-removal, closes-bare, closes-missing}
 use Rattle.deletes.proofs.Removing.{nobody, somebody}
 
 -- After the removal.
@@ -81,7 +80,7 @@ module _ {m n : List ℕ} {e a c : ℕ} (R : Removes m e a c n) where
           rw (empty s M C, closes-bare (after s C)) at N
 
       chooses : (s : State) → Shows m s → Closes e s → Chooses (setEndpoint e missingEndpoint (removal a e s .state))
-      chooses s M C = mid-chooses (mid-missing (after s C) (empty s M C))
+      chooses s M C = mid-chooses (closes-missing (after s C) (empty s M C))
 
       pub gone-asked : Shown m (Closes e) → Shown o Chooses
       gone-asked S =
@@ -131,25 +130,22 @@ module _ {m : List ℕ} {t e i : ℕ} (T : Tells m (IsEndpoint e) i (endpointIn 
     there : (s : State) → Shows m s → Calling t (e ≤ 63) s → s .endpoints e .status ≡ missing → ⊥
     there s M C h = present (T .tells s M (C .numbers) ∙ ap statusCode h)
 
-    debtor : (s : State) → Calling t (e ≤ 63) s → Debtor t s
-    debtor s C = running-debtor (sound-mid (C .sound)) (C .runs)
-
-    endable : (s : State) → Calling t (e ≤ 63) s → Endable e (dropDebt t s)
-    endable s C = mid-endable (mid-dropDebt s t (sound-mid (C .sound))) (C .numbers)
+    caller : (s : State) → Calling t (e ≤ 63) s → t ≤ 255
+    caller s C = running-thread (sound-mid (C .sound)) (C .runs)
 
     closes : (s : State) → Shows m s → Calling t (e ≤ 63) s → Closes e (endAbort closing e (dropDebt t s))
     closes s M C = closes-ended t (sound-mid (C .sound)) (C .numbers) (there s M C)
 
-    pub drop-asked : Shown m (Calling t (e ≤ 63)) → Shown m (Debtor t)
-    drop-asked S = shown-for S debtor
+    pub drop-asked : Shown m (Calling t (e ≤ 63)) → Shown m (IsThread t)
+    drop-asked S = shown-for S caller
 
-    module _ {n : List ℕ} (D : Does m n (Debtor t) (dropDebt t)) where
-      pub end-asked : Shown m (Calling t (e ≤ 63)) → Shown n (Endable e)
+    module _ {n : List ℕ} (D : Does m n (IsThread t) (dropDebt t)) where
+      pub end-asked : Shown m (Calling t (e ≤ 63)) → Shown n (IsEndpoint e)
       end-asked S =
           record {
             state = dropDebt t (S .state);
-            shows = D .shows (S .state) (S .shows) (debtor (S .state) (S .holds));
-            holds = endable (S .state) (S .holds);
+            shows = D .shows (S .state) (S .shows) (caller (S .state) (S .holds));
+            holds = S .holds .numbers;
           }
 
       module _ {o : List ℕ} (E : EndsAbort n e 2 o) where
@@ -157,7 +153,7 @@ module _ {m : List ℕ} {t e i : ℕ} (T : Tells m (IsEndpoint e) i (endpointIn 
         ended =
             record {
               shows = λ s M C.
-                  E .does closing refl .shows (dropDebt t s) (D .shows s M (debtor s C)) (endable s C);
+                  E .does closing refl .shows (dropDebt t s) (D .shows s M (caller s C)) (C .numbers);
             }
 
         pub from-asked : Shown m (Calling t (e ≤ 63)) → Shown o (Closes e)

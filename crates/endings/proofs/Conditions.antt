@@ -2,17 +2,18 @@
 use Prim.Native.Nat.{ℕ, _≤_, _<_}
 use mathlib.Core.Path.{_≡_, refl, sym, subst}
 use mathlib.Core.Logic.{_⊎_, inl, inr, ⊎-elim}
+use mathlib.Core.Bool.{true}
 use mathlib.Core.Option.{Option, none, some}
 use mathlib.Core.List.{List, [], _∷_}
 use native.Mathlib.Omega.{arith}
 use Rattle.machine.specs.Lists.{put, without, Mem}
-use Rattle.machine.specs.State.{State, Place, absent, able, sending, receiving, owns, Abort, awaited, quiet}
+use Rattle.machine.specs.State.{State, Place, absent, able, sending, receiving, Abort, awaited, quiet}
 use Rattle.machine.specs.State.{Endpoint, missingEndpoint, setLine}
-use Rattle.machine.specs.Endpoints.{ownerOf, pendingOf}
+use Rattle.machine.specs.Endpoints.{isAborting, pendingOf}
 use Rattle.machine.specs.Scheduling.{unqueue}
 use Rattle.machine.specs.Sound.{Present, Ready, Queued}
 use Rattle.machine.specs.Mid.{Mid}
-use Rattle.machine.proofs.Lists.{Same, same, other, same?, put-same, put-other, mem-without}
+use Rattle.machine.proofs.Lists.{Same, same, other, same?, clash, put-same, put-other, mem-without}
 use Rattle.machine.proofs.Preserved.Sites.{differ, not-at}
 use Rattle.machine.proofs.Preserved.Aborts.{running-present}
 use Rattle.layout.specs.Words.{queuesOf}
@@ -21,7 +22,7 @@ use Rattle.layout.proofs.Standing.{queue?, Queue, level, endpoint, queues-level
 use Rattle.links.specs.Links.{Free}
 use Rattle.store.specs.Store.{creating, prioritising}
 use Rattle.queues.specs.Queues.{Loose, InLevel, Chooses, ToEndpoint, InEndpoint}
-use Rattle.debts.specs.Debts.{Debtor, InCall, JoinsAbort, Endable, AllAt, Alike, BeginsAbort}
+use Rattle.debts.specs.Debts.{InRange, InCall, AllAt, Alike, BeginsAbort}
 
 -- A thread is in no queue if it is in no level's and no endpoint's.
 pub free-of :
@@ -106,12 +107,7 @@ module _ {s : State} (M : Mid s) where
   first-waits {t} {e} {l} k h =
       queued-waits (M .queues .queued t e .0 (subst (λ (x : List ℕ). Mem t x) (sym k) (inl refl))) h
 
-  -- Ownerships, notes and aborts.
-
-  owner-stands : {t e : ℕ} (x : Option Abort) → s .endpoints e .abort ≡ x → ownerOf x ≡ some t
-      → (a : Abort) × (s .endpoints e .abort ≡ some a)
-  owner-stands none k o = let z : _≡_ {A = ℕ} 0 1 = cc in absurd (omega arith)
-  owner-stands (some a) k o = (a, k)
+  -- Sets, notes and aborts.
 
   pub stands-small : {e : ℕ} {a : Abort} → s .endpoints e .abort ≡ some a → e ≤ 63
   stands-small {e} {a} k = go (below? e 64)
@@ -120,36 +116,19 @@ module _ {s : State} (M : Mid s) where
       go (inl h) = omega arith
       go (inr h) = no-abort (M .ranges .unused-endpoint e h) k
 
-  pub mid-debtor : {t : ℕ} → t ≤ 255 → Debtor t s
-  mid-debtor {t} h =
-      record {
-        thread = h;
-        stands = λ e d.
-            let v = owner-stands (s .endpoints e .abort) refl (M .owners .each-other e t .1 d) in
-            (stands-small (v .1), v);
-      }
+  aborting-small : {e : ℕ} → isAborting (s .endpoints e .abort) ≡ true → e ≤ 63
+  aborting-small {e} = go (s .endpoints e .abort) refl
+    where
+      go : (x : Option Abort) → s .endpoints e .abort ≡ x → isAborting x ≡ true → e ≤ 63
+      go none k h = absurd (clash h refl)
+      go (some a) k h = stands-small k
 
-  pub running-debtor : {t : ℕ} → s .runs ≡ some t → Debtor t s
-  running-debtor r = mid-debtor (running-thread r)
+  pub running-range : {t e : ℕ} → s .runs ≡ some t → e ≤ 63 → InRange t e s
+  running-range r h = record { thread = running-thread r; endpoint = h }
 
   pub running-calls : {t e : ℕ} → s .runs ≡ some t → e ≤ 63 → InCall t e s
-  running-calls r h = record { debtor = running-debtor r; endpoint = h }
-
-  pub running-joins : {t e : ℕ} {a : Abort} → s .runs ≡ some t → s .endpoints e .abort ≡ some a → JoinsAbort t e s
-  running-joins {a = a} r k = record { thread = running-thread r; stands = (stands-small k, (a, k)) }
-
-  owes-present : {t e : ℕ} → s .threads t .debt ≡ owns e → Present s t
-  owes-present {t} d k =
-      let z = M .ranges .unused-thread t k in
-      let z : _≡_ {A = ℕ} 0 1 = cc in
-      omega arith
-
-  pub mid-endable : {e : ℕ} → e ≤ 63 → Endable e s
-  mid-endable {e} h =
-      record {
-        endpoint = h;
-        owner = λ u o. present-thread (owes-present (M .owners .each-other e u .0 o));
-      }
+  running-calls {t} r h =
+      record { range = running-range r h; set = λ f d. aborting-small (M .members .stands f t d) }
 
   pub mid-alike : {e : ℕ} → e ≤ 63 → Alike e s
   mid-alike {e} h = record { endpoint = h; alike = go (s .endpoints e .waiters) refl }

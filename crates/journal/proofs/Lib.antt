@@ -10,3 +10,4 @@ pub mod Appended
 pub mod Answers
 pub mod Example
 pub mod Incident
+pub mod Joiners

@@ -33,13 +33,13 @@ queue-row q k h g i e =
     let r : (i - 2560) % 2 ≡ k = omega arith in
     rw (le-ltb i 2560 (omega arith), lt-ltb i 3200 (omega arith), d, r)
 
-endpoint-row : (e k : ℕ) → e ≤ 63 → k < 6 → nameOf (3200 + 6 * e + k) ≡ inEndpoint e k
+endpoint-row : (e k : ℕ) → e ≤ 63 → k < 5 → nameOf (3200 + 5 * e + k) ≡ inEndpoint e k
 unfolding nameOf
 endpoint-row e k h g =
-    let i = 3200 + 6 * e + k in
-    let d : (i - 3200) / 6 ≡ e = omega arith in
-    let r : (i - 3200) % 6 ≡ k = omega arith in
-    rw (le-ltb i 2560 (omega arith), le-ltb i 3200 (omega arith), lt-ltb i 3584 (omega arith), d, r)
+    let i = 3200 + 5 * e + k in
+    let d : (i - 3200) / 5 ≡ e = omega arith in
+    let r : (i - 3200) % 5 ≡ k = omega arith in
+    rw (le-ltb i 2560 (omega arith), le-ltb i 3200 (omega arith), lt-ltb i 3520 (omega arith), d, r)
 
 column-small : (f : Field) → column f < 10
 column-small Field.Place = omega arith
@@ -51,11 +51,10 @@ column-small Field.Message = omega arith
 column-small Field.Owes = omega arith
 column-small Field.Note = omega arith
 
-offset-small : (p : Part) → offset p < 6
+offset-small : (p : Part) → offset p < 5
 offset-small Part.Status = omega arith
 offset-small Part.Aborting = omega arith
 offset-small Part.Aborted = omega arith
-offset-small Part.Owner = omega arith
 offset-small Part.Cursor = omega arith
 offset-small Part.End = omega arith
 
@@ -75,39 +74,38 @@ unfolding inEndpoint
 part-name Part.Status e = refl
 part-name Part.Aborting e = refl
 part-name Part.Aborted e = refl
-part-name Part.Owner e = refl
 part-name Part.Cursor e = refl
 part-name Part.End e = refl
 
--- An address from 3584 on has the name that its range says.
+-- An address from 3520 on has the name that its range says.
 module _ (i : ℕ) where
-  line-name : 3584 ≤ i → i < 3616 → nameOf i ≡ slot (Slot.Line (i - 3584))
+  line-name : 3520 ≤ i → i < 3552 → nameOf i ≡ slot (Slot.Line (i - 3520))
   unfolding nameOf
   line-name h g =
-      rw (le-ltb i 2560 (omega arith), le-ltb i 3200 (omega arith), le-ltb i 3584 h, lt-ltb i 3616 g)
+      rw (le-ltb i 2560 (omega arith), le-ltb i 3200 (omega arith), le-ltb i 3520 h, lt-ltb i 3552 g)
 
-  summary-name : 3616 ≤ i → i < 3624 → nameOf i ≡ slot (Slot.Summary (i - 3616))
+  summary-name : 3552 ≤ i → i < 3560 → nameOf i ≡ slot (Slot.Summary (i - 3552))
   unfolding nameOf
   summary-name h g =
       rw (
         le-ltb i 2560 (omega arith),
         le-ltb i 3200 (omega arith),
-        le-ltb i 3584 (omega arith),
-        le-ltb i 3616 h,
-        lt-ltb i 3624 g,
+        le-ltb i 3520 (omega arith),
+        le-ltb i 3552 h,
+        lt-ltb i 3560 g,
       )
 
-  unused-name : 3626 ≤ i → nameOf i ≡ slot (Slot.Unused (i - 3626))
+  unused-name : 3562 ≤ i → nameOf i ≡ slot (Slot.Unused (i - 3562))
   unfolding nameOf
   unused-name h =
       rw (
         le-ltb i 2560 (omega arith),
         le-ltb i 3200 (omega arith),
-        le-ltb i 3584 (omega arith),
-        le-ltb i 3616 (omega arith),
-        le-ltb i 3624 (omega arith),
-        le-ltb i 3625 (omega arith),
-        le-ltb i 3626 h,
+        le-ltb i 3520 (omega arith),
+        le-ltb i 3552 (omega arith),
+        le-ltb i 3560 (omega arith),
+        le-ltb i 3561 (omega arith),
+        le-ltb i 3562 h,
       )
 
 name-at : (a : Slot) → ValidSlot a → nameOf (at a) ≡ slot a
@@ -115,16 +113,16 @@ unfolding at
 name-at (Slot.Thread f t) h = thread-row t (column f) h (column-small f) ∙ field-name f t
 name-at (Slot.Endpoint p e) h = endpoint-row e (offset p) h (offset-small p) ∙ part-name p e
 name-at (Slot.Line l) h =
-    line-name (3584 + l) (omega arith) (omega arith)
-    ∙ ap (λ (k : ℕ). slot (Slot.Line k)) (let e : 3584 + l - 3584 ≡ l = omega arith in e)
+    line-name (3520 + l) (omega arith) (omega arith)
+    ∙ ap (λ (k : ℕ). slot (Slot.Line k)) (let e : 3520 + l - 3520 ≡ l = omega arith in e)
 name-at (Slot.Summary w) h =
-    summary-name (3616 + w) (omega arith) (omega arith)
-    ∙ ap (λ (k : ℕ). slot (Slot.Summary k)) (let e : 3616 + w - 3616 ≡ w = omega arith in e)
+    summary-name (3552 + w) (omega arith) (omega arith)
+    ∙ ap (λ (k : ℕ). slot (Slot.Summary k)) (let e : 3552 + w - 3552 ≡ w = omega arith in e)
 name-at Slot.Top h = unfold nameOf in refl
 name-at Slot.Running h = unfold nameOf in refl
 name-at (Slot.Unused i) h =
-    unused-name (3626 + i) (omega arith)
-    ∙ ap (λ (k : ℕ). slot (Slot.Unused k)) (let e : 3626 + i - 3626 ≡ i = omega arith in e)
+    unused-name (3562 + i) (omega arith)
+    ∙ ap (λ (k : ℕ). slot (Slot.Unused k)) (let e : 3562 + i - 3562 ≡ i = omega arith in e)
 
 name-linkAt : (k : Link) → ValidLink k → nameOf (linkAt k) ≡ link k
 unfolding linkAt inThread inQueue
@@ -205,17 +203,15 @@ in-queue q zero i h g e = record { name = link (Link.Head q); valid = h; here = 
 in-queue q (suc zero) i h g e = record { name = link (Link.Tail q); valid = h; here = omega arith }
 in-queue q (suc (suc k)) i h g e = absurd (omega arith)
 
-in-endpoint : (n k i : ℕ) → n ≤ 63 → k < 6 → 3200 + 6 * n + k ≡ i → HasName i
+in-endpoint : (n k i : ℕ) → n ≤ 63 → k < 5 → 3200 + 5 * n + k ≡ i → HasName i
 unfolding at
 in-endpoint n zero i h g e = record { name = slot (Slot.Endpoint Part.Status n); valid = h; here = e }
 in-endpoint n (suc zero) i h g e = record { name = slot (Slot.Endpoint Part.Aborting n); valid = h; here = e }
 in-endpoint n (suc (suc zero)) i h g e = record { name = slot (Slot.Endpoint Part.Aborted n); valid = h; here = e }
-in-endpoint n (suc (suc (suc zero))) i h g e = record { name = slot (Slot.Endpoint Part.Owner n); valid = h; here = e }
+in-endpoint n (suc (suc (suc zero))) i h g e = record { name = slot (Slot.Endpoint Part.Cursor n); valid = h; here = e }
 in-endpoint n (suc (suc (suc (suc zero)))) i h g e =
-    record { name = slot (Slot.Endpoint Part.Cursor n); valid = h; here = e }
-in-endpoint n (suc (suc (suc (suc (suc zero))))) i h g e =
     record { name = slot (Slot.Endpoint Part.End n); valid = h; here = e }
-in-endpoint n (suc (suc (suc (suc (suc (suc k)))))) i h g e = absurd (omega arith)
+in-endpoint n (suc (suc (suc (suc (suc k))))) i h g e = absurd (omega arith)
 
 -- Whether a number is below a bound.
 pub below? : (i n : ℕ) → (i < n) ⊎ (n ≤ i)
@@ -226,33 +222,33 @@ below? i n = go (ltb i n) refl
     go false e = inr (ltb-false i n e)
 
 module _ (i : ℕ) (small : i < tableWords) where
-  from-marks : 3624 ≤ i → HasName i
+  from-marks : 3560 ≤ i → HasName i
   unfolding at
-  from-marks h = go (below? i 3625) (below? i 3626)
+  from-marks h = go (below? i 3561) (below? i 3562)
     where
-      go : (i < 3625) ⊎ (3625 ≤ i) → (i < 3626) ⊎ (3626 ≤ i) → HasName i
+      go : (i < 3561) ⊎ (3561 ≤ i) → (i < 3562) ⊎ (3562 ≤ i) → HasName i
       go (inl g) k = record { name = slot Slot.Top; valid = tt; here = omega arith }
       go (inr g) (inl k) = record { name = slot Slot.Running; valid = tt; here = omega arith }
-      go (inr g) (inr k) = record { name = slot (Slot.Unused (i - 3626)); valid = omega arith; here = omega arith }
+      go (inr g) (inr k) = record { name = slot (Slot.Unused (i - 3562)); valid = omega arith; here = omega arith }
 
-  from-lines : 3584 ≤ i → HasName i
+  from-lines : 3520 ≤ i → HasName i
   unfolding at
-  from-lines h = go (below? i 3616) (below? i 3624)
+  from-lines h = go (below? i 3552) (below? i 3560)
     where
-      go : (i < 3616) ⊎ (3616 ≤ i) → (i < 3624) ⊎ (3624 ≤ i) → HasName i
-      go (inl g) k = record { name = slot (Slot.Line (i - 3584)); valid = omega arith; here = omega arith }
-      go (inr g) (inl k) = record { name = slot (Slot.Summary (i - 3616)); valid = omega arith; here = omega arith }
+      go : (i < 3552) ⊎ (3552 ≤ i) → (i < 3560) ⊎ (3560 ≤ i) → HasName i
+      go (inl g) k = record { name = slot (Slot.Line (i - 3520)); valid = omega arith; here = omega arith }
+      go (inr g) (inl k) = record { name = slot (Slot.Summary (i - 3552)); valid = omega arith; here = omega arith }
       go (inr g) (inr k) = from-marks k
 
   pub named : HasName i
-  named = go (below? i 2560) (below? i 3200) (below? i 3584)
+  named = go (below? i 2560) (below? i 3200) (below? i 3520)
     where
-      go : (i < 2560) ⊎ (2560 ≤ i) → (i < 3200) ⊎ (3200 ≤ i) → (i < 3584) ⊎ (3584 ≤ i) → HasName i
+      go : (i < 2560) ⊎ (2560 ≤ i) → (i < 3200) ⊎ (3200 ≤ i) → (i < 3520) ⊎ (3520 ≤ i) → HasName i
       go (inl g) k l = in-thread (i / 10) (i % 10) i (omega arith) (omega arith) (omega arith)
       go (inr g) (inl k) l =
           in-queue ((i - 2560) / 2) ((i - 2560) % 2) i (omega arith) (omega arith) (omega arith)
       go (inr g) (inr k) (inl l) =
-          in-endpoint ((i - 3200) / 6) ((i - 3200) % 6) i (omega arith) (omega arith) (omega arith)
+          in-endpoint ((i - 3200) / 5) ((i - 3200) % 5) i (omega arith) (omega arith) (omega arith)
       go (inr g) (inr k) (inr l) = from-lines l
 
 -- A word after a store.

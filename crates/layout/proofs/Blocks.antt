@@ -4,7 +4,7 @@ use mathlib.Core.Path.{_≡_, refl, sym, _∙_, ap}
 use mathlib.Core.Logic.{_⊎_, inl, inr}
 use native.Mathlib.Omega.{arith}
 use borrow.Author.Tests.{eq-eqb, ne-eqb}
-use Rattle.machine.specs.State.{Thread, Place, absent, able, sending, receiving, waiting, Debt, nothing, owns, noted}
+use Rattle.machine.specs.State.{Thread, Place, absent, able, sending, receiving, waiting, Debt, nothing, works, noted}
 use Rattle.machine.specs.State.{absentThread}
 use Rattle.machine.specs.Sound.{Stores, DebtInRange, Numbers}
 use Rattle.machine.proofs.Lists.{Same, same, other, same?}
@@ -119,7 +119,7 @@ stored-back p o w h b = go (stores? p o)
 
 pub debt-in-range : (d : Debt) → DebtSmall d → DebtInRange d
 debt-in-range nothing h = tt
-debt-in-range (owns e) h = tt
+debt-in-range (works e) h = tt
 debt-in-range (noted e b) h = h
 
 present-neat :

@@ -7,17 +7,16 @@ use mathlib.Core.List.{List, []}
 use native.Mathlib.Omega.{arith}
 use Rattle.machine.specs.Lists.{Mem, Distinct}
 use Rattle.machine.specs.State.{Abort, Status, missing, live, closing, Endpoint, missingEndpoint}
-use Rattle.machine.specs.Endpoints.{ownerOf, pendingOf}
+use Rattle.machine.specs.Endpoints.{pendingOf}
 use Rattle.layout.specs.declared.Part.{Part}
 use Rattle.layout.specs.Words.{statusCode, abortCode, badgeCode, endpointWord}
 use Rattle.layout.specs.Decode.{abortBy, endpointBy, endpointFrom}
-use Rattle.layout.proofs.RoundTrip.{within-small, within-same, linked-small, linked-back}
+use Rattle.layout.proofs.RoundTrip.{within-small, within-same}
 use Rattle.layout.proofs.Following.{PartOf, between-within, between-back}
 
 -- What Sound asks of an abort, if there is one, at a queue, and of an endpoint alone.
 pub record NeatAbort (l : List ℕ) (o : Option Abort) : Type 0 where
   pub badge : badgeCode o < 2 ^ 28
-  pub owner : (t : ℕ) → ownerOf o ≡ some t → t ≤ 255
   pub part : PartOf l (pendingOf o)
 
 pub record NeatEndpoint (x : Endpoint) : Type 0 where
@@ -34,7 +33,6 @@ pub no-abort-neat : (l : List ℕ) → NeatAbort l none
 no-abort-neat l =
     record {
       badge = omega arith;
-      owner = λ t e. none-some e;
       part = record { before = []; behind = l; within = refl };
     }
 
@@ -46,7 +44,6 @@ abort-neat zero w l = no-abort-neat l
 abort-neat (suc n) w l =
     record {
       badge = omega (arith, within-small (2 ^ 28 - 1) (w Part.Aborted));
-      owner = linked-small (w Part.Owner);
       part = between-within (w Part.Cursor) (w Part.End) l;
     }
 
@@ -86,7 +83,6 @@ module _ (x : Endpoint) (X : NeatEndpoint x) (d : Distinct (x .waiters)) where
       (λ i.
       record {
         badge = (within-same (2 ^ 28 - 1) (badgeCode (x .abort)) (omega (arith, X .neat .badge)) ∙ ap badgeCode e) i;
-        owner = (linked-back (ownerOf (x .abort)) (X .neat .owner) ∙ ap ownerOf e) i;
         pending = (between-back (x .waiters) (pendingOf (x .abort)) (X .neat .part) d ∙ ap pendingOf e) i;
       })
 

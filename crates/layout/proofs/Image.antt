@@ -162,7 +162,6 @@ fresh-endpoint : (p : Part) → endpointWord missingEndpoint p ≡ 0
 fresh-endpoint Part.Status = refl
 fresh-endpoint Part.Aborting = refl
 fresh-endpoint Part.Aborted = refl
-fresh-endpoint Part.Owner = refl
 fresh-endpoint Part.Cursor = refl
 fresh-endpoint Part.End = refl
 

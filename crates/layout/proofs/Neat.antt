@@ -6,15 +6,16 @@ use mathlib.Core.Option.{Option, none, some}
 use mathlib.Core.List.{List, [], _∷_}
 use native.Mathlib.Omega.{arith}
 use Rattle.machine.specs.Lists.{Mem}
-use Rattle.machine.specs.State.{State, Thread, Place, absent, able, sending, receiving, waiting, Debt, nothing, owns}
+use Rattle.machine.specs.State.{State, Thread, Place, absent, able, sending, receiving, waiting, Debt, nothing, works}
 use Rattle.machine.specs.State.{noted, Abort, Endpoint, quiet, awaited, missingEndpoint}
-use Rattle.machine.specs.Endpoints.{ownerOf}
+use Rattle.machine.specs.Endpoints.{isAborting}
 use Rattle.machine.specs.Sound.{Present, Sound}
+use Rattle.machine.proofs.Lists.{clash}
 use Rattle.layout.specs.Words.{placeCode, debtCode, lineCode}
 use Rattle.layout.proofs.Addresses.{below?}
 use Rattle.layout.proofs.RoundTrip.{PlaceSmall, DebtSmall, not-absent}
 use Rattle.layout.proofs.Blocks.{NeatThread, absent?}
-use Rattle.layout.proofs.Ends.{NeatAbort, NeatEndpoint, no-abort-neat, none-some}
+use Rattle.layout.proofs.Ends.{NeatAbort, NeatEndpoint, no-abort-neat}
 use Rattle.layout.proofs.Standing.{queued-present, level-small, endpoint-small}
 
 pub record NeatState (s : State) : Type 0 where
@@ -51,14 +52,13 @@ module _ (s : State) (S : Sound s) where
 
   debt-in-range : (t : ℕ) (d : Debt) → s .threads t .debt ≡ d → DebtSmall d
   debt-in-range t nothing e = tt
-  debt-in-range t (owns n) e = go (below? n 64)
+  debt-in-range t (works n) e = go (below? n 64)
     where
       go : (n < 64) ⊎ (64 ≤ n) → n ≤ 63
       go (inl h) = omega arith
       go (inr h) =
-          none-some
-          (ap (λ (x : Endpoint). ownerOf (x .abort)) (sym (S .ranges .unused-endpoint n h))
-          ∙ S .owners .each-other n t .1 e)
+          let none-there = ap (λ (x : Endpoint). isAborting (x .abort)) (S .ranges .unused-endpoint n h) in
+          absurd (clash (S .members .stands n t e) none-there)
   debt-in-range t (noted n b) e = go (absent? (s .threads t .place))
     where
       go : (s .threads t .place ≡ absent) ⊎ Present s t → (n ≤ 63) × (b < 2 ^ 28)
@@ -67,26 +67,12 @@ module _ (s : State) (S : Sound s) where
           (omega (arith, ap (λ (x : Thread). debtCode (x .debt)) (sym (S .ranges .unused-thread t h)) ∙ ap debtCode e))
       go (inr h) = rw e at (S .ranges .numbers t h .debt)
 
-  owner-in-range : (e t : ℕ) → ownerOf (s .endpoints e .abort) ≡ some t → t ≤ 255
-  owner-in-range e t o = go (absent? (s .threads t .place))
-    where
-      go : (s .threads t .place ≡ absent) ⊎ Present s t → t ≤ 255
-      go (inl h) =
-          absurd
-          (omega (
-            arith,
-            ap (λ (x : Thread). debtCode (x .debt)) (sym (S .ranges .unused-thread t h))
-                ∙ ap debtCode (S .owners .each-other e t .0 o),
-          ))
-      go (inr h) = S .ranges .numbers t h .thread
-
   abort-in-range : (e : ℕ) (o : Option Abort) → s .endpoints e .abort ≡ o → NeatAbort (s .endpoints e .waiters) o
   abort-in-range e none h = no-abort-neat (s .endpoints e .waiters)
   abort-in-range e (some a) h =
       let p = S .marks .part e a h in
       record {
         badge = S .ranges .abort-badge e a h;
-        owner = λ t o. owner-in-range e t (ap ownerOf h ∙ o);
         part = record { before = p .before; behind = p .behind; within = p .within };
       }
 

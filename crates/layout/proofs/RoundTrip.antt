@@ -7,7 +7,7 @@ use native.Mathlib.Omega.{arith}
 use lib.Dec.{eqb, ltb, leb}
 use borrow.Author.Tests.{ne-eqb, lt-ltb, le-ltb, le-leb, leb-true}
 use Rattle.machine.specs.Lists.{pick}
-use Rattle.machine.specs.State.{Place, absent, able, sending, receiving, waiting, Debt, nothing, owns, noted, Line}
+use Rattle.machine.specs.State.{Place, absent, able, sending, receiving, waiting, Debt, nothing, works, noted, Line}
 use Rattle.machine.specs.State.{quiet, pending, awaited}
 use Rattle.layout.specs.Words.{linkOf, placeCode, debtCode, noteCode, lineCode}
 use Rattle.layout.specs.Decode.{orZero, linked, ticksOf, placeOf, debtOf, lineBy}
@@ -113,7 +113,7 @@ not-absent {p} {q} e h f = omega (arith, ap placeCode e, ap placeCode f)
 
 abbrev pub DebtSmall : Debt → Type 0
 DebtSmall nothing = Unit {0}
-DebtSmall (owns e) = e ≤ 63
+DebtSmall (works e) = e ≤ 63
 DebtSmall (noted e b) = (e ≤ 63) × (b < 2 ^ 28)
 
 pub debt-small : (w b : ℕ) → DebtSmall (debtOf w b)
@@ -125,7 +125,7 @@ debt-small w b =
 pub debt-back : (d : Debt) → DebtSmall d → debtOf (debtCode d) (noteCode d) ≡ d
 unfolding debtOf
 debt-back nothing h = refl
-debt-back (owns e) h =
+debt-back (works e) h =
     let d : 1 + e - 1 ≡ e = omega arith in
     rw (ne-eqb (1 + e) 0 (omega arith), lt-ltb (1 + e) 65 (omega arith), d, within-same 63 e h)
 debt-back (noted e b) h =

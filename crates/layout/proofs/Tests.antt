@@ -1,5 +1,5 @@
 -- A test tells a fact: it is true exactly where the fact holds. Tests of joined facts, and of facts about each index.
-use Prim.Native.Nat.{ℕ, zero, suc, _+_, _≤_, _<_}
+use Prim.Native.Nat.{ℕ, zero, suc, _≤_, _<_}
 use mathlib.Core.Path.{_≡_, refl, sym, _∙_, ap, subst}
 use mathlib.Core.Logic.{_⊎_, inl, inr, _↔_, ⊎-elim}
 use mathlib.Core.Bool.{Bool, true, false, not, _&&_, _||_}
@@ -9,9 +9,10 @@ use native.Mathlib.Omega.{arith}
 use lib.Dec.{eqb, leb}
 use borrow.Author.Tests.{eqb-true, eq-eqb, leb-true, le-leb}
 use Rattle.machine.specs.Lists.{Mem}
-use Rattle.machine.specs.State.{Place, Debt, nothing, owns, noted, Line, quiet, pending, awaited}
+use Rattle.machine.specs.State.{Place, Abort, Line, quiet, pending, awaited}
+use Rattle.machine.specs.Endpoints.{isAborting}
 use Rattle.machine.proofs.Lists.{Same, same, other, same?, clash}
-use Rattle.layout.specs.Words.{linkOf, placeCode, debtCode, lineCode}
+use Rattle.layout.specs.Words.{linkOf, placeCode, lineCode, abortCode}
 use Rattle.layout.specs.Decode.{placeOf}
 use Rattle.layout.specs.Tests.{all, member, same as agree}
 use Rattle.layout.proofs.RoundTrip.{PlaceSmall, place-back}
@@ -123,10 +124,6 @@ tells-awaited x t = tells-map (go x) (ap lineCode) (tells-eqb (lineCode x) (suc 
     go pending e = absurd (omega arith)
     go (awaited u) e = ap awaited (let f : u ≡ t = omega arith in f)
 
-pub tells-owns : (d : Debt) (e : ℕ) → e ≤ 63 → Decides (eqb (debtCode d) (1 + e)) (d ≡ owns e)
-tells-owns d e h = tells-map (go d) (ap debtCode) (tells-eqb (debtCode d) (1 + e))
-  where
-    go : (d : Debt) → debtCode d ≡ 1 + e → d ≡ owns e
-    go nothing i = absurd (omega arith)
-    go (owns n) i = ap owns (let f : n ≡ e = omega arith in f)
-    go (noted n b) i = absurd (omega arith)
+pub tells-stands : (o : Option Abort) → Decides (eqb (abortCode o) 1) (isAborting o ≡ true)
+tells-stands none = tells-false (λ e. clash e refl)
+tells-stands (some a) = tells-true refl

@@ -33,7 +33,7 @@ ValidSlot (Slot.Line l) = l ≤ 31
 ValidSlot (Slot.Summary w) = w ≤ 7
 ValidSlot Slot.Top = Unit {0}
 ValidSlot Slot.Running = Unit {0}
-ValidSlot (Slot.Unused i) = i ≤ 469
+ValidSlot (Slot.Unused i) = i ≤ 533
 
 abbrev pub ValidLink : Link → Type 0
 ValidLink (Link.Next t) = t ≤ 255
@@ -45,7 +45,7 @@ abbrev pub Valid : Name → Type 0
 Valid (slot a) = ValidSlot a
 Valid (link k) = ValidLink k
 
--- The place of a word in the thread's ten, and in the endpoint's six.
+-- The place of a word in the thread's ten, and in the endpoint's five.
 abbrev pub column : Field → ℕ
 column Field.Place = 0
 column Field.Priority = 1
@@ -60,18 +60,17 @@ abbrev pub offset : Part → ℕ
 offset Part.Status = 0
 offset Part.Aborting = 1
 offset Part.Aborted = 2
-offset Part.Owner = 3
-offset Part.Cursor = 4
-offset Part.End = 5
+offset Part.Cursor = 3
+offset Part.End = 4
 
 unfoldable pub at : Slot → ℕ
 at (Slot.Thread f t) = 10 * t + column f
-at (Slot.Endpoint p e) = 3200 + 6 * e + offset p
-at (Slot.Line l) = 3584 + l
-at (Slot.Summary w) = 3616 + w
-at Slot.Top = 3624
-at Slot.Running = 3625
-at (Slot.Unused i) = 3626 + i
+at (Slot.Endpoint p e) = 3200 + 5 * e + offset p
+at (Slot.Line l) = 3520 + l
+at (Slot.Summary w) = 3552 + w
+at Slot.Top = 3560
+at Slot.Running = 3561
+at (Slot.Unused i) = 3562 + i
 
 unfoldable pub linkAt : Link → ℕ
 linkAt (Link.Next t) = 10 * t + 6
@@ -99,17 +98,17 @@ unfoldable pub inEndpoint : ℕ → ℕ → Name
 inEndpoint e k =
     getD
     (slot (Slot.Endpoint Part.Status e) ∷ slot (Slot.Endpoint Part.Aborting e) ∷ slot (Slot.Endpoint Part.Aborted e)
-    ∷ slot (Slot.Endpoint Part.Owner e) ∷ slot (Slot.Endpoint Part.Cursor e) ∷ slot (Slot.Endpoint Part.End e) ∷ [])
+    ∷ slot (Slot.Endpoint Part.Cursor e) ∷ slot (Slot.Endpoint Part.End e) ∷ [])
     k (slot Slot.Top)
 
 unfoldable pub nameOf : ℕ → Name
 nameOf i =
     pick (ltb i 2560) (inThread (i / 10) (i % 10))
     (pick (ltb i 3200) (inQueue ((i - 2560) / 2) ((i - 2560) % 2))
-    (pick (ltb i 3584) (inEndpoint ((i - 3200) / 6) ((i - 3200) % 6))
-    (pick (ltb i 3616) (slot (Slot.Line (i - 3584)))
-    (pick (ltb i 3624) (slot (Slot.Summary (i - 3616)))
-    (pick (ltb i 3625) (slot Slot.Top) (pick (ltb i 3626) (slot Slot.Running) (slot (Slot.Unused (i - 3626)))))))))
+    (pick (ltb i 3520) (inEndpoint ((i - 3200) / 5) ((i - 3200) % 5))
+    (pick (ltb i 3552) (slot (Slot.Line (i - 3520)))
+    (pick (ltb i 3560) (slot (Slot.Summary (i - 3552)))
+    (pick (ltb i 3561) (slot Slot.Top) (pick (ltb i 3562) (slot Slot.Running) (slot (Slot.Unused (i - 3562)))))))))
 
 -- The word at an address, 0 past the end.
 unfoldable pub word : List ℕ → ℕ → ℕ

@@ -5,7 +5,7 @@ use mathlib.Core.Option.{Option, none, some}
 use mathlib.Core.List.{List, [], _∷_}
 use lib.Dec.{eqb, ltb, leb}
 use Rattle.machine.specs.Lists.{pick}
-use Rattle.machine.specs.State.{State, Thread, Place, absent, able, sending, receiving, waiting, Debt, nothing, owns}
+use Rattle.machine.specs.State.{State, Thread, Place, absent, able, sending, receiving, waiting, Debt, nothing, works}
 use Rattle.machine.specs.State.{noted, Abort, live, closing, Endpoint, Line, quiet, pending, awaited, absentThread}
 use Rattle.machine.specs.State.{missingEndpoint, messageReceived}
 use Rattle.layout.specs.declared.Field.{Field}
@@ -39,7 +39,7 @@ placeOf w =
 unfoldable pub debtOf : ℕ → ℕ → Debt
 debtOf w b =
     pick (eqb w (debtCode nothing)) nothing
-    (pick (ltb w (debtCode (noted 0 0))) (owns (orZero 63 (w - debtCode (owns 0))))
+    (pick (ltb w (debtCode (noted 0 0))) (works (orZero 63 (w - debtCode (works 0))))
     (noted (orZero 63 (w - debtCode (noted 0 0))) (orZero (2 ^ 28 - 1) b)))
 
 unfoldable pub lineBy : ℕ → Line
@@ -109,7 +109,6 @@ abortBy zero w l = none
 abortBy (suc n) w l =
     some (record {
       badge = orZero (2 ^ 28 - 1) (w Part.Aborted);
-      owner = linked (w Part.Owner);
       pending = between (w Part.Cursor) (w Part.End) l;
     })
 

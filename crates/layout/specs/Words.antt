@@ -5,10 +5,10 @@ use mathlib.Core.Option.{Option, none, some}
 use mathlib.Core.List.{List, [], _∷_}
 use lib.Dec.{eqb, ltb}
 use Rattle.machine.specs.Lists.{pick}
-use Rattle.machine.specs.State.{State, Thread, Place, absent, able, sending, receiving, waiting, Debt, nothing, owns}
+use Rattle.machine.specs.State.{State, Thread, Place, absent, able, sending, receiving, waiting, Debt, nothing, works}
 use Rattle.machine.specs.State.{noted, Abort, Status, missing, live, closing, Endpoint, Line, quiet, pending, awaited}
 use Rattle.machine.specs.Scheduling.{occupied}
-use Rattle.machine.specs.Endpoints.{ownerOf, pendingOf}
+use Rattle.machine.specs.Endpoints.{pendingOf}
 use Rattle.summary.specs.Levels.{wordOf, topOf}
 use Rattle.layout.specs.declared.Field.{Field}
 use Rattle.layout.specs.declared.Part.{Part}
@@ -47,15 +47,15 @@ placeCode (sending e) = 2 + e
 placeCode (receiving e) = 66 + e
 placeCode (waiting l) = 130 + l
 
--- 0 nothing, 1 + e owner, 65 + e note.
+-- 0 nothing, 1 + e member, 65 + e note.
 abbrev pub debtCode : Debt → ℕ
 debtCode nothing = 0
-debtCode (owns e) = 1 + e
+debtCode (works e) = 1 + e
 debtCode (noted e b) = 65 + e
 
 abbrev pub noteCode : Debt → ℕ
 noteCode nothing = 0
-noteCode (owns e) = 0
+noteCode (works e) = 0
 noteCode (noted e b) = b
 
 -- 0 missing, 1 live, 2 closing.
@@ -92,7 +92,6 @@ abbrev pub endpointWord : Endpoint → Part → ℕ
 endpointWord x Part.Status = statusCode (x .status)
 endpointWord x Part.Aborting = abortCode (x .abort)
 endpointWord x Part.Aborted = badgeCode (x .abort)
-endpointWord x Part.Owner = linkOf (ownerOf (x .abort))
 endpointWord x Part.Cursor = firstOf (pendingOf (x .abort))
 endpointWord x Part.End = lastOf 0 (pendingOf (x .abort))
 

@@ -11,10 +11,10 @@ pub const RECEIVING: u32 = 66;
 
 pub const WAITING: u32 = 130;
 
-// What a thread has to do with aborts. Owner and note have the endpoint added.
+// What a thread has to do with aborts. Member and note have the endpoint added.
 pub const NOTHING: u32 = 0;
 
-pub const OWNER: u32 = 1;
+pub const MEMBER: u32 = 1;
 
 pub const NOTE: u32 = 65;
 

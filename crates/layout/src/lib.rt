@@ -15,13 +15,12 @@ pub enum Field {
     Note,
 }
 
-// The words of an endpoint that are no links. Aborting is whether an abort stands there; then come its badge, its owner
-// and the first and the last of those that it has still to look at.
+// The words of an endpoint that are no links. Aborting is whether an abort stands there; then come its badge and
+// the first and the last of those that it has still to look at.
 pub enum Part {
     Status,
     Aborting,
     Aborted,
-    Owner,
     Cursor,
     End,
 }

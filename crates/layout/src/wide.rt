@@ -16,9 +16,9 @@ pub const LAST_PLACE: usize = WAITING + 31;
 
 pub const NOTHING: usize = codes::NOTHING as usize;
 
-pub const OWNER: usize = codes::OWNER as usize;
+pub const MEMBER: usize = codes::MEMBER as usize;
 
-pub const LAST_OWNER: usize = OWNER + 63;
+pub const LAST_MEMBER: usize = MEMBER + 63;
 
 pub const LAST_NOTE: usize = codes::NOTE as usize + 63;
 

@@ -64,7 +64,7 @@ module _ (m : List ℕ) {b : Bool} (blocks : b ≡ all 256 (blockTest m)) where
 
       pub rest-is :
           {i s r u p : Bool} → e ≡ true → i ≡ all 32 (lineTest m) → s ≡ summaryTest m → r ≡ runningTest m
-          → u ≡ all 470 (unusedTest m) → p ≡ all 256 (placedTest m) → (i && s && r && u && p) ≡ goodTest m
+          → u ≡ all 534 (unusedTest m) → p ≡ all 256 (placedTest m) → (i && s && r && u && p) ≡ goodTest m
       unfolding goodTest
       rest-is h f g j k o =
           rw (← blocks, yes-blocks, ← levels, yes-levels, ← endpoints, h, ← f, ← g, ← j, ← k, ← o)

@@ -1,4 +1,4 @@
-// Makes tables fresh and checks tables: of several lengths, then six tables written out by hand, which it reads, and
+// Makes tables fresh and checks tables: of several lengths, then ten tables written out by hand, which it reads, and
 // every word of those changed in turn. What it must write, stdout, is what the second machine's program `tables`
 // writes.
 ghost use mathlib.Core.Path.{_≡_};
@@ -17,7 +17,7 @@ fn show_tables(text: &[u8], kept: &mut [u32])
 {
     let mut number: u64 = 0;
     let mut at = scan::table(text, 0, kept);
-    while number < 6 {
+    while number < 10 {
         number += 1;
         at = scan::table(text, at, kept);
         sweep::table(number, kept);

@@ -1,4 +1,6 @@
 -- What a reader asks of single calls.
+pub mod Changes
+pub mod EachCall
 pub mod Ticks
 pub mod Marks
 pub mod Loops

@@ -16,5 +16,7 @@ pub mod Preserved
 pub mod Calls
 -- Demand 3: the invariant of a list of calls and its history, call by call, and the theorem.
 pub mod Demand3
+-- All who joined an abort hear its end.
+pub mod Hearing
 -- Runs that the checker computes: histories compared with tables, and machines that the claim refuses.
 pub mod Examples

@@ -1,6 +1,6 @@
 -- Facts about tables and lists of thread numbers: put, without, only, Mem and Distinct.
 use Prim.Native.Nat.{ℕ}
-use mathlib.Core.Path.{_≡_, refl, sym, _∙_, ap, subst}
+use mathlib.Core.Path.{_≡_, refl, sym, _∙_, ap, subst, fun-ext}
 use mathlib.Core.Logic.{_⊎_, inl, inr, ⊎-elim}
 use mathlib.Core.Bool.{Bool, true, false}
 use mathlib.Core.List.{List, [], _∷_, _++_, append-nil}
@@ -34,6 +34,21 @@ put-same f i x = rw (eq-eqb i i refl)
 pub put-other : {A : Type 0} (f : ℕ → A) (i k : ℕ) (x : A) → (k ≡ i → ⊥) → put f i x k ≡ f k
 unfolding put
 put-other f i k x h = rw (ne-eqb k i h)
+
+-- An entry changed twice has the second, and one changed to what it was is as it was.
+pub put-again : {A : Type 0} (f : ℕ → A) (i : ℕ) (x y : A) → put (put f i x) i y ≡ put f i y
+put-again f i x y = fun-ext (λ k. go k (same? k i))
+  where
+    go : (k : ℕ) → Same k i → put (put f i x) i y k ≡ put f i y k
+    go k (same e _) = rw (e, put-same (put f i x) i y, put-same f i y)
+    go k (other n _) = rw (put-other (put f i x) i k y n, put-other f i k y n, put-other f i k x n)
+
+pub put-self : {A : Type 0} (f : ℕ → A) (i : ℕ) (x : A) → x ≡ f i → put f i x ≡ f
+put-self f i x h = fun-ext (λ k. go k (same? k i))
+  where
+    go : (k : ℕ) → Same k i → put f i x k ≡ f k
+    go k (same e _) = rw (e, put-same f i x) h
+    go k (other n _) = put-other f i k x n
 
 -- A property that holds of the new entry and of the old entries elsewhere holds of the changed table.
 pub put-all :

@@ -6,8 +6,10 @@ use mathlib.Core.Option.{Option, none, some}
 use Rattle.machine.specs.declared.Call.{Call}
 use Rattle.machine.specs.Calls.{endpointOf, inRange}
 use Rattle.machine.specs.State.{State}
+use Rattle.machine.specs.Results.{isAccepted}
 use Rattle.machine.specs.Grants.{Grants, lacks, barred}
 use Rattle.machine.specs.Machine.{perform, performUnless, performIf, step}
+use Rattle.machine.proofs.Lists.{clash}
 
 pub performed :
     (g : Grants) (s : State) (c : Call) → inRange c ≡ true → barred (s .runs) g c ≡ false → step g s c ≡ perform c s
@@ -25,3 +27,18 @@ pub has-right :
     (o : Option ℕ) (g : Grants) (c : Call) (t : ℕ) → o ≡ some t → lacks (g t (endpointOf c)) c ≡ false
     → barred o g c ≡ false
 has-right o g c t runs h = ap (λ (o : Option ℕ). barred o g c) runs ∙ h
+
+-- An accepted call has its numbers in range, and its caller lacks no right.
+pub permitted :
+    (g : Grants) (s : State) (c : Call) → isAccepted (step g s c .answer) ≡ true
+    → (inRange c ≡ true) × (barred (s .runs) g c ≡ false)
+unfolding step performIf performUnless
+permitted g s c = go (inRange c)
+  where
+    unless : (y : Bool) → isAccepted (performUnless y c s .answer) ≡ true → y ≡ false
+    unless true i = absurd (clash i refl)
+    unless false i = refl
+
+    go : (x : Bool) → isAccepted (performIf x g c s .answer) ≡ true → (x ≡ true) × (barred (s .runs) g c ≡ false)
+    go true i = (refl, unless (barred (s .runs) g c) i)
+    go false i = absurd (clash i refl)

@@ -1,13 +1,13 @@
--- Delete and abort, each broken off where its allowance is used up, and the note that an abort's owner gets.
+-- Delete and abort, each broken off where its allowance is used up, and the notes that an abort's members get.
 use Prim.Native.Nat.{ℕ, zero, suc, _-_}
 use mathlib.Core.Bool.{Bool, true, false, _&&_}
 use mathlib.Core.Option.{Option, none, some}
 use mathlib.Core.List.{List, [], _∷_, _++_}
 use lib.Dec.{eqb}
 use lib.ListN.{length}
-use Rattle.machine.specs.State.{State, Debt, nothing, owns, noted, Abort, Status, missing, live, closing}
+use Rattle.machine.specs.State.{State, Debt, nothing, works, noted, Abort, Status, missing, live, closing}
 use Rattle.machine.specs.State.{missingEndpoint, setThread, setEndpoint, withDebt, messageAborted, endpointGone}
-use Rattle.machine.specs.Endpoints.{senders, underAbort, pendingOf, ownerOf, passing, withOwner, setAbort}
+use Rattle.machine.specs.Endpoints.{senders, underAbort, pendingOf, passing, setAbort}
 use Rattle.machine.specs.Endpoints.{wakeFrom, dropDebt, endAbort}
 use Rattle.machine.specs.Results.{Look, Result, counted, accept, done, refuse}
 
@@ -37,8 +37,8 @@ deleteFrom e a s =
     deleted (removeUpTo a (s .endpoints e .waiters) e s .state .endpoints e .waiters) e
     (removeUpTo a (s .endpoints e .waiters) e s)
 
--- Delete marks the endpoint closing and ends its abort, then removes waiters. Whoever calls loses ownership and
--- note first.
+-- Delete marks the endpoint closing and ends its abort, then removes waiters. Whoever calls leaves its set, or loses
+-- its note, first.
 unfoldable pub deleteAt : Status → ℕ → ℕ → ℕ → State → Result
 deleteAt missing t e a s = refuse 23 s
 deleteAt live t e a s = deleteFrom e a (endAbort closing e (dropDebt t s))
@@ -76,24 +76,17 @@ lookUpTo (suc n) (w ∷ l) e s =
     afterLook (record { waiter = w; removed = hits e w s })
     (lookUpTo n (pendingAt e (look e w s)) e (look e w s))
 
--- Begin: the first sender is the cursor, the last the end mark, the caller t the owner.
+-- Join: the joiner t is in the set.
+unfoldable pub join : ℕ → ℕ → State → State
+join t e s = setThread t (withDebt (works e) (s .threads t)) s
+
+-- Begin: the first sender is the cursor, the last the end mark, and the caller t is in the set.
 unfoldable pub begin : ℕ → ℕ → ℕ → State → State
 begin t e b s =
-    setThread t (withDebt (owns e) (s .threads t))
-    (setAbort e
-    (some (record { badge = b; owner = some t; pending = senders (s .threads) (s .endpoints e .waiters) })) s)
+    join t e (setAbort e (some (record { badge = b; pending = senders (s .threads) (s .endpoints e .waiters) })) s)
 
--- Join: the joiner t becomes owner only if there is none.
-unfoldable pub joinAs : Option ℕ → ℕ → ℕ → State → State
-joinAs none t e s =
-    setThread t (withDebt (owns e) (s .threads t)) (setAbort e (withOwner (some t) (s .endpoints e .abort)) s)
-joinAs (some u) t e s = s
-
-unfoldable pub join : ℕ → ℕ → State → State
-join t e s = joinAs (ownerOf (s .endpoints e .abort)) t e s
-
--- The call's own abort, after looks made earlier in the call: with nothing left it ends, code 0, and its owner, if
--- another than the caller t, gets a note; else it is broken off, code 2.
+-- The call's own abort, after looks made earlier in the call: with nothing left it ends, code 0, and the members of its
+-- set but the caller t get notes; else it is broken off, code 2.
 unfoldable pub ended : List ℕ → ℕ → ℕ → List Look → State → Result
 ended [] t e looks s = accept (counted 0 (length looks)) looks (endAbort live e (dropDebt t s))
 ended (w ∷ l) t e looks s = accept (counted 2 (length looks)) looks s
@@ -128,37 +121,25 @@ unfoldable pub abortFrom : Option Abort → ℕ → ℕ → ℕ → ℕ → Stat
 abortFrom none t e a b s = workOwn t e a [] (begin t e b s)
 abortFrom (some x) t e a b s = underBadge (eqb (x .badge) b) t e a b s
 
--- The debt is the ownership of the abort of badge b at e, the first argument: the caller continues its own abort.
--- In any other case the call drops ownership and note.
-abbrev pub ownsThis : Option Abort → ℕ → ℕ → Debt → Bool
-ownsThis x e b nothing = false
-ownsThis x e b (owns f) = eqb f e && underAbort b x
-ownsThis x e b (noted f c) = false
-
-unfoldable pub dropUnless : Bool → ℕ → State → State
-dropUnless true t s = s
-dropUnless false t s = dropDebt t s
-
-unfoldable pub dropOther : ℕ → ℕ → ℕ → State → State
-dropOther t e b s = dropUnless (ownsThis (s .endpoints e .abort) e b (s .threads t .debt)) t s
-
 unfoldable pub abortOpen : ℕ → ℕ → ℕ → ℕ → State → Result
 abortOpen t e a b s = abortFrom (s .endpoints e .abort) t e a b s
 
+-- Whoever calls leaves its set, or loses its note, first; one that goes on with the abort that it works on joins it
+-- again.
 unfoldable pub abortAt : Status → ℕ → ℕ → ℕ → ℕ → State → Result
 abortAt missing t e a b s = refuse 23 s
 abortAt closing t e a b s = refuse 25 s
-abortAt live t e a b s = abortOpen t e a b (dropOther t e b s)
+abortAt live t e a b s = abortOpen t e a b (dropDebt t s)
 
 -- The caller has the note of this endpoint and badge.
 abbrev pub hasNote : ℕ → ℕ → Debt → Bool
 hasNote e b nothing = false
-hasNote e b (owns f) = false
+hasNote e b (works f) = false
 hasNote e b (noted f c) = eqb f e && eqb c b
 
 -- A noted caller is answered 0, count 0, before 23 is tried; the note goes and nothing else changes.
 unfoldable pub abortUnless : Bool → ℕ → ℕ → ℕ → ℕ → State → Result
-abortUnless true t e a b s = done (setThread t (withDebt nothing (s .threads t)) s)
+abortUnless true t e a b s = done (dropDebt t s)
 abortUnless false t e a b s = abortAt (s .endpoints e .status) t e a b s
 
 unfoldable pub abort : ℕ → ℕ → ℕ → ℕ → State → Result

@@ -4,9 +4,9 @@ use mathlib.Core.Bool.{Bool, true, false}
 use mathlib.Core.Option.{Option, none, some}
 use mathlib.Core.List.{List, [], _∷_, _++_}
 use lib.Dec.{eqb}
-use Rattle.machine.specs.Lists.{without, only}
+use Rattle.machine.specs.Lists.{pick, below, without, only}
 use Rattle.machine.specs.State.{State, Thread, Place, absent, able, sending, receiving, waiting, Debt, nothing}
-use Rattle.machine.specs.State.{owns, noted, Abort, Status, setThread, setEndpoint, withDebt}
+use Rattle.machine.specs.State.{works, noted, Abort, Status, setThread, setEndpoint, withDebt}
 use Rattle.machine.specs.Scheduling.{wake}
 
 abbrev pub isSending : Place → Bool
@@ -40,19 +40,26 @@ abbrev pub pendingOf : Option Abort → List ℕ
 pendingOf none = []
 pendingOf (some a) = a .pending
 
-abbrev pub ownerOf : Option Abort → Option ℕ
-ownerOf none = none
-ownerOf (some a) = a .owner
+-- An abort stands.
+abbrev pub isAborting : Option Abort → Bool
+isAborting none = false
+isAborting (some a) = true
+
+-- The debt is that of a member of the set at e.
+abbrev pub worksAt : ℕ → Debt → Bool
+worksAt e nothing = false
+worksAt e (works f) = eqb f e
+worksAt e (noted f b) = false
+
+-- The members of the set at e, by their numbers.
+abbrev pub membersOf : ℕ → State → List ℕ
+membersOf e s = only (λ t. worksAt e (s .threads t .debt)) (below 256 [])
 
 -- The abort without t to look at: if t was the cursor it passes to the next, if it was the end mark to the one before,
 -- and if it was both nothing is left.
 abbrev pub passing : ℕ → Option Abort → Option Abort
 passing t none = none
-passing t (some a) = some (record { badge = a .badge; owner = a .owner; pending = without t (a .pending) })
-
-abbrev pub withOwner : Option ℕ → Option Abort → Option Abort
-withOwner o none = none
-withOwner o (some a) = some (record { badge = a .badge; owner = o; pending = a .pending })
+passing t (some a) = some (record { badge = a .badge; pending = without t (a .pending) })
 
 abbrev pub setAbort : ℕ → Option Abort → State → State
 setAbort e a s =
@@ -83,24 +90,30 @@ leaveEndpoint t e s =
 unfoldable pub wakeFrom : ℕ → ℕ → ℕ → ℕ → ℕ → State → State
 wakeFrom e t outcome b m s = wake t outcome b m (leaveEndpoint t e s)
 
--- t's ownership or note goes.
-unfoldable pub dropped : Debt → ℕ → State → State
-dropped nothing t s = s
-dropped (owns e) t s =
-    setThread t (withDebt nothing (s .threads t)) (setAbort e (withOwner none (s .endpoints e .abort)) s)
-dropped (noted e b) t s = setThread t (withDebt nothing (s .threads t)) s
-
+-- t leaves the set that it is in, or its note goes.
 unfoldable pub dropDebt : ℕ → State → State
-dropDebt t s = dropped (s .threads t .debt) t s
+dropDebt t s = setThread t (withDebt nothing (s .threads t)) s
 
--- The owner of the abort at e gets a note.
-unfoldable pub noteTo : Option ℕ → ℕ → ℕ → State → State
-noteTo none e b s = s
-noteTo (some u) e b s = setThread u (withDebt (noted e b) (s .threads u)) s
+-- A member of the set at e gets the note that the abort of badge b ended there; whoever is none keeps what it has.
+abbrev pub informed : ℕ → ℕ → Debt → Debt
+informed e b nothing = nothing
+informed e b (works f) = pick (eqb f e) (noted e b) (works f)
+informed e b (noted f c) = noted f c
+
+-- Each member of the set at e gets its note.
+unfoldable pub noteAll : ℕ → ℕ → State → State
+noteAll e b s =
+    record {
+      threads = λ t. withDebt (informed e b (s .threads t .debt)) (s .threads t);
+      runs = s .runs;
+      levels = s .levels;
+      endpoints = s .endpoints;
+      lines = s .lines;
+    }
 
 unfoldable pub note : Option Abort → ℕ → State → State
 note none e s = s
-note (some a) e s = noteTo (a .owner) e (a .badge) s
+note (some a) e s = noteAll e (a .badge) s
 
 -- The abort at e, if one stands, ends, and the endpoint has the status given: one step, since a closing endpoint
 -- has no abort.

@@ -1,6 +1,6 @@
 -- Lists of calls: what has come of a list of calls made in turn from fresh tables, told in the terms of the section
 -- of that name. It reads each call, its answer, who ran when it was made, the queues and who sends in them
--- (waitingIn), and the log of looks. Of the machine's aborts, of their owners and pending waiters, and of what a
+-- (waitingIn), and the log of looks. Of the machine's aborts, of their sets and pending waiters, and of what a
 -- thread owes it reads nothing. Here stand what it has and the names of waiters; Walk, Outcomes and Recorded make it.
 use Prim.Native.Nat.{ℕ}
 use mathlib.Core.Bool.{Bool, true, false, _||_}
@@ -27,10 +27,11 @@ pub record Aborting : Type 0 where
   pub looked : List ℕ
   pub removed : List ℕ
 
--- An abort that has ended, and the call that it ended in.
+-- An abort that has ended, the call that it ended in, and the members of its set then but that call's caller.
 pub record Ended : Type 0 where
   pub abort : Aborting
   pub by : ℕ
+  pub members : List ℕ
 
 -- Which abort a call 12 reports, or a note tells of.
 pub record Reported : Type 0 where
@@ -74,10 +75,10 @@ pub record AbortCall : Type 0 where
   pub before : Waiting
   pub behind : Waiting
 
--- Who has to do with which abort: those who work on the one that stands at each endpoint, which is its owner if it
--- has one; and the note that each thread has, of an abort that ended by another's call.
+-- Who has to do with which abort: "the set of all threads working on its abort" of each endpoint, in the order of their
+-- coming; and the note that each thread has, of an abort that ended by another's call.
 pub record Debts : Type 0 where
-  pub workers : ℕ → List ℕ
+  pub members : ℕ → List ℕ
   pub notes : ℕ → Option Reported
 
 -- The aborts of a list: the one that stands at each endpoint, those that have ended, the latest first, who has to do

@@ -1,5 +1,5 @@
 -- Lists of thread numbers, and tables as functions of a number.
-use Prim.Native.Nat.{ℕ, _<_}
+use Prim.Native.Nat.{ℕ, zero, suc, _<_}
 use mathlib.Core.Path.{_≡_}
 use mathlib.Core.Logic.{_⊎_}
 use mathlib.Core.Bool.{Bool, true, false}
@@ -25,6 +25,11 @@ without t (x ∷ l) = pick (eqb x t) (without t l) (x ∷ without t l)
 unfoldable pub only : (ℕ → Bool) → List ℕ → List ℕ
 only f [] = []
 only f (x ∷ l) = pick (f x) (x ∷ only f l) (only f l)
+
+-- The numbers below n, ascending, and then those of the list.
+unfoldable pub below : ℕ → List ℕ → List ℕ
+below zero l = l
+below (suc n) l = below n (n ∷ l)
 
 -- The first of the list, if it has one.
 abbrev pub first : List ℕ → Option ℕ

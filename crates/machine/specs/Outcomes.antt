@@ -48,7 +48,9 @@ deletes (some x) e o r h =
       aborts =
           record {
             standing = put (h .aborts .standing) e none;
-            ended = record { abort = x; by = h .now } ∷ h .aborts .ended;
+            ended =
+                record { abort = x; by = h .now; members = letGoBy o (h .aborts .debts) .members e }
+                ∷ h .aborts .ended;
             debts = hears e (reportOf x) (letGoBy o (h .aborts .debts));
             stray = drops o r h .aborts .stray;
           };
@@ -59,7 +61,7 @@ deletes (some x) e o r h =
 
 -- Such a call of t, which finds x standing at e: it is no other call if t works on that abort, under that badge.
 abbrev pub goesOn : ℕ → ℕ → ℕ → Option Aborting → Debts → Bool
-goesOn t e b x d = isUnder b x && isIn t (d .workers e)
+goesOn t e b x d = isUnder b x && isIn t (d .members e)
 
 -- An other call drops what t had to do with another abort.
 abbrev pub letsOther : ℕ → ℕ → ℕ → Option Aborting → Debts → Debts

@@ -91,7 +91,7 @@ freshHistory =
           record {
             standing = λ e. none;
             ended = [];
-            debts = record { workers = λ e. []; notes = λ t. none };
+            debts = record { members = λ e. []; notes = λ t. none };
             stray = [];
           };
       deliveries = [];
@@ -103,18 +103,24 @@ pub record Run : Type 0 where
   pub grants : Grants
   pub history : History
 
+-- What the call comes to in a run so far, and the run with it. The machine's step is a parameter, so that the claim can
+-- be tried on machines that go wrong.
+abbrev pub resultIn : (Grants → State → Call → Result) → Call → Run → Result
+resultIn f c x = f (x .grants) (x .state) c
+
+abbrev pub nextRun : (Grants → State → Call → Result) → Call → Run → Run
+nextRun f c x =
+    record {
+      state = resultIn f c x .state;
+      grants = grantsAfter (resultIn f c x .answer) c (x .grants);
+      history = told c (x .state) (resultIn f c x) (x .history);
+    }
+
 -- The first call gets fresh tables, each later one the tables that the one before it left; the grants "start fresh
--- and pass on as the tables do". The machine's step is a parameter, so that the claim can be tried on machines that go
--- wrong.
+-- and pass on as the tables do".
 unfoldable pub runFrom : (Grants → State → Call → Result) → List Call → Run → Run
 runFrom f [] x = x
-runFrom f (c ∷ l) x =
-    runFrom f l
-    (record {
-      state = f (x .grants) (x .state) c .state;
-      grants = grantsAfter (f (x .grants) (x .state) c .answer) c (x .grants);
-      history = told c (x .state) (f (x .grants) (x .state) c) (x .history);
-    })
+runFrom f (c ∷ l) x = runFrom f l (nextRun f c x)
 
 abbrev pub freshRun : Run
 freshRun = record { state = freshState; grants = freshGrants; history = freshHistory }

@@ -3,13 +3,14 @@
 use Prim.Native.Nat.{ℕ, _≤_, _<_, _^_}
 use mathlib.Core.Path.{_≡_}
 use mathlib.Core.Logic.{_⊎_, _↔_}
+use mathlib.Core.Bool.{true}
 use mathlib.Core.Option.{none, some}
 use mathlib.Core.List.{List, [], _++_}
 use Rattle.machine.specs.Lists.{Mem, Distinct}
 use Rattle.machine.specs.State.{State, Thread, Place, absent, able, sending, receiving, waiting, Debt, nothing}
-use Rattle.machine.specs.State.{owns, noted, Abort, missing, live, quiet, awaited}
+use Rattle.machine.specs.State.{works, noted, Abort, missing, live, quiet, awaited}
 use Rattle.machine.specs.State.{absentThread, missingEndpoint, noOutcome, messageReceived}
-use Rattle.machine.specs.Endpoints.{ownerOf}
+use Rattle.machine.specs.Endpoints.{isAborting}
 
 -- A thread is present.
 abbrev pub Present : State → ℕ → Type 0
@@ -34,7 +35,7 @@ Stores (waiting l) outcome = ⊥
 -- A note is of an endpoint and a badge in range.
 abbrev pub DebtInRange : Debt → Type 0
 DebtInRange nothing = Unit {0}
-DebtInRange (owns e) = Unit {0}
+DebtInRange (works e) = Unit {0}
 DebtInRange (noted e b) = (e ≤ 63) × (b < 2 ^ 28)
 
 -- The numbers of a present thread.
@@ -95,9 +96,10 @@ pub record Marks (s : State) : Type 0 where
       (e t : ℕ) (a : Abort) → s .endpoints e .abort ≡ some a → s .threads t .place ≡ sending e
       → s .threads t .badge ≡ a .badge → Mem t (a .pending)
 
--- Owner and owing thread name each other; a thread has one ownership, or one note, or neither: the three cases of Debt.
-pub record Owners (s : State) : Type 0 where
-  pub each-other : (e t : ℕ) → (ownerOf (s .endpoints e .abort) ≡ some t) ↔ (s .threads t .debt ≡ owns e)
+-- An abort stands wherever a thread is in the set; a thread is in one set, or has one note, or neither: the three cases
+-- of Debt.
+pub record Members (s : State) : Type 0 where
+  pub stands : (e t : ℕ) → s .threads t .debt ≡ works e → isAborting (s .endpoints e .abort) ≡ true
 
 -- A blocked thread's outcome is 0, and badge and message stand only where a thread stores them.
 pub record Outcomes (s : State) : Type 0 where
@@ -113,5 +115,5 @@ pub record Sound (s : State) : Type 0 where
   pub chosen : Chosen s
   pub statuses : Statuses s
   pub marks : Marks s
-  pub owners : Owners s
+  pub members : Members s
   pub outcomes : Outcomes s

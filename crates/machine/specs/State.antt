@@ -14,11 +14,12 @@ pub data Place : Type 0 where
   -- on an interrupt line
   waiting : ℕ → Place
 
--- What a thread has to do with aborts: it owns the abort that stands at an endpoint, or has a note that the abort of an
--- endpoint and badge ended by another's call, or neither.
+-- What a thread has to do with aborts: it is in the set of those who work on the abort at an endpoint, or has a note
+-- that the abort of an endpoint and badge ended by another's call, or neither. The set of an endpoint is kept here
+-- alone: its members are the threads that work there.
 pub data Debt : Type 0 where
   nothing : Debt
-  owns : ℕ → Debt
+  works : ℕ → Debt
   noted : ℕ → ℕ → Debt
 
 -- "Both parties that were blocked are woken with an outcome: 1 taken, 2 received (with badge and message), 3 aborted, 4
@@ -54,7 +55,6 @@ pub record Thread : Type 0 where
 -- the first is the cursor and the last the end mark; where pending is empty, nothing is left.
 pub record Abort : Type 0 where
   pub badge : ℕ
-  pub owner : Option ℕ
   pub pending : List ℕ
 
 pub data Status : Type 0 where

@@ -1,44 +1,39 @@
--- The machine's ownerships and notes beside those that the history makes out from calls, answers and looks.
+-- The machine's sets and notes beside those that the history makes out from calls, answers and looks.
 use Prim.Native.Nat.{ℕ}
 use mathlib.Core.Path.{_≡_}
 use mathlib.Core.Bool.{true, false}
 use mathlib.Core.Option.{Option, none, some}
-use mathlib.Core.List.{List, [], _∷_}
+use mathlib.Core.List.{List}
 use Rattle.machine.specs.declared.Call.{Call}
 use Rattle.machine.specs.declared.Call.the-variants.{Abort}
 use Rattle.machine.specs.Calls.{inRange}
-use Rattle.machine.specs.State.{State, Thread, Debt, nothing, owns, noted, Endpoint}
-use Rattle.machine.specs.Endpoints.{ownerOf}
+use Rattle.machine.specs.State.{State, Thread, Debt, nothing, works, noted}
+use Rattle.machine.specs.Endpoints.{worksAt}
 use Rattle.machine.specs.Results.{Result, plain}
 use Rattle.machine.specs.Grants.{Grants, lacks}
-use Rattle.machine.specs.History.{Ended, Reported, Debts}
+use Rattle.machine.specs.History.{Ended, Reported, Debts, isIn}
 use Rattle.machine.specs.Walk.{isNoteOf, reportOf}
 use Rattle.machine.specs.Recorded.{runFrom, freshRun, historyBy}
 use Rattle.machine.specs.Claim.{In}
 
--- The owner as a list.
-abbrev pub listOf : Option ℕ → List ℕ
-listOf none = []
-listOf (some t) = t ∷ []
-
 -- The note alone, of what a thread owes in the machine, and in the history.
 abbrev pub noteIn : Debt → Debt
 noteIn nothing = nothing
-noteIn (owns e) = nothing
+noteIn (works e) = nothing
 noteIn (noted e b) = noted e b
 
 abbrev pub noteFrom : Option Reported → Debt
 noteFrom none = nothing
 noteFrom (some r) = noted (r .endpoint) (r .badge)
 
--- The machine's threads f and endpoints x have the ownerships and notes that the history's debts d say, and every note
--- is of an abort that has ended.
-pub record Tied (f : ℕ → Thread) (x : ℕ → Endpoint) (d : Debts) (ended : List Ended) : Type 0 where
-  pub workers : (e : ℕ) → d .workers e ≡ listOf (ownerOf (x e .abort))
+-- The machine's threads f are in the sets and have the notes that the history's debts d say, and every note is of an
+-- abort that has ended.
+pub record Tied (f : ℕ → Thread) (d : Debts) (ended : List Ended) : Type 0 where
+  pub members : (e t : ℕ) → isIn t (d .members e) ≡ worksAt e (f t .debt)
   pub notes : (t : ℕ) → noteFrom (d .notes t) ≡ noteIn (f t .debt)
   pub heard : (t : ℕ) (r : Reported) → d .notes t ≡ some r → (z : Ended) × In z ended × (reportOf (z .abort) ≡ r)
 
--- "The owner's next abort call of that endpoint and badge is answered 0, count 0, before 23 is tried": so is every
+-- A member's "next abort call of that endpoint and badge is answered 0, count 0, before 23 is tried": so is every
 -- caller, after any list, who has a note in its history and the right to abort there.
 abbrev pub NotesFirst : (Grants → State → Call → Result) → Type 0
 NotesFirst f =

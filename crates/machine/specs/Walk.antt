@@ -7,30 +7,30 @@ use lib.Dec.{eqb}
 use Rattle.machine.specs.Lists.{pick, put, without, only}
 use Rattle.machine.specs.History.{Aborting, Ended, Reported, NamedLook, Debts, isIn}
 
--- Owners and notes
+-- Sets and notes
 
--- Abort begins by storing its owner, the caller t.
+-- The abort that the caller t begins at e is worked on by t.
 unfoldable pub takesUp : ℕ → ℕ → Debts → Debts
-takesUp t e d = record { workers = put (d .workers) e (t ∷ []); notes = d .notes }
+takesUp t e d = record { members = put (d .members) e (t ∷ []); notes = d .notes }
 
--- A joiner t becomes owner only if there is none.
+-- Whoever joins, t, works on it too.
 abbrev pub joining : ℕ → List ℕ → List ℕ
-joining t [] = t ∷ []
-joining t (u ∷ l) = u ∷ l
+joining t l = pick (isIn t l) l (l ++ (t ∷ []))
 
 unfoldable pub joinsIn : ℕ → ℕ → Debts → Debts
-joinsIn t e d = record { workers = put (d .workers) e (joining t (d .workers e)); notes = d .notes }
+joinsIn t e d = record { members = put (d .members) e (joining t (d .members e)); notes = d .notes }
 
--- An accepted other call 7 to 12 of t, or its destruction, drops note and ownership.
+-- "A thread leaves the set as an owner lost ownership before", and so it loses its note: by an accepted other call 7 to
+-- 12 of its own, or its destruction. t does.
 unfoldable pub letsGo : ℕ → Debts → Debts
-letsGo t d = record { workers = λ e. without t (d .workers e); notes = put (d .notes) t none }
+letsGo t d = record { members = λ e. without t (d .members e); notes = put (d .notes) t none }
 
--- An abort at e ends: whoever works on it gets a note.
+-- "When the abort ends, each member but the caller has a note": each member of the set at e, which its caller has left.
 unfoldable pub hears : ℕ → Reported → Debts → Debts
 hears e r d =
     record {
-      workers = put (d .workers) e [];
-      notes = λ u. pick (isIn u (d .workers e)) (some r) (d .notes u);
+      members = put (d .members) e [];
+      notes = λ u. pick (isIn u (d .members e)) (some r) (d .notes u);
     }
 
 -- It ends by a call of t: the note is for the others.
@@ -103,7 +103,9 @@ ends x c w =
     record {
       standing = none;
       queued = w .queued;
-      ended = record { abort = x; by = c .place } ∷ w .ended;
+      ended =
+          record { abort = x; by = c .place; members = letsGo (c .caller) (w .debts) .members (c .endpoint) }
+          ∷ w .ended;
       debts = hearsBy (c .caller) (c .endpoint) (reportOf x) (w .debts);
       stray = w .stray;
     }

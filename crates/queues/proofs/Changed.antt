@@ -10,7 +10,7 @@ use lib.ListN.{length}
 use Rattle.machine.specs.Lists.{put}
 use Rattle.machine.specs.State.{State, Endpoint, setLevel, setEndpoint}
 use Rattle.machine.specs.Scheduling.{occupied}
-use Rattle.machine.proofs.Lists.{Same, same, other, same?, put-same, put-other}
+use Rattle.machine.proofs.Lists.{Same, same, other, same?, put-same, put-other, put-self}
 use Rattle.layout.specs.declared.Part.{Part}
 use Rattle.layout.specs.declared.Slot.{Slot}
 use Rattle.layout.specs.Addresses.{ValidSlot, at, word, endpointQueue}
@@ -57,13 +57,6 @@ occupied-level s p l = λ i k. go k (same? k p) i
     go : (k : ℕ) → Same k p → put (occupiedIn s) p (occupied l) k ≡ occupiedIn (setLevel p l s) k
     go k (same e _) = rw (e, put-same (occupiedIn s) p (occupied l), put-same (s .levels) p l)
     go k (other d _) = rw (put-other (occupiedIn s) p k (occupied l) d, put-other (s .levels) p k l d)
-
-put-self : {A : Type 0} (f : ℕ → A) (p : ℕ) (x : A) → x ≡ f p → put f p x ≡ f
-put-self {A} f p x e = λ i k. go k (same? k p) i
-  where
-    go : (k : ℕ) → Same k p → put f p x k ≡ f k
-    go k (same j _) = rw (j, put-same f p x) e
-    go k (other d _) = put-other f p k x d
 
 -- Level p becomes l.
 
@@ -134,7 +127,6 @@ module _ (s : State) (e : ℕ) (l : List ℕ) where
   same-words Part.Status = refl
   same-words Part.Aborting = refl
   same-words Part.Aborted = refl
-  same-words Part.Owner = refl
   same-words Part.Cursor = refl
   same-words Part.End = refl
 

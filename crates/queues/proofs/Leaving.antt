@@ -9,7 +9,7 @@ use Rattle.machine.specs.Lists.{put, without, Mem}
 use Rattle.machine.specs.State.{State, Endpoint, setEndpoint}
 use Rattle.machine.specs.Scheduling.{unqueue, wake, occupied}
 use Rattle.machine.specs.Endpoints.{leaveEndpoint, wakeFrom}
-use Rattle.machine.proofs.Lists.{Same, same, other, same?, put-same, put-other}
+use Rattle.machine.proofs.Lists.{put-same, put-again}
 use Rattle.layout.specs.Addresses.{endpointQueue}
 use Rattle.layout.specs.declared.Field.{Field}
 use Rattle.layout.specs.Words.{firstOf, queuesOf}
@@ -121,17 +121,10 @@ module _ {m : List ℕ} {t p : ℕ} (R : Tells m (IsThread t) p (threadIn Field.
 
 -- Leaving the queue of endpoint e, whose marks have passed on.
 
-put-twice : (f : ℕ → Endpoint) (e : ℕ) (x y : Endpoint) → put (put f e x) e y ≡ put f e y
-put-twice f e x y = λ i k. go k (same? k e) i
-  where
-    go : (k : ℕ) → Same k e → put (put f e x) e y k ≡ put f e y k
-    go k (same j _) = rw (j, put-same (put f e x) e y, put-same f e y)
-    go k (other d _) = rw (put-other (put f e x) e k y d, put-other f e k x d, put-other f e k y d)
-
 set-twice : (e : ℕ) (x y : Endpoint) (s : State) → setEndpoint e y (setEndpoint e x s) ≡ setEndpoint e y s
 set-twice e x y s =
     ap (λ f. record { threads = s .threads; runs = s .runs; levels = s .levels; endpoints = f; lines = s .lines })
-    (put-twice (s .endpoints) e x y)
+    (put-again (s .endpoints) e x y)
 
 module _ {m n : List ℕ} {t e : ℕ} (P : Does m n (InEndpoint t e) (passingAt t e)) where
   still-stands : (s : State) → InEndpoint t e s → Mem t (queuesOf (passingAt t e s) (endpointQueue e))

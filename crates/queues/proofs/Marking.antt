@@ -78,11 +78,11 @@ module _ {m : List ℕ} {t e : ℕ} where
           → Shows m (passingAt t e s)
       go s M h none z =
           site-shows e (h .endpoint) m m _ s _ M (site-start e (h .endpoint) m s M) refl
-          (parts _ _ refl (rw z) (rw z) (rw z) (rw z) (rw z))
+          (parts _ _ refl (rw z) (rw z) (rw z) (rw z))
       go s M h (some a) z =
           let k = is s M h a z in
           site-shows e (h .endpoint) m m _ s _ M (site-start e (h .endpoint) m s M) refl
-          (parts _ _ refl (rw z) (rw z) (rw z) (rw z (sym (k .0))) (rw z (sym (k .1))))
+          (parts _ _ refl (rw z) (rw z) (rw z (sym (k .0))) (rw z (sym (k .1))))
 
 -- The four ways, by whether t is the cursor c and the end mark d.
 module _ {m : List ℕ} {t e c d : ℕ} (C : Tells m (IsEndpoint e) c (endpointIn Part.Cursor e))

@@ -7,14 +7,12 @@ use native.Mathlib.Omega.{arith}
 use lib.Dec.{eqb, ltb}
 use borrow.Author.Tests.{le-leb, lt-leb, ne-eqb}
 use Rattle.machine.specs.Lists.{pick}
-use Rattle.machine.specs.State.{owns}
 use Rattle.layout.specs.declared.Field.{Field}
 use Rattle.layout.specs.declared.Part.{Part}
 use Rattle.layout.specs.declared.Link.{Link}
 use Rattle.layout.specs.Addresses.{linkAt, word, endpointQueue}
-use Rattle.layout.specs.Words.{debtCode}
 use Rattle.layout.specs.Tests.{same}
-use Rattle.soundness.specs.Checks.{threadAt, endpointAt, kindOf, bannedOf, ownerTest, abortTest, statusTest}
+use Rattle.soundness.specs.Checks.{threadAt, endpointAt, kindOf, bannedOf, abortTest, statusTest}
 
 pub beq-same : (a b : Bool) → Bool·beq a b ≡ same a b
 beq-same true true = refl
@@ -43,42 +41,21 @@ module _ (m : List ℕ) (e : ℕ) where
   status-closing (suc (suc zero)) f n o = rw f
   status-closing (suc (suc (suc s))) f n o = rw (ne-eqb (suc (suc (suc s))) 2 (λ q. omega arith))
 
-  -- The owner's link o.
-  pub owner-none : (o : ℕ) → o ≡ 0 → true ≡ ownerTest o m e
-  unfolding ownerTest
-  owner-none o z = rw z
-
-  pub owner-far : (o : ℕ) → 256 < o → false ≡ ownerTest o m e
-  unfolding ownerTest
-  owner-far zero h = absurd (omega arith)
-  owner-far (suc t) h = rw (lt-leb t 255 (omega arith))
-
-  pub owner-owes :
-      (o : ℕ) {w : ℕ} → (o ≡ 0 → ⊥) → o ≤ 256 → w ≡ threadAt m Field.Owes (o - 1)
-      → eqb w (debtCode (owns e)) ≡ ownerTest o m e
-  unfolding ownerTest
-  owner-owes zero n h f = absurd (n refl)
-  owner-owes (suc t) n h f =
-      let q : suc t - 1 ≡ t = omega arith in rw (f, q, le-leb t 255 (omega arith))
-
   -- An abort's words: badge b, cursor c and end d.
   module _
       {b c d : ℕ} (badge : b ≡ endpointAt m Part.Aborted e) (first : c ≡ endpointAt m Part.Cursor e)
       (last : d ≡ endpointAt m Part.End e)
     where
-      pub abort-none :
-          (a : ℕ) {o : ℕ} → a ≡ 0 → o ≡ endpointAt m Part.Owner e
-          → (((eqb b 0 && eqb o 0) && eqb c 0) && eqb d 0) ≡ abortTest a m e
+      pub abort-none : (a : ℕ) → a ≡ 0 → ((eqb b 0 && eqb c 0) && eqb d 0) ≡ abortTest a m e
       unfolding abortTest
-      abort-none a z f = rw (z, badge, first, last, f)
+      abort-none a z = rw (z, badge, first, last)
 
       pub abort-stands :
-          (a : ℕ) {r : Bool} → (a ≡ 0 → ⊥) → a ≤ 1 → r ≡ ownerTest (endpointAt m Part.Owner e) m e
-          → ((ltb b (2 ^ 28) && r) && Bool·beq (eqb c 0) (eqb d 0)) ≡ abortTest a m e
+          (a : ℕ) → (a ≡ 0 → ⊥) → a ≤ 1 → (ltb b (2 ^ 28) && Bool·beq (eqb c 0) (eqb d 0)) ≡ abortTest a m e
       unfolding abortTest
-      abort-stands zero n h f = absurd (n refl)
-      abort-stands (suc zero) n h f = rw (badge, first, last, f, beq-same)
-      abort-stands (suc (suc a)) n h f = absurd (omega arith)
+      abort-stands zero n h = absurd (n refl)
+      abort-stands (suc zero) n h = rw (badge, first, last, beq-same)
+      abort-stands (suc (suc a)) n h = absurd (omega arith)
 
   pub abort-odd : (a : ℕ) → 1 < a → false ≡ abortTest a m e
   unfolding abortTest

@@ -6,7 +6,7 @@ ghost use lib.ListN.{length};
 ghost use Rattle.layout.specs.declared.Part.{Part};
 ghost use Rattle.layout.specs.Addresses.{tableWords, scratchWords, endpointQueue};
 ghost use Rattle.layout.specs.Tests.{all};
-ghost use Rattle.soundness.specs.Checks.{endpointAt, kindIn, bannedOf, ownerTest, abortTest};
+ghost use Rattle.soundness.specs.Checks.{endpointAt, kindIn, bannedOf, abortTest};
 ghost use Rattle.soundness.specs.Checks.{statusTest, endpointTest, met, metBelow};
 ghost use Rattle.sound_queues.specs.Steps.{standsBehind, waitersAs, kindFits};
 ghost use Rattle.sound_queues.specs.Met.{metIn, Follows, FollowsAll};
@@ -35,21 +35,6 @@ fn status(tables: &[u32], e: usize) -> bool
     (status == wide::CLOSING) & (aborting == wide::NO_ABORT)
 }
 
-// An owner owes: it names the endpoint.
-fn owner(tables: &[u32], e: usize) -> bool
-    requires { ⌜ (length (now tables) ≡ tableWords) × (e ≤ 63) ⌝ }
-    ensures { λ r. ⌜ r ≡ ownerTest (endpointAt (now (tables .entry)) Part.Owner e) (now (tables .entry)) e ⌝ }
-{
-    let owner = words::endpoint(tables, Part::Owner, e);
-    if owner == wide::NOBODY {
-        return true;
-    }
-    if wide::LAST_LINK < owner {
-        return false;
-    }
-    words::thread(tables, Field::Owes, owner - wide::LINK) == wide::OWNER + e
-}
-
 // No abort, or one of a badge in range.
 fn abort(tables: &[u32], e: usize) -> bool
     requires { ⌜ (length (now tables) ≡ tableWords) × (e ≤ 63) ⌝ }
@@ -60,17 +45,12 @@ fn abort(tables: &[u32], e: usize) -> bool
     let cursor = words::endpoint(tables, Part::Cursor, e);
     let end = words::endpoint(tables, Part::End, e);
     if aborting == wide::NO_ABORT {
-        return (badge == 0)
-            & (words::endpoint(tables, Part::Owner, e) == wide::NOBODY)
-            & (cursor == wide::NOBODY)
-            & (end == wide::NOBODY);
+        return (badge == 0) & (cursor == wide::NOBODY) & (end == wide::NOBODY);
     }
     if wide::ABORTING < aborting {
         return false;
     }
-    (badge < wide::NO_BADGE)
-        & owner(tables, e)
-        & ((cursor == wide::NOBODY) == (end == wide::NOBODY))
+    (badge < wide::NO_BADGE) & ((cursor == wide::NOBODY) == (end == wide::NOBODY))
 }
 
 // The place that all in the queue must have: that of its first.

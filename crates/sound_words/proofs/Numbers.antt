@@ -3,7 +3,7 @@ use Prim.Native.Nat.{ℕ, zero, suc, _+_, _-_, _≤_, _<_, _^_}
 use mathlib.Core.Bool.{Bool, true, false, _&&_}
 use mathlib.Core.List.{List}
 use mathlib.Core.Path.{_≡_, refl, ap, sym, _∙_}
-use native.Mathlib.Numerals.{add-one, add-two}
+use native.Mathlib.Numerals.{add-two}
 use native.Mathlib.Omega.{arith}
 use lib.Dec.{eqb, leb, ltb}
 use borrow.Author.Tests.{lt-ltb, le-ltb, eq-eqb, ne-eqb, leb-true}
@@ -37,14 +37,14 @@ module _ (m : List ℕ) (t : ℕ) {n : ℕ} (noted : n ≡ threadAt m Field.Note
   owes-zero zero h = rw noted
   owes-zero (suc w) h = absurd (omega arith)
 
-  owes-owner :
-      (w : ℕ) {o : ℕ} → (w ≡ 0 → ⊥) → w ≤ 64 → o ≡ endpointAt m Part.Owner (w - 1)
-      → (eqb n 0 && eqb o (t + 1)) ≡ owesTest w m t
+  owes-work :
+      (w : ℕ) {o : ℕ} → (w ≡ 0 → ⊥) → w ≤ 64 → o ≡ endpointAt m Part.Aborting (w - 1)
+      → (eqb n 0 && eqb o 1) ≡ owesTest w m t
   unfolding owesTest
-  owes-owner zero z h e = absurd (z refl)
-  owes-owner (suc w) z h e =
+  owes-work zero z h e = absurd (z refl)
+  owes-work (suc w) z h e =
       let q : suc w - 1 ≡ w = omega arith in
-      rw (lt-ltb w 64 h, ← noted, add-one) (ap (λ (k : ℕ). eqb n 0 && eqb k (suc t)) (rw q at e))
+      rw (lt-ltb w 64 h, ← noted) (ap (λ (k : ℕ). eqb n 0 && eqb k 1) (rw q at e))
 
   owes-badge : (w : ℕ) → (w ≡ 0 → ⊥) → 64 < w → (leb w 128 && ltb n (2 ^ 28)) ≡ owesTest w m t
   unfolding owesTest
@@ -55,10 +55,10 @@ module _ (m : List ℕ) (t : ℕ) {n : ℕ} (noted : n ≡ threadAt m Field.Note
     pub owing-nothing : w ≡ 0 → eqb n 0 ≡ owesTest (threadAt m Field.Owes t) m t
     owing-nothing h = rw (← is) (owes-zero w h)
 
-    pub owing-abort :
-        {o : ℕ} → (w ≡ 0 → ⊥) → w ≤ 64 → o ≡ endpointAt m Part.Owner (w - 1)
-        → (eqb n 0 && eqb o (t + 1)) ≡ owesTest (threadAt m Field.Owes t) m t
-    owing-abort z h e = rw (← is) (owes-owner w z h e)
+    pub owing-work :
+        {o : ℕ} → (w ≡ 0 → ⊥) → w ≤ 64 → o ≡ endpointAt m Part.Aborting (w - 1)
+        → (eqb n 0 && eqb o 1) ≡ owesTest (threadAt m Field.Owes t) m t
+    owing-work z h e = rw (← is) (owes-work w z h e)
 
     pub owing-note :
         (w ≡ 0 → ⊥) → 64 < w → (leb w 128 && ltb n (2 ^ 28)) ≡ owesTest (threadAt m Field.Owes t) m t

@@ -41,10 +41,10 @@ pub fn lines(tables: &[u32]) -> bool
 // The unused words are 0.
 pub fn unused(tables: &[u32]) -> bool
     requires { ⌜ length (now tables) ≡ tableWords ⌝ }
-    ensures { λ r. ⌜ r ≡ all 470 (unusedTest (now (tables .entry))) ⌝ }
+    ensures { λ r. ⌜ r ≡ all 534 (unusedTest (now (tables .entry))) ⌝ }
 {
     let mut i = 0;
-    while i < 470 {
+    while i < 534 {
         if words::wide(tables, Slot::Unused(i)) != 0 {
             return false;
         }

@@ -69,7 +69,7 @@ fn waits(tables: &[u32], t: usize) -> bool
     words::wide(tables, Slot::Line(line)) == t + wide::AWAITED
 }
 
-// What a thread owes: nothing, an abort that names it as owner, or a note.
+// What a thread owes: nothing, work on an abort that stands, or a note.
 fn owing(tables: &[u32], t: usize) -> bool
     requires { ⌜ (length (now tables) ≡ tableWords) × (t ≤ 255) ⌝ }
     ensures { λ r. ⌜ r ≡ owesTest (threadAt (now (tables .entry)) Field.Owes t) (now (tables .entry)) t ⌝ }
@@ -79,9 +79,9 @@ fn owing(tables: &[u32], t: usize) -> bool
     if owes == wide::NOTHING {
         return note == 0;
     }
-    if owes <= wide::LAST_OWNER {
+    if owes <= wide::LAST_MEMBER {
         return (note == 0)
-            & (words::endpoint(tables, Part::Owner, owes - wide::OWNER) == t + wide::LINK);
+            & (words::endpoint(tables, Part::Aborting, owes - wide::MEMBER) == wide::ABORTING);
     }
     (owes <= wide::LAST_NOTE) & (note < wide::NO_BADGE)
 }

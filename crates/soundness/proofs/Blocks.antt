@@ -1,29 +1,28 @@
 -- A thread's block: where its test passes its words are those of the thread read off them; and what is left of the test
--- once they are a neat thread's: the line that it waits on, and the abort that it owns.
+-- once they are a neat thread's: the line that it waits on, and the abort that it works on.
 use Prim.Native.Nat.{ℕ, zero, suc, _+_, _-_, _^_, _≤_, _<_}
 use mathlib.Core.Path.{_≡_, refl, sym, _∙_, ap, subst, fun-ext}
 use mathlib.Core.Logic.{_⊎_, inl, inr, ⊎-elim}
 use mathlib.Core.Bool.{true}
-use mathlib.Core.Option.{some}
 use mathlib.Core.List.{List}
 use native.Mathlib.Omega.{arith}
-use Rattle.machine.specs.State.{State, Thread, Place, absent, able, sending, receiving, waiting, Debt, nothing, owns}
+use Rattle.machine.specs.State.{State, Thread, Place, absent, able, sending, receiving, waiting, Debt, nothing, works}
 use Rattle.machine.specs.State.{noted, awaited, absentThread}
-use Rattle.machine.specs.Endpoints.{ownerOf}
+use Rattle.machine.specs.Endpoints.{isAborting}
 use Rattle.machine.specs.Sound.{Stores}
 use Rattle.machine.proofs.Lists.{Same, same, other, same?}
 use Rattle.layout.specs.declared.Field.{Field}
 use Rattle.layout.specs.declared.Part.{Part}
 use Rattle.layout.specs.declared.Slot.{Slot}
 use Rattle.layout.specs.Addresses.{at, word}
-use Rattle.layout.specs.Words.{linkOf, placeCode, debtCode, noteCode, lineCode, threadWord}
+use Rattle.layout.specs.Words.{placeCode, debtCode, noteCode, lineCode, abortCode, threadWord}
 use Rattle.layout.specs.Decode.{placeOf, threadFrom}
 use Rattle.layout.proofs.Addresses.{below?}
 use Rattle.layout.proofs.RoundTrip.{PlaceSmall, place-back, DebtSmall}
 use Rattle.layout.proofs.Blocks.{NeatThread, absent-neat, thread-back, debt-in-range}
 use Rattle.layout.proofs.Neat.{seat-small}
-use Rattle.layout.proofs.Tests.{Decides, tells-map, tells-and, tells-or, tells-eqb, tells-leb, tells-some}
-use Rattle.layout.proofs.Tests.{tells-awaited}
+use Rattle.layout.proofs.Tests.{Decides, tells-map, tells-and, tells-or, tells-eqb, tells-leb}
+use Rattle.layout.proofs.Tests.{tells-awaited, tells-stands}
 use Rattle.soundness.specs.Checks.{threadAt, endpointAt, absentTest, numbersTest, storedTest, waitsTest, owesTest}
 use Rattle.soundness.specs.Checks.{presentTest, blockTest}
 use Rattle.soundness.proofs.Tests.{tells-ltb, tells-pick, decided}
@@ -53,7 +52,7 @@ OnLine m t w = (w < 130) ⊎ (word m (at (Slot.Line (w - 130))) ≡ suc (suc t))
 abbrev Owing : List ℕ → ℕ → ℕ → ℕ → Type 0
 Owing m t n zero = n ≡ 0
 Owing m t n (suc w) =
-    (w < 64 → (n ≡ 0) × (endpointAt m Part.Owner w ≡ suc t)) × ((w < 64 → ⊥) → (w < 128) × (n < 2 ^ 28))
+    (w < 64 → (n ≡ 0) × (endpointAt m Part.Aborting w ≡ 1)) × ((w < 64 → ⊥) → (w < 128) × (n < 2 ^ 28))
 
 module _ (m : List ℕ) (t : ℕ) where
   tells-absent : Decides (absentTest m t) (Zeros (λ f. threadAt m f t))
@@ -83,7 +82,7 @@ module _ (m : List ℕ) (t : ℕ) where
   unfolding owesTest
   tells-owes zero = tells-eqb _ 0
   tells-owes (suc w) =
-      tells-pick (tells-ltb w 64) (tells-and (tells-eqb _ 0) (tells-eqb _ (suc t)))
+      tells-pick (tells-ltb w 64) (tells-and (tells-eqb _ 0) (tells-eqb _ 1))
       (tells-and (tells-ltb w 128) (tells-ltb _ (2 ^ 28)))
 
   tells-words :
@@ -118,7 +117,7 @@ debt-coded m t n zero h = (nothing, tt, refl, sym h)
 debt-coded m t n (suc w) h = go (below? w 64)
   where
     go : (w < 64) ⊎ (64 ≤ w) → (d : Debt) × DebtSmall d × (debtCode d ≡ suc w) × (noteCode d ≡ n)
-    go (inl g) = (owns w, omega arith, omega arith, sym (h .0 g .0))
+    go (inl g) = (works w, omega arith, omega arith, sym (h .0 g .0))
     go (inr g) =
         let k = h .1 (λ z. omega arith) in
         (noted (w - 64) n, (omega (arith, k .0), k .1), omega arith, refl)
@@ -249,12 +248,12 @@ block-words m t h e = go (same? (threadAt m Field.Place t) 0) (tells-words m t .
 
 -- What is left of the test
 
--- The line that a thread waits on names it; the abort that it owns names it.
+-- The line that a thread waits on names it; the abort that it works on stands.
 abbrev pub NamesWaiter : State → ℕ → Type 0
 NamesWaiter s t = (l : ℕ) → s .threads t .place ≡ waiting l → s .lines l ≡ awaited t
 
-abbrev pub NamesOwner : State → ℕ → Type 0
-NamesOwner s t = (e : ℕ) → s .threads t .debt ≡ owns e → ownerOf (s .endpoints e .abort) ≡ some t
+abbrev pub WorkStands : State → ℕ → Type 0
+WorkStands s t = (e : ℕ) → s .threads t .debt ≡ works e → isAborting (s .endpoints e .abort) ≡ true
 
 code-small : (p : Place) → PlaceSmall p → placeCode p ≤ 161
 code-small absent h = omega arith
@@ -335,33 +334,35 @@ module _ (m : List ℕ) (s : State) (R : Reads m s) (t : ℕ) (h : t ≤ 255) wh
       let back : 130 + l - 130 ≡ l = omega arith in
       inr (rw back (R .slots (Slot.Line l) g ∙ ap lineCode (W l e)))
 
-  -- The abort that it owns.
+  -- The abort that it works on.
 
-  owes-of : Owing m t (threadAt m Field.Note t) (threadAt m Field.Owes t) → NamesOwner s t
+  owes-of : Owing m t (threadAt m Field.Note t) (threadAt m Field.Owes t) → WorkStands s t
   owes-of o e i =
       let small : e ≤ 63 = subst DebtSmall i (X .debt-small) in
       let code : threadAt m Field.Owes t ≡ suc e
       = (here Field.Owes ∙ ap debtCode i) ∙ (let z : 1 + e ≡ suc e = omega arith in z) in
       let k = subst (Owing m t (threadAt m Field.Note t)) code o .0 (omega arith) .1 in
-      tells-some (ownerOf (s .endpoints e .abort)) t .holds
-      (tells-eqb (linkOf (ownerOf (s .endpoints e .abort))) (suc t) .back
-      (sym (R .slots (Slot.Endpoint Part.Owner e) small) ∙ k))
+      tells-stands (s .endpoints e .abort) .holds
+      (tells-eqb (abortCode (s .endpoints e .abort)) 1 .back
+      (sym (R .slots (Slot.Endpoint Part.Aborting e) small) ∙ k))
 
-  owing : NamesOwner s t → (d : Debt) → s .threads t .debt ≡ d → DebtSmall d → Owing m t (noteCode d) (debtCode d)
-  owing O nothing i g = refl
-  owing O (owns e) i g =
+  owing : WorkStands s t → (d : Debt) → s .threads t .debt ≡ d → DebtSmall d → Owing m t (noteCode d) (debtCode d)
+  owing W nothing i g = refl
+  owing W (works e) i g =
       let z : 1 + e ≡ suc e = omega arith in
+      let code = tells-eqb (abortCode (s .endpoints e .abort)) 1 .holds
+      (tells-stands (s .endpoints e .abort) .back (W e i)) in
       subst (Owing m t 0) (sym z)
-      (λ _. (refl, R .slots (Slot.Endpoint Part.Owner e) g ∙ ap linkOf (O e i)), λ n. absurd (n (omega arith)))
-  owing O (noted e b) i g =
+      (λ _. (refl, R .slots (Slot.Endpoint Part.Aborting e) g ∙ code), λ n. absurd (n (omega arith)))
+  owing W (noted e b) i g =
       let z : 65 + e ≡ suc (64 + e) = omega arith in
       subst (Owing m t b) (sym z) (λ k. absurd (omega arith), λ _. (omega arith, g .1))
 
   -- What is left of the test of a neat thread's words.
-  pub tells-block : Decides (blockTest m t) (NamesWaiter s t × NamesOwner s t)
+  pub tells-block : Decides (blockTest m t) (NamesWaiter s t × WorkStands s t)
   tells-block = tells-map from to (tells-words m t)
     where
-      absent-owes : threadAt m Field.Place t ≡ 0 → NamesOwner s t
+      absent-owes : threadAt m Field.Place t ≡ 0 → WorkStands s t
       absent-owes z e i =
           absurd (omega (arith, sym (zero-word z Field.Owes) ∙ here Field.Owes ∙ ap debtCode i))
 
@@ -372,12 +373,12 @@ module _ (m : List ℕ) (s : State) (R : Reads m s) (t : ℕ) (h : t ≤ 255) wh
           × ((threadAt m Field.Place t ≡ 0 → ⊥)
           → ((Counted (λ f. threadAt m f t) × Kept (λ f. threadAt m f t)) × OnLine m t (threadAt m Field.Place t))
           × Owing m t (threadAt m Field.Note t) (threadAt m Field.Owes t))
-          → NamesWaiter s t × NamesOwner s t
+          → NamesWaiter s t × WorkStands s t
       from r =
           ⊎-elim (λ z. (absent-waits z, absent-owes z)) (λ n. (waits-of (r .1 n .0 .1), owes-of (r .1 n .1)))
           (decided (tells-eqb (threadAt m Field.Place t) 0))
 
-      to : NamesWaiter s t × NamesOwner s t
+      to : NamesWaiter s t × WorkStands s t
           → (threadAt m Field.Place t ≡ 0 → Zeros (λ f. threadAt m f t))
           × ((threadAt m Field.Place t ≡ 0 → ⊥)
           → ((Counted (λ f. threadAt m f t) × Kept (λ f. threadAt m f t)) × OnLine m t (threadAt m Field.Place t))

@@ -1,5 +1,5 @@
--- An endpoint's words: where its tests pass they are those of the endpoint read off them; and what is left of the tests
--- once they are a neat endpoint's: that the owner of its abort owes it.
+-- An endpoint's words: where its tests pass they are those of the endpoint read off them, and the words of a neat
+-- endpoint pass.
 use Prim.Native.Nat.{ℕ, zero, suc, _-_, _^_, _≤_, _<_}
 use mathlib.Core.Path.{_≡_, refl, sym, _∙_, ap, subst}
 use mathlib.Core.Logic.{_↔_, ⊎-elim}
@@ -7,40 +7,31 @@ use mathlib.Core.Bool.{true}
 use mathlib.Core.Option.{Option, none, some}
 use mathlib.Core.List.{List, [], _∷_}
 use native.Mathlib.Omega.{arith}
-use borrow.Author.Tests.{le-leb}
-use Rattle.machine.specs.State.{State, owns, Abort, Status, missing, live, closing, Endpoint, missingEndpoint}
-use Rattle.machine.specs.Endpoints.{ownerOf, pendingOf}
-use Rattle.layout.specs.declared.Field.{Field}
+use Rattle.machine.specs.State.{State, Abort, Status, missing, live, closing, Endpoint, missingEndpoint}
+use Rattle.machine.specs.Endpoints.{pendingOf}
 use Rattle.layout.specs.declared.Part.{Part}
 use Rattle.layout.specs.declared.Slot.{Slot}
 use Rattle.layout.specs.declared.Link.{Link}
 use Rattle.layout.specs.Addresses.{linkAt, word, endpointQueue}
-use Rattle.layout.specs.Words.{linkOf, firstOf, lastOf, debtCode, statusCode, abortCode, badgeCode, endpointWord}
+use Rattle.layout.specs.Words.{firstOf, lastOf, statusCode, abortCode, badgeCode, endpointWord}
 use Rattle.layout.specs.Shows.{Chain}
-use Rattle.layout.specs.Decode.{linked, between, abortBy, endpointBy, endpointFrom}
+use Rattle.layout.specs.Decode.{between, abortBy, endpointBy, endpointFrom}
 use Rattle.layout.proofs.Chains.{chain-first, first-zero}
 use Rattle.layout.proofs.RoundTrip.{within-same}
-use Rattle.layout.proofs.Ends.{NeatEndpoint, none-some}
-use Rattle.layout.proofs.Tests.{Decides, tells-true, tells-false, tells-map, tells-and, tells-agree, tells-eqb}
-use Rattle.layout.proofs.Tests.{tells-leb}
-use Rattle.layout.proofs.Tests.{tells-owns}
-use Rattle.soundness.specs.Checks.{threadAt, endpointAt, ownerTest, abortTest, statusTest}
+use Rattle.layout.proofs.Ends.{NeatEndpoint}
+use Rattle.layout.proofs.Tests.{Decides, tells-true, tells-false, tells-and, tells-agree, tells-eqb}
+use Rattle.soundness.specs.Checks.{endpointAt, abortTest, statusTest}
 use Rattle.soundness.proofs.Tests.{tells-ltb, decided}
 use Rattle.soundness.proofs.Cursors.{FromTo}
 use Rattle.soundness.proofs.Reading.{Reads, end-joined}
 
 -- What the tests say of an endpoint's words.
 
-abbrev Owned : List ℕ → ℕ → ℕ → Type 0
-Owned m e zero = Unit {0}
-Owned m e (suc t) = (t ≤ 255) × (threadAt m Field.Owes t ≡ debtCode (owns e))
-
 abbrev Aborting : List ℕ → ℕ → ℕ → Type 0
 Aborting m e zero =
-    (((endpointAt m Part.Aborted e ≡ 0) × (endpointAt m Part.Owner e ≡ 0)) × (endpointAt m Part.Cursor e ≡ 0))
-    × (endpointAt m Part.End e ≡ 0)
+    ((endpointAt m Part.Aborted e ≡ 0) × (endpointAt m Part.Cursor e ≡ 0)) × (endpointAt m Part.End e ≡ 0)
 Aborting m e (suc zero) =
-    ((endpointAt m Part.Aborted e < 2 ^ 28) × Owned m e (endpointAt m Part.Owner e))
+    (endpointAt m Part.Aborted e < 2 ^ 28)
     × ((endpointAt m Part.Cursor e ≡ 0) ↔ (endpointAt m Part.End e ≡ 0))
 Aborting m e (suc (suc n)) = ⊥
 
@@ -51,18 +42,10 @@ Standing m e (suc (suc zero)) = endpointAt m Part.Aborting e ≡ 0
 Standing m e (suc (suc (suc n))) = ⊥
 
 module _ (m : List ℕ) (e : ℕ) where
-  tells-owner : (w : ℕ) → Decides (ownerTest w m e) (Owned m e w)
-  unfolding ownerTest
-  tells-owner zero = tells-true tt
-  tells-owner (suc t) = tells-and (tells-leb t 255) (tells-eqb _ (debtCode (owns e)))
-
   tells-aborting : (n : ℕ) → Decides (abortTest n m e) (Aborting m e n)
   unfolding abortTest
-  tells-aborting zero =
-      tells-and (tells-and (tells-and (tells-eqb _ 0) (tells-eqb _ 0)) (tells-eqb _ 0)) (tells-eqb _ 0)
-  tells-aborting (suc zero) =
-      tells-and (tells-and (tells-ltb _ (2 ^ 28)) (tells-owner (endpointAt m Part.Owner e)))
-      (tells-agree (tells-eqb _ 0) (tells-eqb _ 0))
+  tells-aborting zero = tells-and (tells-and (tells-eqb _ 0) (tells-eqb _ 0)) (tells-eqb _ 0)
+  tells-aborting (suc zero) = tells-and (tells-ltb _ (2 ^ 28)) (tells-agree (tells-eqb _ 0) (tells-eqb _ 0))
   tells-aborting (suc (suc n)) = tells-false (λ z. z)
 
   tells-status : (n : ℕ) → Decides (statusTest n m e) (Standing m e n)
@@ -82,12 +65,6 @@ both-none : (l : List ℕ) → (firstOf l ≡ 0) ↔ (lastOf 0 l ≡ 0)
 both-none [] = (λ e. e, λ e. e)
 both-none (t ∷ l) = (λ e. absurd (omega arith), λ e. absurd (last-some t l e))
 
--- A link that is in range is written as it was read.
-pub linked-again : (w : ℕ) → w ≤ 256 → linkOf (linked w) ≡ w
-unfolding linked
-linked-again zero h = refl
-linked-again (suc t) h = rw (le-leb t 255 (omega arith))
-
 -- Where the marks are both none or neither is, the part ends at the end mark.
 marked-end :
     {c d b : ℕ} {g : ℕ → ℕ} {l part : List ℕ} → FromTo c d b g l part → (c ≡ 0) ↔ (d ≡ 0) → lastOf 0 part ≡ d
@@ -101,7 +78,6 @@ marked-end {c} {part = part} M h =
 record Same-abort (w : Part → ℕ) (o : Option Abort) : Type 0 where
   stands : abortCode o ≡ w Part.Aborting
   under : badgeCode o ≡ w Part.Aborted
-  owned : linkOf (ownerOf o) ≡ w Part.Owner
   starts : firstOf (pendingOf o) ≡ w Part.Cursor
   ends : lastOf 0 (pendingOf o) ≡ w Part.End
 
@@ -117,15 +93,10 @@ module _ (m : List ℕ) (e : ℕ) where
       let h = subst (Aborting m e) z a in
       record {
         stands = sym z;
-        under = sym (h .0 .0 .0);
-        owned = sym (h .0 .0 .1);
+        under = sym (h .0 .0);
         starts = sym (h .0 .1);
         ends = sym (h .1);
       }
-
-  owner-small : (w : ℕ) → Owned m e w → w ≤ 256
-  owner-small zero o = omega arith
-  owner-small (suc t) o = omega (arith, o .0)
 
   module _ (l : List ℕ) (b : ℕ) (g : ℕ → ℕ)
       (M : FromTo (endpointAt m Part.Cursor e) (endpointAt m Part.End e) b g l
@@ -138,8 +109,7 @@ module _ (m : List ℕ) (e : ℕ) where
     some-abort (suc zero) z a =
         record {
           stands = sym z;
-          under = within-same (2 ^ 28 - 1) (endpointAt m Part.Aborted e) (omega (arith, a .0 .0));
-          owned = linked-again (endpointAt m Part.Owner e) (owner-small (endpointAt m Part.Owner e) (a .0 .1));
+          under = within-same (2 ^ 28 - 1) (endpointAt m Part.Aborted e) (omega (arith, a .0));
           starts = M .first;
           ends = marked-end M (a .1);
         }
@@ -154,7 +124,6 @@ module _ (m : List ℕ) (e : ℕ) where
         go Part.Status = st
         go Part.Aborting = a .stands
         go Part.Aborted = a .under
-        go Part.Owner = a .owned
         go Part.Cursor = a .starts
         go Part.End = a .ends
 
@@ -181,11 +150,7 @@ module _ (m : List ℕ) (e : ℕ) where
         end-at (endpointAt m Part.Status e) refl (tells-status m e (endpointAt m Part.Status e) .holds st)
         (tells-aborting m e (endpointAt m Part.Aborting e) .holds a)
 
--- What is left of the tests
-
--- The owner of the endpoint's abort owes it.
-abbrev pub Paired : State → ℕ → Type 0
-Paired s e = (t : ℕ) → ownerOf (s .endpoints e .abort) ≡ some t → s .threads t .debt ≡ owns e
+-- From the endpoint to the tests
 
 module _ (m : List ℕ) (s : State) (R : Reads m s) (e : ℕ) (h : e ≤ 63) where
   X : NeatEndpoint (s .endpoints e)
@@ -208,44 +173,20 @@ module _ (m : List ℕ) (s : State) (R : Reads m s) (e : ℕ) (h : e ≤ 63) whe
       go live i = tt
       go closing i = no-abort-there (λ j. omega (arith, ap statusCode (sym i ∙ j)))
 
-  owns-there : (t : ℕ) → Owned m e (suc t) → s .threads t .debt ≡ owns e
-  owns-there t o =
-      tells-owns (s .threads t .debt) e h .holds
-      (tells-eqb (debtCode (s .threads t .debt)) (debtCode (owns e)) .back
-      (sym (R .slots (Slot.Thread Field.Owes t) (o .0)) ∙ o .1))
-
-  owned-there : Paired s e → (o : Option ℕ) → ownerOf (s .endpoints e .abort) ≡ o → Owned m e (linkOf o)
-  owned-there P none i = tt
-  owned-there P (some t) i =
-      let small = X .neat .owner t i in
-      (small, R .slots (Slot.Thread Field.Owes t) small ∙ ap debtCode (P t i))
-
-  from-aborting : (o : Option Abort) → s .endpoints e .abort ≡ o → Aborting m e (abortCode o) → Paired s e
-  from-aborting none i a t k = none-some (ap ownerOf (sym i) ∙ k)
-  from-aborting (some b) i a t k =
-      owns-there t (subst (Owned m e) (here Part.Owner ∙ ap linkOf k) (a .0 .1))
-
-  to-aborting : Paired s e → (o : Option Abort) → s .endpoints e .abort ≡ o → Aborting m e (abortCode o)
-  to-aborting P none i = (
-    (
-      (here Part.Aborted ∙ ap badgeCode i, here Part.Owner ∙ ap (λ (o : Option Abort). linkOf (ownerOf o)) i),
-      here Part.Cursor ∙ ap (λ (o : Option Abort). firstOf (pendingOf o)) i,
-    ),
+  has-abort : (o : Option Abort) → s .endpoints e .abort ≡ o → Aborting m e (abortCode o)
+  has-abort none i = (
+    (here Part.Aborted ∙ ap badgeCode i, here Part.Cursor ∙ ap (λ (o : Option Abort). firstOf (pendingOf o)) i),
     here Part.End ∙ ap (λ (o : Option Abort). lastOf 0 (pendingOf o)) i,
   )
-  to-aborting P (some b) i = (
-    (
-      omega (arith, here Part.Aborted, X .neat .badge),
-      subst (Owned m e) (sym (here Part.Owner)) (owned-there P (ownerOf (s .endpoints e .abort)) refl),
-    ),
+  has-abort (some b) i = (
+    omega (arith, here Part.Aborted, X .neat .badge),
     rw (here Part.Cursor, here Part.End) (both-none (pendingOf (s .endpoints e .abort))),
   )
 
-  pub tells-paired : Decides (abortTest (endpointAt m Part.Aborting e) m e) (Paired s e)
-  tells-paired =
-      rw (here Part.Aborting) (tells-map (from-aborting (s .endpoints e .abort) refl)
-      (λ P. to-aborting P (s .endpoints e .abort) refl)
-      (tells-aborting m e (abortCode (s .endpoints e .abort))))
+  pub abort-passes : abortTest (endpointAt m Part.Aborting e) m e ≡ true
+  abort-passes =
+      rw (here Part.Aborting) (tells-aborting m e (abortCode (s .endpoints e .abort)) .back
+      (has-abort (s .endpoints e .abort) refl))
 
   pub status-passes : statusTest (endpointAt m Part.Status e) m e ≡ true
   status-passes = tells-status m e (endpointAt m Part.Status e) .back has-status

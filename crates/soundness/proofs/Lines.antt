@@ -140,5 +140,5 @@ module _ (m : List ℕ) (s : State) (R : Reads m s) where
         R .slots Slot.Top tt ∙ sym (same-top m s (level-joined m s R)),
       )
 
-  pub unused-passes : (i : ℕ) → i < 470 → unusedTest m i ≡ true
+  pub unused-passes : (i : ℕ) → i < 534 → unusedTest m i ≡ true
   unused-passes i h = tells-unused m i .back (R .slots (Slot.Unused i) (omega arith))

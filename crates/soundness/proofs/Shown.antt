@@ -1,7 +1,7 @@
 -- From the tests to a state: where they pass, the words are those of the state decoded from them, and the links join
 -- its queues.
-use Prim.Native.Nat.{ℕ, _≤_}
-use mathlib.Core.Path.{_≡_, sym, _∙_, ap}
+use Prim.Native.Nat.{ℕ, zero, suc, _≤_}
+use mathlib.Core.Path.{_≡_, refl, sym, _∙_, ap}
 use mathlib.Core.Bool.{true}
 use mathlib.Core.List.{List}
 use native.Mathlib.Omega.{arith}
@@ -9,9 +9,9 @@ use borrow.Author.Tests.{le-leb}
 use Rattle.machine.specs.State.{Thread}
 use Rattle.layout.specs.declared.Slot.{Slot}
 use Rattle.layout.specs.Addresses.{ValidSlot, at, word, afterAt, endpointQueue}
-use Rattle.layout.specs.Words.{threadWord, lineCode, content, queuesOf}
+use Rattle.layout.specs.Words.{linkOf, threadWord, lineCode, content, queuesOf}
 use Rattle.layout.specs.Shows.{Chain}
-use Rattle.layout.specs.Decode.{threadFrom, endpointFrom, lineBy, queueFrom, decode}
+use Rattle.layout.specs.Decode.{linked, threadFrom, endpointFrom, lineBy, queueFrom, decode}
 use Rattle.layout.proofs.Standing.{Queue, level, endpoint, queue?, queues-level, queues-endpoint}
 use Rattle.layout.proofs.Decode.{decode-neat}
 use Rattle.soundness.specs.Checks.{endpointAt, threadAt, readyTest, levelTest}
@@ -19,10 +19,16 @@ use Rattle.soundness.proofs.Tests.{every}
 use Rattle.soundness.proofs.Following.{level-split, walk-found}
 use Rattle.soundness.proofs.Reading.{Reads, same-word, same-top}
 use Rattle.soundness.proofs.Blocks.{block-words}
-use Rattle.soundness.proofs.Ends.{Same-end, end-words, linked-again}
+use Rattle.soundness.proofs.Ends.{Same-end, end-words}
 use Rattle.soundness.proofs.Waiters.{end-found}
 use Rattle.soundness.proofs.Lines.{line-word, runs-in-range, tells-summary, tells-unused}
 use Rattle.soundness.proofs.Tried.{Tried}
+
+-- A link that is in range is written as it was read.
+linked-again : (w : ℕ) → w ≤ 256 → linkOf (linked w) ≡ w
+unfolding linked
+linked-again zero h = refl
+linked-again (suc t) h = rw (le-leb t 255 (omega arith))
 
 -- The entries of the decoded state.
 

@@ -7,15 +7,14 @@ use mathlib.Core.Option.{Option, none, some}
 use mathlib.Core.List.{List, [], _∷_, _++_}
 use native.Mathlib.Omega.{arith}
 use Rattle.machine.specs.Lists.{Mem, Distinct}
-use Rattle.machine.specs.State.{State, Thread, Place, able, sending, receiving, owns, Abort, Endpoint, awaited}
-use Rattle.machine.specs.Endpoints.{ownerOf, pendingOf}
+use Rattle.machine.specs.State.{State, Thread, Place, able, sending, receiving, works, Abort, Endpoint, awaited}
+use Rattle.machine.specs.Endpoints.{pendingOf}
 use Rattle.machine.specs.Sound.{Ready, Queued, Queues, Chosen, Marks, Sound}
 use Rattle.layout.specs.Addresses.{endpointQueue}
 use Rattle.layout.specs.Words.{placeCode, debtCode, lineCode, badgeCode, queuesOf}
 use Rattle.layout.specs.Shows.{Linked}
 use Rattle.layout.proofs.Addresses.{below?}
 use Rattle.layout.proofs.Blocks.{beyond-absent}
-use Rattle.layout.proofs.Ends.{none-some}
 use Rattle.layout.proofs.Standing.{Queue, level, endpoint, queue?, queues-level, queues-endpoint, each-queue}
 use Rattle.layout.proofs.Standing.{queue-small, queue-distinct, queue-apart}
 use Rattle.layout.proofs.Neat.{NeatState, nobody}
@@ -55,7 +54,7 @@ module _ (m : List ℕ) (s : State) (R : Reads m s) (L : Untried m s) where
   N : NeatState s
   N = R .neat
 
-  -- A level or an endpoint in which somebody stands is in range, and so is one with an abort or a line with a waiter.
+  -- A level or an endpoint in which somebody stands is in range, and so is a line with a waiter.
 
   level-in : (t p : ℕ) → Mem t (s .levels p) → p < 256
   level-in t p k = ⊎-elim (λ h. h) (λ h. absurd (subst (Mem t) (N .unused-level p h) k)) (below? p 256)
@@ -65,16 +64,11 @@ module _ (m : List ℕ) (s : State) (R : Reads m s) (L : Untried m s) where
       ⊎-elim (λ h. h)
       (λ h. absurd (subst (Mem t) (ap (λ (x : Endpoint). x .waiters) (N .unused-endpoint e h)) k)) (below? e 64)
 
-  owner-in : (e t : ℕ) → ownerOf (s .endpoints e .abort) ≡ some t → e < 64
-  owner-in e t o =
-      ⊎-elim (λ h. h)
-      (λ h. none-some (ap (λ (x : Endpoint). ownerOf (x .abort)) (sym (N .unused-endpoint e h)) ∙ o)) (below? e 64)
-
   line-in : (l t : ℕ) → s .lines l ≡ awaited t → l < 32
   line-in l t i =
       ⊎-elim (λ h. h) (λ h. absurd (omega (arith, ap lineCode (sym (N .unused-line l h) ∙ i)))) (below? l 32)
 
-  debt-in : (t e : ℕ) → s .threads t .debt ≡ owns e → t < 256
+  debt-in : (t e : ℕ) → s .threads t .debt ≡ works e → t < 256
   debt-in t e i =
       ⊎-elim (λ h. h)
       (λ h.
@@ -197,10 +191,7 @@ module _ (m : List ℕ) (s : State) (R : Reads m s) (L : Untried m s) where
         chosen = chosen;
         statuses = record { empty = λ e. N .endpoints e .empty; no-abort = λ e. N .endpoints e .no-abort };
         marks = marks;
-        owners =
-            record {
-              each-other = λ e t. (λ o. L .paired e (owner-in e t o) t o, λ d. L .threads t (debt-in t e d) .1 e d);
-            };
+        members = record { stands = λ e t d. L .threads t (debt-in t e d) .1 e d };
         outcomes = record { blocked = λ t. N .threads t .blocked; stored = λ t. N .threads t .stored };
       }
 
@@ -273,9 +264,8 @@ module _ (m : List ℕ) (s : State) (R : Reads m s) (S : Sound s) (K : Linked m 
   pub sound-left : Untried m s
   sound-left =
       record {
-        threads = λ t h. (λ l. S .queues .on-line t l .1, λ e. S .owners .each-other e t .1);
+        threads = λ t h. (λ l. S .queues .on-line t l .1, λ e. S .members .stands e t);
         levels = λ p h t k. let r = S .queues .ready t p .0 k in ((r .0 .0, r .1), r .0 .1);
-        paired = λ e h t. S .owners .each-other e t .0;
         waiters = λ e h. (
           alike e (s .endpoints e .waiters) refl,
           λ a t i p k b. rw i (S .marks .none-outside e t a i p b),

@@ -17,8 +17,8 @@ use Rattle.soundness.specs.Checks.{endpointTest, lineTest, summaryTest, 
 use Rattle.soundness.specs.Checks.{goodTest}
 use Rattle.soundness.proofs.Tests.{tells-itself}
 use Rattle.soundness.proofs.Reading.{Reads, tells-level}
-use Rattle.soundness.proofs.Blocks.{NamesWaiter, NamesOwner, tells-block}
-use Rattle.soundness.proofs.Ends.{Paired, tells-paired, status-passes}
+use Rattle.soundness.proofs.Blocks.{NamesWaiter, WorkStands, tells-block}
+use Rattle.soundness.proofs.Ends.{status-passes, abort-passes}
 use Rattle.soundness.proofs.Waiters.{AllAlike, NoneOutside, tells-waiters}
 use Rattle.soundness.proofs.Lines.{Fires, tells-line, NoneAbove, tells-running, summary-passes, unused-passes}
 use Rattle.soundness.proofs.Placed.{InQueue, Belongs, tells-placed}
@@ -34,7 +34,7 @@ pub record Tried (m : List ℕ) : Type 0 where
   pub lines : (l : ℕ) → l < 32 → lineTest m l ≡ true
   pub summary : summaryTest m ≡ true
   pub running : runningTest m ≡ true
-  pub unused : (i : ℕ) → i < 470 → unusedTest m i ≡ true
+  pub unused : (i : ℕ) → i < 534 → unusedTest m i ≡ true
   pub placed : (t : ℕ) → t < 256 → placedTest m t ≡ true
 
 pub tells-tried : (m : List ℕ) → Decides (goodTest m) (Tried m)
@@ -58,15 +58,14 @@ tells-tried m =
     (tells-below 256 _ _ (λ t h. tells-itself)) (tells-below 256 _ _ (λ p h. tells-itself)))
     (tells-below 64 _ _ (λ e h. tells-and (tells-and tells-itself tells-itself) tells-itself)))
     (tells-below 32 _ _ (λ l h. tells-itself))) tells-itself) tells-itself)
-    (tells-below 470 _ _ (λ i h. tells-itself))) (tells-below 256 _ _ (λ t h. tells-itself)))
+    (tells-below 534 _ _ (λ i h. tells-itself))) (tells-below 256 _ _ (λ t h. tells-itself)))
 
 -- What is left of the tests.
 pub record Untried (m : List ℕ) (s : State) : Type 0 where
-  pub threads : (t : ℕ) → t < 256 → NamesWaiter s t × NamesOwner s t
+  pub threads : (t : ℕ) → t < 256 → NamesWaiter s t × WorkStands s t
   pub levels :
       (p : ℕ) → p < 256 → (t : ℕ) → Mem t (s .levels p)
       → ((s .threads t .place ≡ able) × (s .threads t .priority ≡ p)) × (s .runs ≡ some t → ⊥)
-  pub paired : (e : ℕ) → e < 64 → Paired s e
   pub waiters : (e : ℕ) → e < 64 → AllAlike s e × NoneOutside s e
   pub lines : (l : ℕ) → l < 32 → Fires s l
   pub running : NoneAbove s (s .runs)
@@ -81,7 +80,6 @@ module _ (m : List ℕ) (s : State) (R : Reads m s) where
       record {
         threads = λ t h. tells-block m s R t (omega arith) .holds (T .blocks t h);
         levels = λ p h. tells-level m s R p (omega arith) .holds (T .levels p h);
-        paired = λ e h. tells-paired m s R e (omega arith) .holds (T .ends e h .0 .1);
         waiters = λ e h. tells-waiters m s R e (omega arith) .holds (T .ends e h .1);
         lines = λ l h. tells-line m s R l (omega arith) .holds (T .lines l h);
         running = tells-running m s R .holds (T .running);
@@ -94,7 +92,7 @@ module _ (m : List ℕ) (s : State) (R : Reads m s) where
         blocks = λ t h. tells-block m s R t (omega arith) .back (L .threads t h);
         levels = λ p h. tells-level m s R p (omega arith) .back (L .levels p h);
         ends = λ e h. (
-          (status-passes m s R e (omega arith), tells-paired m s R e (omega arith) .back (L .paired e h)),
+          (status-passes m s R e (omega arith), abort-passes m s R e (omega arith)),
           tells-waiters m s R e (omega arith) .back (L .waiters e h),
         );
         lines = λ l h. tells-line m s R l (omega arith) .back (L .lines l h);

@@ -5,7 +5,7 @@ use mathlib.Core.Bool.{Bool, true, false, not, _&&_, _||_}
 use mathlib.Core.List.{List, [], _∷_}
 use lib.Dec.{eqb, leb, ltb}
 use Rattle.machine.specs.Lists.{pick}
-use Rattle.machine.specs.State.{absent, able, sending, receiving, waiting, owns, noted, awaited, noOutcome}
+use Rattle.machine.specs.State.{absent, able, sending, receiving, waiting, works, noted, awaited, noOutcome}
 use Rattle.machine.specs.State.{messageReceived}
 use Rattle.summary.specs.Levels.{wordOf, topOf}
 use Rattle.layout.specs.declared.Field.{Field}
@@ -56,12 +56,12 @@ waitsTest m t =
     ltb (threadAt m Field.Place t) (placeCode (waiting 0))
     || eqb (word m (at (Slot.Line (threadAt m Field.Place t - placeCode (waiting 0))))) (lineCode (awaited t))
 
--- What a thread owes: nothing, an abort that names it as owner, or a note of a badge in range.
+-- What a thread owes: nothing, work on an abort that stands, or a note of a badge in range.
 unfoldable pub owesTest : ℕ → List ℕ → ℕ → Bool
 owesTest zero m t = eqb (threadAt m Field.Note t) 0
 owesTest (suc w) m t =
-    pick (leb (suc w) (debtCode (owns 63)))
-    (eqb (threadAt m Field.Note t) 0 && eqb (endpointAt m Part.Owner w) (suc t))
+    pick (leb (suc w) (debtCode (works 63)))
+    (eqb (threadAt m Field.Note t) 0 && eqb (endpointAt m Part.Aborting w) 1)
     (leb (suc w) (debtCode (noted 63 0)) && ltb (threadAt m Field.Note t) (2 ^ 28))
 
 unfoldable pub presentTest : List ℕ → ℕ → Bool
@@ -143,18 +143,12 @@ waitersTest m e =
     && waitersFrom 257 (word m (afterAt (endpointQueue e) 0)) Phase.Ahead m (endpointQueue e) (kindIn m e)
     (endpointAt m Part.Cursor e) (endpointAt m Part.End e) (bannedOf m e (kindIn m e)) 0
 
--- An owner owes: it names the endpoint.
-unfoldable pub ownerTest : ℕ → List ℕ → ℕ → Bool
-ownerTest zero m e = true
-ownerTest (suc t) m e = leb t 255 && eqb (threadAt m Field.Owes t) (debtCode (owns e))
-
 -- No abort, or one of a badge in range.
 unfoldable pub abortTest : ℕ → List ℕ → ℕ → Bool
 abortTest zero m e =
-    eqb (endpointAt m Part.Aborted e) 0 && eqb (endpointAt m Part.Owner e) 0 && eqb (endpointAt m Part.Cursor e) 0
-    && eqb (endpointAt m Part.End e) 0
+    eqb (endpointAt m Part.Aborted e) 0 && eqb (endpointAt m Part.Cursor e) 0 && eqb (endpointAt m Part.End e) 0
 abortTest (suc zero) m e =
-    ltb (endpointAt m Part.Aborted e) (2 ^ 28) && ownerTest (endpointAt m Part.Owner e) m e
+    ltb (endpointAt m Part.Aborted e) (2 ^ 28)
     && same (eqb (endpointAt m Part.Cursor e) 0) (eqb (endpointAt m Part.End e) 0)
 abortTest (suc (suc n)) m e = false
 
@@ -235,4 +229,4 @@ placedTest m t =
 unfoldable pub goodTest : List ℕ → Bool
 goodTest m =
     all 256 (blockTest m) && all 256 (levelTest m) && all 64 (endpointTest m) && all 32 (lineTest m) && summaryTest m
-    && runningTest m && all 470 (unusedTest m) && all 256 (placedTest m)
+    && runningTest m && all 534 (unusedTest m) && all 256 (placedTest m)

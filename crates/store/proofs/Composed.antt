@@ -5,7 +5,7 @@ use mathlib.Core.List.{List}
 use Rattle.machine.specs.Lists.{put}
 use Rattle.machine.specs.State.{State, Thread, Place, Debt, nothing, setThread, withPlace, withPriority, withTicks}
 use Rattle.machine.specs.State.{withDebt}
-use Rattle.machine.proofs.Lists.{Same, same, other, same?, put-same, put-other}
+use Rattle.machine.proofs.Lists.{put-same, put-again}
 use Rattle.layout.specs.Shows.{Shows}
 use Rattle.store.specs.Steps.{Shown, Does}
 use Rattle.store.specs.Store.{IsThread, placing, prioritising, ticking, owing, SetsPlace, SetsDebt, Remakes}
@@ -25,19 +25,12 @@ shown-after {op = op} S D q =
 abbrev pub altering : ℕ → (Thread → Thread) → State → State
 altering t g s = setThread t (g (s .threads t)) s
 
-put-twice : (f : ℕ → Thread) (t : ℕ) (x y : Thread) → put (put f t x) t y ≡ put f t y
-put-twice f t x y = λ i k. go k (same? k t) i
-  where
-    go : (k : ℕ) → Same k t → put (put f t x) t y k ≡ put f t y k
-    go k (same e _) = rw (e, put-same (put f t x) t y, put-same f t y)
-    go k (other d _) = rw (put-other (put f t x) t k y d, put-other f t k x d, put-other f t k y d)
-
 altered-twice :
     (t : ℕ) (g h : Thread → Thread) (s : State) → altering t h (altering t g s) ≡ altering t (λ x. h (g x)) s
 altered-twice t g h s =
     let k : put (put (s .threads) t (g (s .threads t))) t (h (put (s .threads) t (g (s .threads t)) t))
     ≡ put (s .threads) t (h (g (s .threads t))) =
-    put-twice (s .threads) t (g (s .threads t)) (h (put (s .threads) t (g (s .threads t)) t))
+    put-again (s .threads) t (g (s .threads t)) (h (put (s .threads) t (g (s .threads t)) t))
     ∙ ap (λ x. put (s .threads) t (h x)) (put-same (s .threads) t (g (s .threads t))) in
     ap (λ f. record {
       threads = f;

@@ -2,22 +2,22 @@
 -- has the same waiters.
 use Prim.Native.Nat.{ℕ, _-_, _≤_}
 use mathlib.Core.Path.{_≡_, refl, sym, _∙_, ap}
-use mathlib.Core.Option.{none, some}
+use mathlib.Core.Option.{some}
 use mathlib.Core.List.{List}
 use lib.Dec.{ltb}
 use lib.ListN.{set}
 use Rattle.machine.specs.Lists.{pick, put}
 use Rattle.machine.specs.State.{State, Endpoint, setEndpoint}
-use Rattle.machine.specs.Endpoints.{ownerOf, pendingOf}
+use Rattle.machine.specs.Endpoints.{pendingOf}
 use Rattle.machine.proofs.Lists.{Same, same, other, same?, put-same, put-other}
 use Rattle.layout.specs.declared.Part.{Part}
 use Rattle.layout.specs.declared.Slot.{Slot}
 use Rattle.layout.specs.Addresses.{ValidSlot, offset, at, word}
-use Rattle.layout.specs.Words.{statusCode, abortCode, badgeCode, linkOf, firstOf, lastOf, endpointWord, content}
+use Rattle.layout.specs.Words.{statusCode, abortCode, badgeCode, firstOf, lastOf, endpointWord, content}
 use Rattle.layout.specs.Words.{queuesOf}
 use Rattle.layout.specs.Shows.{Shows}
 use Rattle.layout.proofs.Addresses.{same-part}
-use Rattle.store.specs.Store.{SetsStatus, SetsAbort, SetsOwner, SetsPending}
+use Rattle.store.specs.Store.{SetsStatus, SetsAbort, SetsPending}
 use Rattle.store.proofs.Rows.{RowChanged, change, IsRow, row-store, row-start, row-shows}
 
 -- The slots that are not of endpoint e.
@@ -36,18 +36,17 @@ siteRow e p = Slot.Endpoint p e
 abbrev Site : ℕ → List ℕ → List ℕ → (Part → ℕ) → Type 0
 Site e m n w = RowChanged (siteRow e) (OffSite e) m n w
 
--- A word for each part, where six are right.
+-- A word for each part, where five are right.
 pub parts :
     (w : Part → ℕ) (x : Endpoint) → w Part.Status ≡ statusCode (x .status) → w Part.Aborting ≡ abortCode (x .abort)
-    → w Part.Aborted ≡ badgeCode (x .abort) → w Part.Owner ≡ linkOf (ownerOf (x .abort))
-    → w Part.Cursor ≡ firstOf (pendingOf (x .abort)) → w Part.End ≡ lastOf 0 (pendingOf (x .abort))
+    → w Part.Aborted ≡ badgeCode (x .abort) → w Part.Cursor ≡ firstOf (pendingOf (x .abort))
+    → w Part.End ≡ lastOf 0 (pendingOf (x .abort))
     → (p : Part) → w p ≡ endpointWord x p
-parts w x a b c d e f Part.Status = a
-parts w x a b c d e f Part.Aborting = b
-parts w x a b c d e f Part.Aborted = c
-parts w x a b c d e f Part.Owner = d
-parts w x a b c d e f Part.Cursor = e
-parts w x a b c d e f Part.End = f
+parts w x a b c d e Part.Status = a
+parts w x a b c d e Part.Aborting = b
+parts w x a b c d e Part.Aborted = c
+parts w x a b c d e Part.Cursor = d
+parts w x a b c d e Part.End = e
 
 module _ (e : ℕ) (small : e ≤ 63) where
   is-site : IsRow (siteRow e) (OffSite e) offset
@@ -115,55 +114,39 @@ module _ (e : ℕ) {m n₁ : List ℕ} where
               shows = λ s M h.
                   site-shows e h m n₁ _ s _ M
                   (site-store e h m m n₁ _ Part.Status code e₁ (site-start e h m s M)) refl
-                  (parts _ _ (sym k) refl refl refl refl refl);
+                  (parts _ _ (sym k) refl refl refl refl);
             };
       }
 
-  pub owner-does : (code : ℕ) → n₁ ≡ set m (at (Slot.Endpoint Part.Owner e)) code → SetsOwner m e code n₁
-  owner-does code e₁ =
-      record {
-        does = λ o k.
-            record {
-              shows = λ s M h.
-                  let z : s .endpoints e .abort ≡ some (h .1 .0) = h .1 .1 in
-                  site-shows e (h .0) m n₁ _ s _ M
-                  (site-store e (h .0) m m n₁ _ Part.Owner code e₁ (site-start e (h .0) m s M)) refl
-                  (parts _ _ refl (rw z) (rw z) (rw z (sym k)) (rw z) (rw z));
-            };
-      }
-
-  module _ {n₂ n₃ n₄ n₅ : List ℕ} where
+  module _ {n₂ n₃ n₄ : List ℕ} where
     pub abort-does :
-        (here badge own first last : ℕ) → n₁ ≡ set m (at (Slot.Endpoint Part.Aborting e)) here
+        (here badge first last : ℕ) → n₁ ≡ set m (at (Slot.Endpoint Part.Aborting e)) here
         → n₂ ≡ set n₁ (at (Slot.Endpoint Part.Aborted e)) badge
-        → n₃ ≡ set n₂ (at (Slot.Endpoint Part.Owner e)) own
-        → n₄ ≡ set n₃ (at (Slot.Endpoint Part.Cursor e)) first
-        → n₅ ≡ set n₄ (at (Slot.Endpoint Part.End e)) last → SetsAbort m e here badge own first last n₅
-    abort-does here badge own first last e₁ e₂ e₃ e₄ e₅ =
+        → n₃ ≡ set n₂ (at (Slot.Endpoint Part.Cursor e)) first
+        → n₄ ≡ set n₃ (at (Slot.Endpoint Part.End e)) last → SetsAbort m e here badge first last n₄
+    abort-does here badge first last e₁ e₂ e₃ e₄ =
         record {
-          none = λ h₁ h₂ h₃ h₄ h₅.
+          none = λ h₁ h₂ h₃ h₄.
               record {
                 shows = λ s M h.
-                    site-shows e h m n₅ _ s _ M (stores s M h) refl (parts _ _ refl h₁ h₂ h₃ h₄ h₅);
+                    site-shows e h m n₄ _ s _ M (stores s M h) refl (parts _ _ refl h₁ h₂ h₃ h₄);
               };
-          some = λ a h₁ h₂ h₃ h₄ h₅.
+          some = λ a h₁ h₂ h₃ h₄.
               record {
                 shows = λ s M h.
-                    site-shows e h m n₅ _ s _ M (stores s M h) refl (parts _ _ refl h₁ h₂ h₃ h₄ h₅);
+                    site-shows e h m n₄ _ s _ M (stores s M h) refl (parts _ _ refl h₁ h₂ h₃ h₄);
               };
         }
       where
-        stores : (s : State) → Shows m s → (h : e ≤ 63) → Site e m n₅
+        stores : (s : State) → Shows m s → (h : e ≤ 63) → Site e m n₄
             (change offset Part.End last
             (change offset Part.Cursor first
-            (change offset Part.Owner own
-            (change offset Part.Aborted badge (change offset Part.Aborting here (endpointWord (s .endpoints e)))))))
+            (change offset Part.Aborted badge (change offset Part.Aborting here (endpointWord (s .endpoints e))))))
         stores s M h =
-            site-store e h m n₄ n₅ _ Part.End last e₅
-            (site-store e h m n₃ n₄ _ Part.Cursor first e₄
-            (site-store e h m n₂ n₃ _ Part.Owner own e₃
+            site-store e h m n₃ n₄ _ Part.End last e₄
+            (site-store e h m n₂ n₃ _ Part.Cursor first e₃
             (site-store e h m n₁ n₂ _ Part.Aborted badge e₂
-            (site-store e h m m n₁ _ Part.Aborting here e₁ (site-start e h m s M)))))
+            (site-store e h m m n₁ _ Part.Aborting here e₁ (site-start e h m s M))))
 
 -- The two stores of the marks.
 pub looks :
@@ -178,6 +161,6 @@ looks e {m} {n} {o} first last a b =
                 site-shows e (h .0) m o _ s _ M
                 (site-store e (h .0) m n o _ Part.End last b
                 (site-store e (h .0) m m n _ Part.Cursor first a (site-start e (h .0) m s M))) refl
-                (parts _ _ refl (rw z) (rw z) (rw z) (rw z (sym f)) (rw z (sym g)));
+                (parts _ _ refl (rw z) (rw z) (rw z (sym f)) (rw z (sym g)));
           };
     }

@@ -5,7 +5,7 @@ use mathlib.Core.Option.{Option}
 use mathlib.Core.List.{List}
 use Rattle.machine.specs.State.{State, Thread, Place, able, Debt, nothing, Abort, Status, Line, absentThread, setThread}
 use Rattle.machine.specs.State.{setRuns, setEndpoint, setLine, withPriority, withTicks, withDebt, withPlace}
-use Rattle.machine.specs.Endpoints.{setAbort, withOwner}
+use Rattle.machine.specs.Endpoints.{setAbort}
 use Rattle.layout.specs.declared.Slot.{Slot}
 use Rattle.layout.specs.Addresses.{ValidSlot}
 use Rattle.layout.specs.Words.{placeCode, debtCode, noteCode, statusCode, lineCode, linkOf, firstOf, lastOf}
@@ -51,9 +51,6 @@ creating t p s = setThread t (plainThread able p 5) s
 abbrev pub clearing : ℕ → State → State
 clearing t s = setThread t absentThread s
 
-abbrev pub owned : ℕ → Option ℕ → State → State
-owned e o s = setAbort e (withOwner o (s .endpoints e .abort)) s
-
 abbrev pub standing : ℕ → Status → State → State
 standing e x s =
     setEndpoint e
@@ -78,25 +75,20 @@ pub record SetsLine (m : List ℕ) (l code : ℕ) (m′ : List ℕ) : Type 0 whe
 pub record SetsStatus (m : List ℕ) (e code : ℕ) (m′ : List ℕ) : Type 0 where
   pub does : (x : Status) → statusCode x ≡ code → Does m m′ (IsEndpoint e) (standing e x)
 
--- An abort that stands, or none: its badge, its owner's link, and the links of the first and the last pending.
-pub record SetsAbort (m : List ℕ) (e here badge owner cursor end : ℕ) (m′ : List ℕ) : Type 0 where
-  pub none : here ≡ 0 → badge ≡ 0 → owner ≡ 0 → cursor ≡ 0 → end ≡ 0
-      → Does m m′ (IsEndpoint e) (setAbort e Option.none)
-  pub some : (a : Abort) → here ≡ 1 → badge ≡ a .badge → owner ≡ linkOf (a .owner) → cursor ≡ firstOf (a .pending)
+-- An abort that stands, or none: its badge, and the links of the first and the last pending.
+pub record SetsAbort (m : List ℕ) (e here badge cursor end : ℕ) (m′ : List ℕ) : Type 0 where
+  pub none : here ≡ 0 → badge ≡ 0 → cursor ≡ 0 → end ≡ 0 → Does m m′ (IsEndpoint e) (setAbort e Option.none)
+  pub some : (a : Abort) → here ≡ 1 → badge ≡ a .badge → cursor ≡ firstOf (a .pending)
       → end ≡ lastOf 0 (a .pending) → Does m m′ (IsEndpoint e) (setAbort e (Option.some a))
 
 -- An abort stands at the endpoint.
 abbrev pub HasAbort : ℕ → State → Type 0
 HasAbort e s = (e ≤ 63) × ((a : Abort) × (s .endpoints e .abort ≡ Option.some a))
 
--- The owner of an abort that stands.
-pub record SetsOwner (m : List ℕ) (e link : ℕ) (m′ : List ℕ) : Type 0 where
-  pub does : (o : Option ℕ) → linkOf o ≡ link → Does m m′ (HasAbort e) (owned e o)
-
 -- The abort at endpoint e has the waiters of a list to look at.
 abbrev pub withPending : List ℕ → Option Abort → Option Abort
 withPending l Option.none = Option.none
-withPending l (Option.some a) = Option.some (record { badge = a .badge; owner = a .owner; pending = l })
+withPending l (Option.some a) = Option.some (record { badge = a .badge; pending = l })
 
 abbrev pub lookingAt : ℕ → List ℕ → State → State
 lookingAt e l s = setAbort e (withPending l (s .endpoints e .abort)) s

@@ -6,9 +6,9 @@ ghost use Prim.Native.Nat.{_≤_, _<_};
 ghost use lib.ListN.{length};
 ghost use Rattle.layout.specs.Addresses.{tableWords};
 ghost use Rattle.store.specs.Steps.{Shown, Does, Tells};
-ghost use Rattle.store.specs.Store.{IsSlot, IsThread, IsEndpoint, IsLine, Any, HasAbort};
+ghost use Rattle.store.specs.Store.{IsSlot, IsThread, IsEndpoint, IsLine, Any};
 ghost use Rattle.store.specs.Store.{prioritising, ticking, creating, clearing};
-ghost use Rattle.store.specs.Store.{SetsPlace, SetsDebt, SetsRunning, SetsLine, SetsStatus, SetsAbort, SetsOwner};
+ghost use Rattle.store.specs.Store.{SetsPlace, SetsDebt, SetsRunning, SetsLine, SetsStatus, SetsAbort};
 ghost use Rattle.store.specs.Store.{Remakes, SetsPending};
 ghost use Rattle.store.specs.Readings.{slotIn, threadIn, endpointIn, lineIn, runningIn};
 ghost use Rattle.store.specs.Levels.{LoadsSummary, SetsLevel, WritesLevel};
@@ -145,32 +145,15 @@ pub fn set_status(tables: &mut [u32], e: usize, code: u32)
     words::put(tables, Slot::Endpoint(Part::Status, e), code);
 }
 
-// The abort at endpoint e: whether one stands, its badge and owner, and the first and the last waiter to look at.
-pub fn set_abort(
-    tables: &mut [u32],
-    e: usize,
-    here: u32,
-    badge: u32,
-    owner: u32,
-    cursor: u32,
-    end: u32,
-)
+// The abort at endpoint e: whether one stands, its badge, and the first and the last waiter to look at.
+pub fn set_abort(tables: &mut [u32], e: usize, here: u32, badge: u32, cursor: u32, end: u32)
     requires { ⌜ Shown (now tables) (IsEndpoint e) ⌝ }
-    ensures { λ _. ⌜ SetsAbort (now (tables .entry)) e here badge owner cursor end (now (tables .exit)) ⌝ }
+    ensures { λ _. ⌜ SetsAbort (now (tables .entry)) e here badge cursor end (now (tables .exit)) ⌝ }
 {
     words::put(tables, Slot::Endpoint(Part::Aborting, e), here);
     words::put(tables, Slot::Endpoint(Part::Aborted, e), badge);
-    words::put(tables, Slot::Endpoint(Part::Owner, e), owner);
     words::put(tables, Slot::Endpoint(Part::Cursor, e), cursor);
     words::put(tables, Slot::Endpoint(Part::End, e), end);
-}
-
-// The owner of the abort that stands at endpoint e, none for link 0.
-pub fn set_owner(tables: &mut [u32], e: usize, link: u32)
-    requires { ⌜ Shown (now tables) (HasAbort e) ⌝ }
-    ensures { λ _. ⌜ SetsOwner (now (tables .entry)) e link (now (tables .exit)) ⌝ }
-{
-    words::put(tables, Slot::Endpoint(Part::Owner, e), link);
 }
 
 // The abort at endpoint e looks at the waiters from a cursor to an end mark, both 0 for none.

@@ -22,10 +22,8 @@ use Rattle.store.specs.Store.{IsThread, clearing}
 use Rattle.store.specs.Readings.{threadIn}
 use Rattle.queues.specs.Queues.{Chooses}
 use Rattle.queues.proofs.Joining.{shown-next, and-then}
-use Rattle.debts.specs.Debts.{Debtor}
 use Rattle.endings.specs.Results.{Asked, Performs}
 use Rattle.endings.proofs.Ends.{refused, performs-as, performs-after, does-for, shown-for}
-use Rattle.endings.proofs.Conditions.{mid-debtor}
 use Rattle.threads.specs.Threads.{Goes, leaving}
 use Rattle.threads.proofs.Runner.{mid-apart, apart-chooses, apart-thread, apart-leave}
 use Rattle.threads.proofs.Places.{code-absent, code-present}
@@ -35,8 +33,8 @@ use Rattle.threads.proofs.Leaving.{mid-goes}
 abbrev Given : ℕ → State → Type 0
 Given t = Asked (t ≤ 255)
 
-pub drop-asked : {m : List ℕ} {t : ℕ} → Shown m (Given t) → Shown m (Debtor t)
-drop-asked S = shown-for S (λ s h. mid-debtor (sound-mid (h .sound)) (h .numbers))
+pub drop-asked : {m : List ℕ} {t : ℕ} → Shown m (Given t) → Shown m (IsThread t)
+drop-asked S = shown-for S (λ s h. h .numbers)
 
 -- Dropping its debt leaves the thread where it is.
 dropped-place : (s : State) (t : ℕ) → dropDebt t s .threads t .place ≡ s .threads t .place
@@ -56,9 +54,9 @@ module _ {m : List ℕ} {t r : ℕ} (T : Tells m (IsThread t) r (threadIn Field.
     there : (s : State) → Shows m s → Given t s → isAbsent (s .threads t .place) ≡ false
     there s M h = code-present (s .threads t .place) (T .tells s M (h .numbers)) z
 
-    module _ {n : List ℕ} (D : Does m n (Debtor t) (dropDebt t)) where
+    module _ {n : List ℕ} (D : Does m n (IsThread t) (dropDebt t)) where
       drops : Does m n (Given t) (dropDebt t)
-      drops = does-for D (λ s h. mid-debtor (sound-mid (h .sound)) (h .numbers))
+      drops = does-for D (λ s h. h .numbers)
 
       goes : (s : State) → Shows m s → Given t s → Goes t r (dropDebt t s)
       goes s M h =

@@ -26,10 +26,9 @@ use Rattle.blocks.proofs.Moves.{ticks-told, ticked-block, ticked-thread}
 use Rattle.queues.specs.Queues.{Loose, Chooses}
 use Rattle.queues.proofs.Joining.{shown-next, and-then}
 use Rattle.queues.proofs.Choosing.{runner}
-use Rattle.debts.specs.Debts.{Debtor}
 use Rattle.endings.specs.Results.{Asked, Calling, Performs}
 use Rattle.endings.proofs.Ends.{performs-after, does-for, shown-for}
-use Rattle.endings.proofs.Conditions.{running-thread, running-loose, running-debtor, present-level}
+use Rattle.endings.proofs.Conditions.{running-thread, running-loose, present-level}
 use Rattle.threads.specs.Threads.{tickingFor}
 use Rattle.threads.proofs.Runner.{RunnerApart, mid-apart, apart-chooses, apart-thread, stood-apart}
 
@@ -162,12 +161,12 @@ module _ {m n : List ℕ} (D : Does m n (Asked (Unit {0})) tickingFor) where
 
 -- Yield.
 
-pub yield-asked : {m : List ℕ} {t : ℕ} → Shown m (Caller t) → Shown m (Debtor t)
-yield-asked S = shown-for S (λ s h. running-debtor (sound-mid (h .sound)) (h .runs))
+pub yield-asked : {m : List ℕ} {t : ℕ} → Shown m (Caller t) → Shown m (IsThread t)
+yield-asked S = shown-for S (λ s h. running-thread (sound-mid (h .sound)) (h .runs))
 
-module _ {m n : List ℕ} {t : ℕ} (D : Does m n (Debtor t) (dropDebt t)) where
+module _ {m n : List ℕ} {t : ℕ} (D : Does m n (IsThread t) (dropDebt t)) where
   drops : Does m n (Caller t) (dropDebt t)
-  drops = does-for D (λ s h. running-debtor (sound-mid (h .sound)) (h .runs))
+  drops = does-for D (λ s h. running-thread (sound-mid (h .sound)) (h .runs))
 
   loose : (s : State) → Shows m s → Caller t s → Loose t (dropDebt t s)
   loose s M h =

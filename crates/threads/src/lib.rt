@@ -78,7 +78,7 @@ fn leave(tables: &mut [u32], t: usize, place: u32)
     store::set_line(tables, (place - codes::WAITING) as usize, codes::QUIET);
 }
 
-// 2: a thread goes, with its ownership or note, from wherever it is.
+// 2: a thread goes, with its note or its place in a set, from wherever it is.
 pub fn destroy_thread(tables: &mut [u32], t: usize) -> Answer
     requires { ⌜ Shown (now tables) (Asked (t ≤ 255)) ⌝ }
     ensures { λ r. ⌜ Performs (now (tables .entry)) (now (tables .exit)) r (Asked (t ≤ 255)) (destroyThread t) ⌝ }
@@ -87,7 +87,7 @@ pub fn destroy_thread(tables: &mut [u32], t: usize) -> Answer
     if place == codes::ABSENT {
         return machine::plain(machine::codes::THREAD_ABSENT);
     }
-    debts::drop_debt(tables, t); // the abort that it owned stands without an owner
+    debts::drop_debt(tables, t); // the set that it is in stands without it
     leave(tables, t, place);
     store::clear_thread(tables, t);
     endings::done(tables)
@@ -166,7 +166,7 @@ pub fn yield_running(tables: &mut [u32], t: usize) -> Answer
     requires { ⌜ Shown (now tables) (Calling t (Unit {0})) ⌝ }
     ensures { λ r. ⌜ Performs (now (tables .entry)) (now (tables .exit)) r (Calling t (Unit {0})) (yield t) ⌝ }
 {
-    debts::drop_debt(tables, t); // an accepted call of the owner drops it
+    debts::drop_debt(tables, t); // an accepted call of its own
     queues::stand_down(tables, t);
     endings::done(tables)
 }

@@ -14,7 +14,6 @@ use Rattle.store.specs.Steps.{Shown, Does, Tells}
 use Rattle.store.specs.Store.{IsThread, IsLine, SetsLine}
 use Rattle.store.specs.Readings.{lineIn}
 use Rattle.queues.specs.Queues.{Chooses}
-use Rattle.debts.specs.Debts.{Debtor}
 use Rattle.endings.specs.Results.{Calling, Performs}
 use Rattle.endings.proofs.Ends.{refused, performs-as, performs-after}
 use Rattle.transfers.specs.Transfers.{Dropped, Suspends}
@@ -67,7 +66,7 @@ module _ {n o : List ℕ} {t l : ℕ} where
       (D .performs (waiting l) refl)
 
 module _ {m n o p : List ℕ} {t l r : ℕ} {a : Answer} (T : Tells m (IsLine l) r (lineIn l))
-    (E : Does m n (Debtor t) (dropDebt t)) where
+    (E : Does m n (IsThread t) (dropDebt t)) where
   pub waited-pending :
       r ≡ 1 → SetsLine n l 0 o → Performs o p a Chooses done → Performs m p a (Calling t (l ≤ 31)) (wait t l)
   unfolding wait waitAt

@@ -1,4 +1,4 @@
--- The running thread that calls, before and after its ownership or note has gone.
+-- The running thread that calls, before and after its set or note has gone.
 use Prim.Native.Nat.{ℕ, _≤_}
 use mathlib.Core.Path.{_≡_, refl, sym, _∙_, subst}
 use mathlib.Core.Option.{some}
@@ -11,19 +11,16 @@ use Rattle.machine.specs.Mid.{Mid}
 use Rattle.machine.proofs.Preserved.Mid.{sound-mid}
 use Rattle.machine.proofs.Preserved.Debts.{mid-dropDebt, dropDebt-drops}
 use Rattle.store.specs.Steps.{Shown, Does}
-use Rattle.debts.specs.Debts.{Debtor}
+use Rattle.store.specs.Store.{IsThread}
 use Rattle.endings.specs.Results.{Calling, Performs}
 use Rattle.endings.proofs.Ends.{performs-after, does-for, shown-for}
-use Rattle.endings.proofs.Conditions.{running-thread, running-debtor}
+use Rattle.endings.proofs.Conditions.{running-thread}
 use Rattle.transfers.specs.Transfers.{Dropped}
 use Rattle.queues.proofs.Joining.{shown-next}
 
 module _ {t : ℕ} {N : Type 0} {s : State} (C : Calling t N s) where
   pub calling-thread : t ≤ 255
   calling-thread = running-thread (sound-mid (C .sound)) (C .runs)
-
-  calling-debtor : Debtor t s
-  calling-debtor = running-debtor (sound-mid (C .sound)) (C .runs)
 
   calling-dropped : Dropped t N (dropDebt t s)
   calling-dropped = record { before = s; calling = C; is = refl }
@@ -40,12 +37,12 @@ module _ {t : ℕ} {N : Type 0} {s : State} (D : Dropped t N s) where
 
 -- The debt goes, and the rest of the call follows.
 
-pub debtor-asked : {m : List ℕ} {t : ℕ} {N : Type 0} → Shown m (Calling t N) → Shown m (Debtor t)
-debtor-asked S = shown-for S (λ s h. calling-debtor h)
+pub thread-asked : {m : List ℕ} {t : ℕ} {N : Type 0} → Shown m (Calling t N) → Shown m (IsThread t)
+thread-asked S = shown-for S (λ s h. calling-thread h)
 
-module _ {m n : List ℕ} {t : ℕ} (D : Does m n (Debtor t) (dropDebt t)) where
+module _ {m n : List ℕ} {t : ℕ} (D : Does m n (IsThread t) (dropDebt t)) where
   drops : {N : Type 0} → Does m n (Calling t N) (dropDebt t)
-  drops = does-for D (λ s h. calling-debtor h)
+  drops = does-for D (λ s h. calling-thread h)
 
   pub dropped-asked : {N : Type 0} → Shown m (Calling t N) → Shown n (Dropped t N)
   dropped-asked S = shown-next drops (λ s M h. calling-dropped h) S

@@ -17,10 +17,10 @@ use Rattle.layout.specs.declared.Part.{Part}
 use Rattle.layout.specs.Words.{statusCode}
 use Rattle.layout.specs.Shows.{Shows}
 use Rattle.store.specs.Steps.{Shown, Does, Tells}
-use Rattle.store.specs.Store.{IsEndpoint}
+use Rattle.store.specs.Store.{IsThread, IsEndpoint}
 use Rattle.store.specs.Readings.{endpointIn}
 use Rattle.queues.specs.Queues.{Chooses, ToEndpoint, InEndpoint}
-use Rattle.debts.specs.Debts.{Says, Debtor, underIn, FirstAt, firstReceiver}
+use Rattle.debts.specs.Debts.{Says, underIn, FirstAt, firstReceiver}
 use Rattle.endings.specs.Results.{Calling, Performs}
 use Rattle.endings.proofs.Ends.{refused, performs-as, performs-after}
 use Rattle.endings.proofs.Conditions.{mid-chooses, mid-alike, queued-waits}
@@ -116,7 +116,7 @@ module _ {m : List ℕ} {t e b x r : ℕ} (T : Tells m (IsEndpoint e) r (endpoin
         performs-as (refused 26 k) (λ s M h. ap (λ (v : Bool). sendUnless v t e b x s) (sym w) ∙ send-is s M h)
 
     pub sent :
-        {n o : List ℕ} {a : Answer} → u ≡ false → Does m n (Debtor t) (dropDebt t)
+        {n o : List ℕ} {a : Answer} → u ≡ false → Does m n (IsThread t) (dropDebt t)
         → Performs n o a (Dropped t (Sent e b x)) (handing t e b x)
         → Performs m o a (Calling t (Sent e b x)) (send t e b x)
     unfolding sendUnless

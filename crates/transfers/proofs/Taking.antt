@@ -19,7 +19,7 @@ use Rattle.store.specs.Steps.{Shown, Does, Tells}
 use Rattle.store.specs.Store.{IsThread, IsEndpoint}
 use Rattle.store.specs.Readings.{endpointIn, threadIn}
 use Rattle.queues.specs.Queues.{Chooses, ToEndpoint, InEndpoint}
-use Rattle.debts.specs.Debts.{Debtor, FirstAt, firstSender}
+use Rattle.debts.specs.Debts.{FirstAt, firstSender}
 use Rattle.endings.specs.Results.{Calling, Performs, Accepts}
 use Rattle.endings.proofs.Ends.{refused, performs-as, performs-for, shown-for}
 use Rattle.endings.proofs.Conditions.{mid-chooses, mid-alike, queued-waits, queued-present, present-thread}
@@ -120,7 +120,7 @@ module _ {m : List ℕ} {t e r : ℕ} (T : Tells m (IsEndpoint e) r (endpointIn 
       (λ s M h. ap (λ (y : Status). receiveAt y t e s) (is-closing (s .endpoints e .status) (status-is s M h) z))
 
   pub receive-live :
-      {n o : List ℕ} {a : Answer} → (r ≡ 0 → ⊥) → (r ≡ 2 → ⊥) → Does m n (Debtor t) (dropDebt t)
+      {n o : List ℕ} {a : Answer} → (r ≡ 0 → ⊥) → (r ≡ 2 → ⊥) → Does m n (IsThread t) (dropDebt t)
       → Performs n o a (Dropped t (e ≤ 63)) (taking t e) → Performs m o a (Calling t (e ≤ 63)) (receive t e)
   unfolding receive receiveAt
   receive-live z y D H =

@@ -14,7 +14,7 @@ use Rattle.layout.specs.Words.{placeCode}
 use Rattle.store.specs.Store.{IsThread}
 use Rattle.endings.specs.Results.{Calling, Performs}
 
--- The running thread t makes a call, and its ownership or note has gone.
+-- The running thread t makes a call, and has left its set, or lost its note.
 pub record Dropped (t : ℕ) (N : Type 0) (s : State) : Type 0 where
   pub before : State
   pub calling : Calling t N before

@@ -29,17 +29,16 @@ fn column_of(f: Field) -> usize
     }
 }
 
-// The place of a word in its endpoint's six.
+// The place of a word in its endpoint's five.
 fn offset_of(p: Part) -> usize
-    ensures { λ r. ⌜ (r ≡ offset p) × (r < 6) ⌝ }
+    ensures { λ r. ⌜ (r ≡ offset p) × (r < 5) ⌝ }
 {
     match p {
         Part::Status => 0,
         Part::Aborting => 1,
         Part::Aborted => 2,
-        Part::Owner => 3,
-        Part::Cursor => 4,
-        Part::End => 5,
+        Part::Cursor => 3,
+        Part::End => 4,
     }
 }
 
@@ -50,12 +49,12 @@ fn slot_at(a: Slot) -> usize
 {
     match a {
         Slot::Thread(f, t) => 10 * t + column_of(f),
-        Slot::Endpoint(p, e) => 3200 + 6 * e + offset_of(p),
-        Slot::Line(l) => 3584 + l,
-        Slot::Summary(w) => 3616 + w,
-        Slot::Top => 3624,
-        Slot::Running => 3625,
-        Slot::Unused(i) => 3626 + i,
+        Slot::Endpoint(p, e) => 3200 + 5 * e + offset_of(p),
+        Slot::Line(l) => 3520 + l,
+        Slot::Summary(w) => 3552 + w,
+        Slot::Top => 3560,
+        Slot::Running => 3561,
+        Slot::Unused(i) => 3562 + i,
     }
 }
 

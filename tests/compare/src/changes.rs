@@ -2,7 +2,7 @@
 //! unsound.
 
 use crate::subject::Memory;
-use second::Rng;
+use second::{aborting_at, owes_at, Rng};
 
 /// An address and the word put there.
 pub type Change = (usize, u32);
@@ -11,16 +11,18 @@ pub type Change = (usize, u32);
 #[derive(Clone, Debug)]
 pub enum Changes {
     Tables(Vec<Change>),
+    /// A thread is put into a set, or has a note put there.
+    Bond(Vec<Change>),
     Grants(Vec<Change>),
 }
 
 impl Changes {
     /// One or two words to put into the tables or the grants.
     pub fn by_chance(rng: &mut Rng, memory: Memory) -> Changes {
-        if rng.one_in(3) {
-            Changes::Grants(few(rng, memory.grants))
-        } else {
-            Changes::Tables(few(rng, memory.tables))
+        match rng.below(6) {
+            0 | 1 => Changes::Grants(few(rng, memory.grants)),
+            2 => Changes::Bond(bond(rng, memory.tables)),
+            _ => Changes::Tables(few(rng, memory.tables)),
         }
     }
 
@@ -28,7 +30,7 @@ impl Changes {
     pub fn made(&self, memory: Memory) -> (Vec<u32>, Vec<u32>) {
         let (mut tables, mut grants) = (memory.tables.to_vec(), memory.grants.to_vec());
         let (words, changes) = match self {
-            Changes::Tables(changes) => (&mut tables, changes),
+            Changes::Tables(changes) | Changes::Bond(changes) => (&mut tables, changes),
             Changes::Grants(changes) => (&mut grants, changes),
         };
         for &(at, word) in changes {
@@ -41,6 +43,18 @@ impl Changes {
 fn few(rng: &mut Rng, words: &[u32]) -> Vec<Change> {
     let count = if rng.one_in(3) { 2 } else { 1 };
     (0..count).map(|_| change(rng, words)).collect()
+}
+
+/// Any thread's tie to an abort, more likely where one stands.
+fn bond(rng: &mut Rng, tables: &[u32]) -> Vec<Change> {
+    let (at, e) = (owes_at(rng.below(256) as u8), rng.below(64) as u8);
+    let mut from = (e..64).chain(0..e);
+    let standing = from.find(|&e| tables[aborting_at(e)] != 0).filter(|_| !rng.one_in(4));
+    let endpoint = u32::from(standing.unwrap_or(e));
+    match rng.below(6) {
+        0 => vec![(at, 65 + endpoint), (at + 1, rng.below(9) as u32)],
+        _ => vec![(at, 1 + endpoint), (at + 1, 0)],
+    }
 }
 
 /// A word near the one that stands there, one from elsewhere, or any.

@@ -5,11 +5,12 @@ use crate::subject::Memory;
 use second::{Call, Machine, Profile, Rng, Steer};
 
 /// A profile, how many of all lists have it, and a length's least and range.
-const KINDS: [(Profile, usize, usize, usize); 4] = [
+const KINDS: [(Profile, usize, usize, usize); 5] = [
     (Profile::Few, 30, 30, 500),
     (Profile::Edges, 8, 30, 500),
     (Profile::Many, 2, 500, 1500),
     (Profile::Full, 1, 1000, 2000),
+    (Profile::Crowd, 1, 1500, 1500),
 ];
 
 /// One call in so many is made on changed tables or grants too.

@@ -21,6 +21,7 @@ pub struct Failure {
 pub struct Compared {
     pub tally: Tally,
     on_tables: OnChanged,
+    on_bonds: OnChanged,
     on_grants: OnChanged,
 }
 
@@ -87,6 +88,7 @@ impl Compared {
     fn count(&mut self, changes: &Changes, sound: bool) {
         let on = match changes {
             Changes::Tables(_) => &mut self.on_tables,
+            Changes::Bond(_) => &mut self.on_bonds,
             Changes::Grants(_) => &mut self.on_grants,
         };
         on.sound += sound as u64;
@@ -105,10 +107,12 @@ impl Compared {
     }
 
     /// Calls on changed tables and grants, by what they were.
-    pub fn changed(&self) -> [(u64, &'static str); 4] {
+    pub fn changed(&self) -> [(u64, &'static str); 6] {
         [
             (self.on_tables.unsound, "call on changed tables, refused by 17"),
             (self.on_tables.sound, "call on changed tables that are sound"),
+            (self.on_bonds.unsound, "call where a member or a note is put, refused by 17"),
+            (self.on_bonds.sound, "call where a member or a note is put that is sound"),
             (self.on_grants.unsound, "call on changed grants, refused by 17"),
             (self.on_grants.sound, "call on changed grants that are sound"),
         ]

@@ -127,7 +127,7 @@ fn no_right_too_many() {
 fn any_word_runs_a_thread_or_nobody() {
     let mut core = Core::new();
     for word in (0..600).chain([5000, u32::MAX - 1, u32::MAX]) {
-        core.tables[3625] = word;
+        core.tables[3561] = word;
         let thread = if (1..=256).contains(&word) { Some(word - 1) } else { None };
         assert_eq!(core.running(), thread);
     }

@@ -2,6 +2,7 @@
 
 use crate::call::Answer;
 use crate::machine::{Machine, ABORTED, GONE};
+use crate::set::Set;
 use crate::situation::{Look, Situation};
 use crate::tables::{Abort, Bond, Phase};
 
@@ -34,15 +35,15 @@ impl Machine {
 
     /// Looks at the cursor's waiter. The endpoint has an abort with a span.
     fn look(&mut self, e: u8) {
-        let abort = self.endpoint(e).abort.expect("an abort stands");
+        let after = &self.links.next;
+        let abort = self.endpoints[e as usize].abort.as_mut().expect("an abort stands");
         let (cursor, end) = abort.span.expect("a waiter is left");
-        let onward = if cursor == end {
+        abort.span = if cursor == end {
             None
         } else {
-            Some((self.next(cursor).expect("the end mark is behind"), end))
+            Some((after[cursor as usize].expect("the end mark is behind"), end))
         };
-        self.endpoints[e as usize].abort = Some(Abort { span: onward, ..abort });
-        let removed = self.thread(cursor).badge == abort.badge;
+        let removed = self.threads[cursor as usize].badge == abort.badge;
         self.log.looks.push(Look { thread: cursor, removed });
         if removed {
             self.links.unlink(&mut self.endpoints[e as usize].queue, cursor);
@@ -61,71 +62,91 @@ impl Machine {
     }
 
     fn unlooked(&self, e: u8) -> bool {
-        self.endpoint(e).abort.is_some_and(|a| a.span.is_some())
+        self.endpoint(e).abort.as_ref().is_some_and(|a| a.span.is_some())
     }
 }
 
 /// Beginning, joining and ending an abort.
 impl Machine {
     fn begin(&mut self, e: u8, badge: u32) {
-        let caller = self.caller();
         let first = self.first_sender(e);
         let span = first.map(|f| (f, self.endpoint(e).queue.tail.expect("not empty")));
         self.log.saw(Situation::AbortBegun);
         self.log.saw_if(self.endpoint(e).queue.is_empty(), Situation::AbortNoSender);
         self.log.saw_if(self.first_receiver(e).is_some(), Situation::AbortReceivers);
-        self.endpoints[e as usize].abort = Some(Abort { badge, span, owner: Some(caller) });
-        self.threads[caller as usize].bond = Bond::Owner { endpoint: e, badge };
+        self.endpoints[e as usize].abort = Some(Abort { badge, span, members: Set::EMPTY });
+        self.enter(e);
     }
 
-    /// A joiner becomes owner only if there is none.
-    fn join(&mut self, e: u8, mut abort: Abort) {
+    /// The caller is in the set of those who work on the abort.
+    fn enter(&mut self, e: u8) {
         let caller = self.caller();
-        self.log.saw_if(abort.span.is_none(), Situation::JoinNothing);
-        if abort.owner == Some(caller) {
-            self.log.saw(Situation::OwnerGoesOn);
-        } else if abort.owner.is_some() {
-            self.log.saw(Situation::JoinOwner);
-        } else {
-            self.log.saw(Situation::JoinNoOwner);
-            self.threads[caller as usize].bond = Bond::Owner { endpoint: e, badge: abort.badge };
-            abort.owner = Some(caller);
-            self.endpoints[e as usize].abort = Some(abort);
-        }
+        let abort = self.endpoints[e as usize].abort.as_mut().expect("an abort stands");
+        abort.members.insert(caller);
+        self.threads[caller as usize].bond = Bond::Member { endpoint: e, badge: abort.badge };
     }
 
-    /// Ends the abort; an owner other than the caller gets a note.
-    fn end_abort(&mut self, e: u8, given: Situation) {
-        let Some(abort) = self.endpoints[e as usize].abort.take() else {
-            return;
-        };
-        let Some(owner) = abort.owner else {
-            self.log.saw(Situation::EndNoOwner);
-            return;
-        };
-        let bond = if owner == self.caller() {
-            Bond::None
+    fn join(&mut self, e: u8) {
+        let caller = self.caller();
+        let abort = self.endpoints[e as usize].abort.as_ref().expect("an abort stands");
+        self.log.saw_if(abort.span.is_none(), Situation::JoinNothing);
+        self.log.saw(if abort.members.contains(caller) {
+            Situation::MemberGoesOn
+        } else if abort.members.is_empty() {
+            Situation::JoinEmpty
         } else {
-            self.log.saw(given);
-            Bond::Note { endpoint: e, badge: abort.badge }
+            Situation::JoinMembers
+        });
+        self.enter(e);
+    }
+
+    /// Ends the abort, if one stands; each member but the caller gets a note.
+    /// Gives those who do.
+    fn end_abort(&mut self, e: u8) -> Set {
+        let Some(Abort { badge, members, .. }) = self.endpoints[e as usize].abort.take() else {
+            return Set::EMPTY;
         };
-        self.threads[owner as usize].bond = bond;
+        let caller = self.caller();
+        let mut noted = members;
+        if members.contains(caller) {
+            noted.remove(caller);
+            self.threads[caller as usize].bond = Bond::None;
+        }
+        for t in noted.threads() {
+            self.threads[t as usize].bond = Bond::Note { endpoint: e, badge };
+        }
+        self.log.saw_if(members.is_empty(), Situation::EndEmpty);
+        self.log.saw_if(members != noted && noted.is_empty(), Situation::EndAlone);
+        noted
+    }
+
+    /// These were noted by a call of one kind; the situations of one and of more.
+    fn saw_noted(&mut self, noted: Set, one: Situation, more: Situation) {
+        if noted.is_empty() {
+            return;
+        }
+        let left = [Situation::MemberAbortsOther, Situation::DeleteByMember];
+        let leaver = self.log.seen.iter().any(|seen| left.contains(seen));
+        self.log.saw(one);
+        self.log.saw_if(noted.threads().nth(1).is_some(), more);
+        self.log.saw_if(leaver, Situation::LeaverNotes);
     }
 }
 
-/// The two calls.
+/// Delete.
 impl Machine {
     pub(crate) fn delete(&mut self, e: u8, allowance: u32) -> Answer {
-        let was = *self.endpoint(e);
-        self.log.saw_if(was.abort.is_some(), Situation::DeleteEndsAbort);
-        self.log.saw_if(was.phase == Phase::Closing, Situation::DeleteGoesOn);
+        let phase = self.endpoint(e).phase;
+        self.log.saw_if(self.endpoint(e).abort.is_some(), Situation::DeleteEndsAbort);
+        self.log.saw_if(phase == Phase::Closing, Situation::DeleteGoesOn);
         self.log.saw_if(self.first_receiver(e).is_some(), Situation::DeleteReceivers);
         self.endpoints[e as usize].phase = Phase::Closing;
-        self.end_abort(e, Situation::NoteByDelete);
+        let noted = self.end_abort(e);
         let mut count = 0;
         while let Some(t) = self.endpoint(e).queue.head {
             if count == allowance {
                 self.log.saw(Situation::DeleteBroken);
+                self.saw_noted(noted, Situation::NotedByBroken, Situation::ManyByBroken);
                 return Answer::counted(2, count);
             }
             self.links.unlink(&mut self.endpoints[e as usize].queue, t);
@@ -133,51 +154,58 @@ impl Machine {
             count += 1;
         }
         self.endpoints[e as usize].phase = Phase::Absent;
+        self.saw_noted(noted, Situation::NotedByDelete, Situation::ManyByDelete);
         self.log.saw_if(count == allowance, Situation::DeleteExact);
         if count == 0 {
-            self.log.saw(match was.phase {
+            self.log.saw(match phase {
                 Phase::Closing => Situation::ClosingEmptyGone,
                 _ => Situation::DeleteEmpty,
             });
         }
         Answer::counted(0, count)
     }
+}
 
+/// Abort.
+impl Machine {
     pub(crate) fn abort(&mut self, e: u8, allowance: u32, badge: u32) -> Answer {
         let mut count = 0;
-        if let Some(other) = self.endpoint(e).abort.filter(|a| a.badge != badge) {
-            count = self.finish_other(e, allowance, &other);
+        if self.endpoint(e).abort.as_ref().is_some_and(|a| a.badge != badge) {
+            count = self.finish_other(e, allowance);
             if count == allowance {
                 return Answer::counted(2, count);
             }
         }
-        match self.endpoint(e).abort {
-            None => self.begin(e, badge),
-            Some(abort) => self.join(e, abort),
+        if self.endpoint(e).abort.is_none() {
+            self.begin(e, badge);
+        } else {
+            self.join(e);
         }
         count += self.work(e, allowance - count);
         self.saw_double_looks();
         if self.unlooked(e) {
-            let owner = self.endpoint(e).abort.and_then(|a| a.owner);
-            self.log.saw(Situation::AbortBroken);
-            self.log.saw_if(owner != Some(self.caller()), Situation::JoinerBroken);
+            self.saw_broken(e);
             return Answer::counted(2, count);
         }
         self.log.saw_if(count == allowance, Situation::AbortExact);
-        self.end_abort(e, Situation::NoteByAbort);
+        let noted = self.end_abort(e);
+        self.saw_noted(noted, Situation::NotedByOwn, Situation::ManyByOwn);
         Answer::counted(0, count)
     }
 
-    /// Works on another badge's abort, and ends it if nothing is left of it.
-    fn finish_other(&mut self, e: u8, allowance: u32, other: &Abort) -> u32 {
+    /// Works on another badge's abort, and ends it if nothing is left of it. Who
+    /// does so is no member of it.
+    fn finish_other(&mut self, e: u8, allowance: u32) -> u32 {
+        let other = self.endpoints[e as usize].abort.as_ref().expect("an abort stands");
         self.log.saw_if(other.span.is_none(), Situation::OtherNothing);
-        self.log.saw_if(other.owner.is_none(), Situation::OtherNoOwner);
+        self.log.saw_if(other.members.is_empty(), Situation::OtherEmpty);
         let count = self.work(e, allowance);
         if self.unlooked(e) {
             self.log.saw(Situation::OtherBroken);
             return count;
         }
-        self.end_abort(e, Situation::NoteByAbort);
+        let noted = self.end_abort(e);
+        self.saw_noted(noted, Situation::NotedByOther, Situation::ManyByOther);
         if count == allowance {
             self.log.saw(Situation::OtherExact);
             self.log.saw_if(self.first_sender(e).is_none(), Situation::OtherExactEmpty);
@@ -185,6 +213,20 @@ impl Machine {
             self.log.saw(Situation::OtherDone);
         }
         count
+    }
+
+    fn saw_broken(&mut self, e: u8) {
+        let mut others = self.endpoint(e).abort.map_or(Set::EMPTY, |a| a.members);
+        others.remove(self.caller());
+        let seen = |of: Situation| self.log.seen.contains(&of);
+        let (member, note) = (seen(Situation::MemberLeaves), seen(Situation::NoteDropped));
+        self.log.saw(Situation::AbortBroken);
+        if !others.is_empty() {
+            self.log.saw(Situation::BrokenWithOthers);
+            self.log.saw_if(others.threads().nth(1).is_some(), Situation::BrokenOfThree);
+        }
+        self.log.saw_if(member, Situation::MemberMoves);
+        self.log.saw_if(note, Situation::NoteMoves);
     }
 
     fn saw_double_looks(&mut self) {

@@ -112,17 +112,17 @@ impl Machine {
 
     fn saw_barred(&mut self, call: &Call, e: u8) {
         let caller = self.caller();
-        let (phase, abort) = (self.endpoint(e).phase, self.endpoint(e).abort);
+        let (phase, under) = (self.endpoint(e).phase, self.endpoint(e).abort.is_some());
         if let Call::Send { .. } = call {
             let right = self.granted(caller, e).has(SEND);
             self.log.saw(if right { Situation::LacksBadge } else { Situation::LacksSend });
         }
         self.log.saw_if(phase == Phase::Absent, Situation::LacksAbsent);
         self.log.saw_if(phase == Phase::Closing, Situation::LacksClosing);
-        self.log.saw_if(abort.is_some(), Situation::LacksUnder);
+        self.log.saw_if(under, Situation::LacksUnder);
         if let Call::Abort { badge, .. } = *call {
             let bond = self.thread(caller).bond;
-            self.log.saw_if(bond == Bond::Owner { endpoint: e, badge }, Situation::LacksOwner);
+            self.log.saw_if(bond == Bond::Member { endpoint: e, badge }, Situation::LacksMember);
             self.log.saw_if(bond == Bond::Note { endpoint: e, badge }, Situation::LacksNoted);
         }
     }
@@ -141,7 +141,7 @@ impl Machine {
         let lost = |right: u32| revoked & right != 0;
         let (idle, phase) = (self.running.is_none(), self.endpoint(e).phase);
         let replaced = held.rights != 0 && grant.rights != 0 && held != grant;
-        let owns = matches!(bond, Bond::Owner { endpoint, .. } if endpoint == e);
+        let works = matches!(bond, Bond::Member { endpoint, .. } if endpoint == e);
         let notes = matches!(bond, Bond::Note { endpoint, .. } if endpoint == e);
         let seen = [
             (grant.rights == 0 && grant.badge != 0, Situation::GrantNothing),
@@ -151,7 +151,7 @@ impl Machine {
             (phase == Phase::Closing, Situation::GrantClosing),
             (lost(SEND) && place == Place::Sending(e), Situation::RevokedSender),
             (lost(RECEIVE) && place == Place::Receiving(e), Situation::RevokedReceiver),
-            (lost(ABORT) && owns, Situation::RevokedOwner),
+            (lost(ABORT) && works, Situation::RevokedMember),
             (lost(ABORT) && notes, Situation::RevokedNoted),
             (lost(DELETE) && phase == Phase::Closing, Situation::RevokedClosing),
         ];

@@ -173,6 +173,8 @@ impl Machine {
             return Answer::DONE;
         }
         if let Some(code) = self.refusal(call) {
+            let member = call.by_thread() && self.works(self.caller());
+            self.log.saw_if(member, Situation::MemberRefused);
             return Answer::code(code);
         }
         self.drop_bond_for(call);
@@ -222,12 +224,12 @@ impl Machine {
 
     /// 26 holds as long as the abort stands.
     fn refusal_aborted(&mut self, e: u8, badge: u32) -> Option<u32> {
-        let abort = self.endpoint(e).abort.filter(|a| a.badge == badge)?;
-        let receivers = self.first_receiver(e).is_some();
-        let owned = abort.owner.is_some() && abort.owner == self.running;
-        self.log.saw_if(owned, Situation::RefusedOwner);
+        let (caller, receivers) = (self.caller(), self.first_receiver(e).is_some());
+        let abort = self.endpoints[e as usize].abort.as_ref().filter(|a| a.badge == badge)?;
+        let member = abort.members.contains(caller);
+        self.log.saw_if(member, Situation::RefusedMember);
         self.log.saw_if(abort.span.is_none(), Situation::RefusedNothing);
-        self.log.saw_if(abort.owner.is_none(), Situation::RefusedNoOwner);
+        self.log.saw_if(abort.members.is_empty(), Situation::RefusedEmpty);
         self.log.saw_if(receivers, Situation::RefusedReceivers);
         Some(26)
     }
@@ -335,6 +337,7 @@ impl Machine {
             let woken = last.is_some_and(|l| self.log.woken.contains(&l));
             self.log.saw_if(woken, Situation::DisplacedBefore);
             self.log.saw(Situation::Displaced);
+            self.log.saw_if(self.works(t), Situation::MemberDisplaced);
             self.join_level(t, Links::push_first);
         }
         let head = self.levels[level as usize].head.expect("level is occupied");
@@ -344,8 +347,13 @@ impl Machine {
     }
 }
 
-/// Ownership and notes.
+/// Members and notes.
 impl Machine {
+    /// The thread works on an abort.
+    fn works(&self, t: u8) -> bool {
+        matches!(self.thread(t).bond, Bond::Member { .. })
+    }
+
     /// Answers an abort call from the caller's note, if it has that note.
     fn use_note(&mut self, call: &Call) -> bool {
         let Call::Abort { endpoint, badge, .. } = *call else {
@@ -357,7 +365,12 @@ impl Machine {
             return false;
         }
         self.threads[caller].bond = Bond::None;
-        let Endpoint { phase, abort, .. } = *self.endpoint(endpoint);
+        self.saw_note(endpoint, badge);
+        true
+    }
+
+    fn saw_note(&mut self, e: u8, badge: u32) {
+        let Endpoint { phase, abort, .. } = *self.endpoint(e);
         self.log.saw(Situation::NoteAnswered);
         self.log.saw_if(phase == Phase::Absent, Situation::NoteAbsent);
         self.log.saw_if(phase == Phase::Closing, Situation::NoteClosing);
@@ -365,42 +378,52 @@ impl Machine {
             let same = abort.badge == badge;
             self.log.saw(if same { Situation::NoteStanding } else { Situation::NoteOther });
         }
-        true
+        let mut senders = self.first_sender(e);
+        while senders.is_some_and(|t| self.thread(t).badge != badge) {
+            senders = senders.and_then(|t| self.next(t));
+        }
+        self.log.saw_if(senders.is_some(), Situation::NoteQueued);
     }
 
-    /// An accepted other call of a thread drops its ownership or note.
+    /// By an accepted call of its own a thread leaves its set or loses its note,
+    /// unless it is the abort call of that endpoint and badge.
     fn drop_bond_for(&mut self, call: &Call) {
         if !call.by_thread() {
             return;
         }
         let caller = self.caller();
-        let (Bond::Owner { endpoint, badge } | Bond::Note { endpoint, badge }) =
-            self.thread(caller).bond
-        else {
+        let bond = self.thread(caller).bond;
+        if bond == Bond::None {
             return;
-        };
-        if let Call::Abort { endpoint: e, badge: b, .. } = *call {
-            if e as u8 == endpoint && b == badge {
-                return;
+        }
+        if let Bond::Member { endpoint, badge } = bond {
+            let e = endpoint as u32;
+            match *call {
+                Call::Abort { endpoint, badge: b, .. } if endpoint == e => {
+                    if b == badge {
+                        return;
+                    }
+                    self.log.saw(Situation::MemberAbortsOther);
+                }
+                Call::Delete { endpoint, .. } if endpoint == e => {
+                    self.log.saw(Situation::DeleteByMember);
+                }
+                _ => (),
             }
-            let owns = self.endpoint(endpoint).abort.is_some_and(|a| a.owner == Some(caller));
-            self.log.saw_if(owns && e as u8 == endpoint, Situation::OwnerAbortsOther);
         }
-        if let Call::Delete { endpoint: e, .. } = *call {
-            let owns = self.endpoint(endpoint).abort.is_some_and(|a| a.owner == Some(caller));
-            self.log.saw_if(owns && e as u8 == endpoint, Situation::DeleteByOwner);
-        }
-        self.drop_bond(caller, Situation::OwnerDropped, Situation::NoteDropped);
+        self.drop_bond(caller, Situation::MemberLeaves, Situation::NoteDropped);
     }
 
-    fn drop_bond(&mut self, t: u8, owner: Situation, note: Situation) {
+    fn drop_bond(&mut self, t: u8, member: Situation, note: Situation) {
         match self.thread(t).bond {
             Bond::None => return,
-            Bond::Owner { endpoint, .. } => {
-                self.log.saw(owner);
-                if let Some(abort) = &mut self.endpoints[endpoint as usize].abort {
-                    abort.owner = None;
-                }
+            Bond::Member { endpoint, .. } => {
+                let abort = self.endpoints[endpoint as usize].abort.as_mut();
+                let members = &mut abort.expect("a member's abort stands").members;
+                members.remove(t);
+                let empty = members.is_empty();
+                self.log.saw(member);
+                self.log.saw(if empty { Situation::LastLeaves } else { Situation::OthersStay });
             }
             Bond::Note { .. } => self.log.saw(note),
         }
@@ -418,7 +441,7 @@ impl Machine {
     }
 
     fn destroy(&mut self, t: u8) -> Answer {
-        self.drop_bond(t, Situation::OwnerKilled, Situation::NoteKilled);
+        self.drop_bond(t, Situation::MemberKilled, Situation::NoteKilled);
         match self.thread(t).place {
             Place::Absent => unreachable!("refused with 21"),
             Place::Running => {
@@ -450,6 +473,7 @@ impl Machine {
             self.log.saw(Situation::SamePriority);
             return Answer::DONE;
         }
+        self.log.saw_if(self.works(t), Situation::MemberPriority);
         if place == Place::Ready {
             self.log.saw(Situation::ReadyMoved);
             self.leave_ready(t);
@@ -483,6 +507,7 @@ impl Machine {
             self.log.saw(Situation::IdleTick);
             return Answer::DONE;
         };
+        self.log.saw_if(self.works(t), Situation::MemberTicked);
         let block = &mut self.threads[t as usize];
         block.ticks -= 1;
         if block.ticks == 0 {

@@ -52,10 +52,10 @@ impl Machine {
         need(stores || zero, || format!("thread {t} stores a message"))?;
         match block.bond {
             Bond::None => Ok(()),
-            Bond::Owner { endpoint, badge } => {
-                let back = self.endpoint(endpoint).abort;
-                let named = back.is_some_and(|a| a.owner == Some(t) && a.badge == badge);
-                need(named, || format!("owner {t} isn't named by {endpoint}"))
+            Bond::Member { endpoint, badge } => {
+                let abort = self.endpoint(endpoint).abort;
+                let named = abort.is_some_and(|a| a.badge == badge && a.members.contains(t));
+                need(named, || format!("{t} isn't among the members at {endpoint}"))
             }
             Bond::Note { badge, .. } => need(badge < 1 << 28, || format!("note of {t}")),
         }
@@ -114,9 +114,9 @@ impl Machine {
 
     fn sound_abort(&self, e: u8, abort: &Abort, list: &[u8], sending: bool) -> Check {
         need(abort.badge < 1 << 28, || format!("aborted badge at {e}"))?;
-        if let Some(t) = abort.owner {
-            let owes = Bond::Owner { endpoint: e, badge: abort.badge };
-            need(self.thread(t).bond == owes, || format!("owner {t} of {e} doesn't owe"))?;
+        let bond = Bond::Member { endpoint: e, badge: abort.badge };
+        for t in abort.members.threads() {
+            need(self.thread(t).bond == bond, || format!("member {t} at {e} isn't bound there"))?;
         }
         let mut inside = 0..0;
         if let Some((cursor, end)) = abort.span {

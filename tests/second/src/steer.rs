@@ -3,6 +3,7 @@
 use crate::call::Call;
 use crate::grants::right_for;
 use crate::machine::Machine;
+use crate::set::Set;
 use crate::tables::{Abort, Bond, Phase, Place};
 
 const LOW: u32 = (1 << 28) - 1;
@@ -54,7 +55,7 @@ impl Rng {
 /// What a list of calls goes for.
 #[derive(Clone, Copy, Debug, PartialEq, Eq)]
 pub enum Profile {
-    /// Few threads, few badges: marks and owners meet often.
+    /// Few threads, few badges: marks and members meet often.
     Few,
     /// Few, and every third call near the edges of the ranges.
     Edges,
@@ -62,6 +63,8 @@ pub enum Profile {
     Many,
     /// All threads, endpoints and lines, and a long queue, before all else.
     Full,
+    /// All threads, most of them members of one abort, before all else.
+    Crowd,
 }
 
 /// The numbers that one list of calls draws on.
@@ -78,6 +81,8 @@ pub struct Steer {
     edges: usize,
     /// How many are still to wait before all else; none if all else goes on.
     fill: Option<usize>,
+    /// How many are to work on one abort before all else; the same.
+    crowd: Option<u32>,
     /// The call that a grant was given for.
     wanted: Option<Call>,
 }
@@ -95,6 +100,7 @@ impl Steer {
             ticks: 0,
             edges: 0,
             fill: None,
+            crowd: None,
             wanted: None,
         };
         steer.new_list();
@@ -116,6 +122,7 @@ impl Steer {
             }
             Profile::Many => (40 + rng.below(217), 12, 8, 6, 2),
             Profile::Full => (256, 12, 1 + rng.below(4), 3, 32),
+            Profile::Crowd => (256, 12, 1 + rng.below(2), 2, 2),
         };
         self.threads = self.some(t, 255);
         self.levels = self.some(l, 255);
@@ -125,6 +132,7 @@ impl Steer {
         self.wanted = None;
         self.edges = if profile == Profile::Edges { 3 } else { 14 };
         self.fill = (profile == Profile::Full).then(|| 40 + self.rng.below(210));
+        self.crowd = (profile == Profile::Crowd).then(|| 100 + self.rng.below(155) as u32);
         let badges = [0, 1, 7, 8, LOW - 1, LOW];
         let from = self.rng.below(badges.len());
         self.badges = (0..b).map(|i| badges[(from + i) % badges.len()]).collect();
@@ -157,12 +165,22 @@ impl Steer {
         self.permitted(m, call)
     }
 
-    fn steered(&mut self, m: &Machine) -> Call {
-        if let Some(waiting) = self.fill {
-            if let Some(call) = self.fill(m, waiting) {
-                return call;
-            }
+    /// What comes before all else, as long as there is any.
+    fn prepared(&mut self, m: &Machine) -> Option<Call> {
+        let mut call = self.fill.and_then(|waiting| self.fill(m, waiting));
+        if call.is_none() {
             self.fill = None;
+            call = self.crowd.and_then(|members| self.crowd(m, members));
+        }
+        if call.is_none() {
+            self.crowd = None;
+        }
+        call
+    }
+
+    fn steered(&mut self, m: &Machine) -> Call {
+        if let Some(call) = self.prepared(m) {
+            return call;
         }
         if self.ticks > 0 {
             self.ticks -= 1;
@@ -177,11 +195,13 @@ impl Steer {
         if m.running().is_none() && !self.rng.one_in(16) {
             return self.idle(m);
         }
-        let noted = self.threads.iter().any(|&t| matches!(m.thread(t).bond, Bond::Note { .. }));
-        if self.rng.one_in(if noted { 2 } else { 6 }) {
-            if let Some(call) = self.bonded(m) {
-                return call;
-            }
+        let follow = match self.noted(m).count() {
+            0 => self.rng.one_in(6),
+            1 => self.rng.one_in(2),
+            _ => !self.rng.one_in(4),
+        };
+        if let Some(call) = follow.then(|| self.bonded(m)).flatten() {
+            return call;
         }
         let e = self.focus(m);
         let block = m.endpoint(e);
@@ -245,6 +265,46 @@ impl Steer {
         Some(self.send(endpoint, None))
     }
 
+    /// All threads but one queue under one badge. Whoever runs then works on its
+    /// abort, removes one, and makes room for the one removed.
+    fn crowd(&mut self, m: &Machine, members: u32) -> Option<Call> {
+        let (e, badge) = (self.endpoints[0], self.badges[0]);
+        let endpoint = e as u32;
+        if m.endpoint(e).phase == Phase::Absent {
+            return Some(Call::CreateEndpoint { endpoint });
+        }
+        if let Some(t) = (0..=255).find(|&t| !m.thread(t).present()) {
+            return Some(Call::CreateThread { thread: t as u32, priority: 1 });
+        }
+        let t = m.running()?;
+        let works = m.endpoint(e).abort.map(|abort| abort.members);
+        let all = works.is_some_and(|set| set.count() >= members) || m.left(e) == 1;
+        Some(match works {
+            None if m.summary().top != 0 => self.send(endpoint, Some(badge)),
+            Some(set) if set.contains(t) && !(all && self.rng.one_in(2)) => {
+                Call::SetPriority { thread: t as u32, priority: 0 }
+            }
+            Some(_) if all => {
+                self.crowd = None;
+                self.ending(endpoint, badge)
+            }
+            _ => Call::Abort { endpoint, allowance: 1, badge },
+        })
+    }
+
+    /// A call that ends the abort of a badge.
+    fn ending(&mut self, endpoint: u32, badge: u32) -> Call {
+        match self.rng.below(4) {
+            0 => Call::Abort { endpoint, allowance: 65_535, badge },
+            1 => {
+                let badge = self.other_badge(badge);
+                Call::Abort { endpoint, allowance: 65_535, badge }
+            }
+            2 => Call::Delete { endpoint, allowance: 65_535 },
+            _ => Call::Delete { endpoint, allowance: 1 },
+        }
+    }
+
     fn at_absent(&mut self, m: &Machine, e: u8) -> Call {
         match self.rng.weighted(&[10, 3, 1]) {
             0 => Call::CreateEndpoint { endpoint: e as u32 },
@@ -293,11 +353,15 @@ impl Steer {
     }
 
     fn at_abort(&mut self, m: &Machine, e: u8, abort: &Abort) -> Call {
-        let owns = abort.owner.is_some() && abort.owner == m.running();
-        if owns && m.summary().top != 0 && self.rng.one_in(2) {
+        let member = m.running().is_some_and(|t| abort.members.contains(t));
+        let (members, left) = (abort.members.count() as usize, m.left(e));
+        if member && m.summary().top != 0 && !self.rng.one_in(3) {
             return self.bring(m);
         }
-        match self.rng.weighted(&[8, 5, 11, 1, 4, 5, 1]) {
+        if !member && members > 0 && left > 1 && self.rng.one_in(2) {
+            return Call::Abort { endpoint: e as u32, allowance: 1, badge: abort.badge };
+        }
+        match self.rng.weighted(&[8, 5, 11, 1 + 2 * members.min(3), 4, 5, 1]) {
             0 => self.go_on(m, e, abort),
             1 => self.remove_mark(m, abort),
             2 => self.queue_under(m, e, abort),
@@ -319,12 +383,12 @@ impl Steer {
         Call::Abort { endpoint, allowance, badge: self.other_badge(abort.badge) }
     }
 
-    /// Destroys the waiter at a mark, or the owner.
+    /// Destroys the waiter at a mark, or a member.
     fn remove_mark(&mut self, m: &Machine, abort: &Abort) -> Call {
-        let thread = match (self.rng.below(5), abort.span, abort.owner) {
+        let thread = match (self.rng.below(5), abort.span, self.one_of(abort.members)) {
             (0 | 1, Some((cursor, _)), _) => cursor,
             (2 | 3, Some((_, end)), _) => end,
-            (4, _, Some(owner)) => owner,
+            (4, _, Some(member)) => member,
             _ => return self.bring(m),
         };
         Call::DestroyThread { thread: thread as u32 }
@@ -345,15 +409,25 @@ impl Steer {
         }
     }
 
-    /// A thread has a note or owns an abort: let it run, answer or be lost.
+    /// One of the set, if it is not empty.
+    fn one_of(&mut self, set: Set) -> Option<u8> {
+        let threads: Vec<u8> = set.threads().collect();
+        (!threads.is_empty()).then(|| self.rng.pick(&threads))
+    }
+
+    /// The threads that have a note.
+    fn noted(&self, m: &Machine) -> Set {
+        let noted = |t: &u8| matches!(m.thread(*t).bond, Bond::Note { .. });
+        self.threads.iter().copied().filter(noted).collect()
+    }
+
+    /// A thread has a note or works on an abort: let it run, answer or be lost.
     fn bonded(&mut self, m: &Machine) -> Option<Call> {
-        let bonds: Vec<u8> =
-            self.threads.iter().copied().filter(|&t| m.thread(t).bond != Bond::None).collect();
-        if bonds.is_empty() {
-            return None;
-        }
-        let t = self.rng.pick(&bonds);
-        let (Bond::Owner { endpoint, badge } | Bond::Note { endpoint, badge }) = m.thread(t).bond
+        let bound = |t: &u8| m.thread(*t).bond != Bond::None;
+        let bound = self.threads.iter().copied().filter(bound).collect();
+        let noted = if self.rng.one_in(4) { Set::EMPTY } else { self.noted(m) };
+        let t = self.one_of(noted).or_else(|| self.one_of(bound))?;
+        let (Bond::Member { endpoint, badge } | Bond::Note { endpoint, badge }) = m.thread(t).bond
         else {
             return None;
         };
@@ -369,10 +443,11 @@ impl Steer {
         })
     }
 
-    /// Others' calls while a thread has an ownership or a note.
+    /// Others' calls while a thread is a member or has a note.
     fn around(&mut self, m: &Machine, t: u8, e: u8, badge: u32) -> Call {
         let endpoint = e as u32;
-        match self.rng.weighted(&[6, 4, 1, 2, 2, 1, 3]) {
+        let lift = if matches!(m.thread(t).bond, Bond::Note { .. }) { 10 } else { 5 };
+        match self.rng.weighted(&[lift, 4, 1, 2, 2, 1, 4]) {
             0 => self.lift(m, t),
             1 => Call::Abort { endpoint, allowance: 1, badge },
             2 => Call::DestroyThread { thread: t as u32 },
@@ -535,12 +610,12 @@ impl Steer {
     fn regrant(&mut self, m: &Machine) -> Call {
         let e = self.focus(m);
         let waiters = m.waiters(e);
-        let owner = m.endpoint(e).abort.and_then(|a| a.owner);
+        let member = m.endpoint(e).abort.and_then(|a| self.one_of(a.members));
         let noted =
             |&&t: &&u8| matches!(m.thread(t).bond, Bond::Note { endpoint, .. } if endpoint == e);
         let noted = self.threads.iter().find(noted).copied();
         let waiter = (!waiters.is_empty()).then(|| self.rng.pick(&waiters));
-        let told = [m.running(), owner, noted, waiter][self.rng.below(4)];
+        let told = [m.running(), member, noted, waiter][self.rng.below(4)];
         let thread = match told.or(noted) {
             Some(t) if !self.rng.one_in(4) => t,
             _ => self.rng.pick(&self.threads),

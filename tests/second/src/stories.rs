@@ -2,14 +2,15 @@
 
 use crate::call::Call;
 use crate::grants::Grant;
+use crate::set::Set;
 use crate::situation::Situation;
 use crate::tables::{Bond, Phase};
 use crate::tally::Step;
 
 /// What is counted, in order.
-pub const STORIES: [&str; 9] = [
+pub const STORIES: [&str; 12] = [
     "a mark's thread gone and queued there again under the same abort",
-    "joiner broken off, another finishes, joiner begins anew",
+    "two members noted by one call, both answered from their notes",
     "abort broken off with three or more still to look at",
     "abort stands over three or more calls that looked",
     "call that looks for another badge and begins its own",
@@ -17,6 +18,9 @@ pub const STORIES: [&str; 9] = [
     "delete broken off, its right revoked, 29 when it goes on",
     "29 for a thread created anew that had the right",
     "29 at an endpoint created anew where the caller had the right",
+    "two members noted by one call, both answered while senders queue under the badge",
+    "note answered under a new abort of its badge, which the next call joins",
+    "set left empty, joined again, the joiner noted by another's call",
 ];
 
 /// How often each story came up.
@@ -38,11 +42,22 @@ struct Lost {
 #[derive(Clone, Default)]
 struct Watch {
     gone: Vec<u8>,
-    joiners: Vec<(u8, u32)>,
-    ended: Vec<(u8, u32)>,
+    ended: Vec<Ended>,
+    passed: Vec<u8>,
+    rejoined: Option<u8>,
     calls: u32,
     noted: Vec<u8>,
     deleters: Vec<u8>,
+}
+
+/// An abort that another's call ended: its badge, who is noted still, and how
+/// many were answered from their notes, in all and with the badge queued.
+#[derive(Clone)]
+struct Ended {
+    badge: u32,
+    noted: Set,
+    answered: u32,
+    queued: u32,
 }
 
 impl Default for Stories {
@@ -69,6 +84,9 @@ impl Stories {
             if at == Some(e as u32) || step.before.endpoint(e).abort.is_some() {
                 self.follow_at(e, step);
             }
+            if !self.watch[e as usize].idle() || step.before.endpoint(e).abort.is_some() {
+                self.follow_members(e, step);
+            }
         }
     }
 
@@ -77,18 +95,14 @@ impl Stories {
         let here = call.named().endpoint == Some(e as u32);
         let was = before.endpoint(e).abort;
         let caller = before.running().unwrap_or(0);
-        if let Call::Abort { badge, .. } = *call {
-            if here && answer.accepted() {
-                self.follow_abort(e, (caller, badge), step);
-            }
+        if matches!(*call, Call::Abort { .. }) && here && answer.accepted() {
+            self.follow_abort(e, step);
         }
         let watch = &mut self.watch[e as usize];
         let stands = was.map(|a| a.badge) == after.endpoint(e).abort.map(|a| a.badge);
         let Some(was) = was.filter(|_| stands) else {
             watch.gone.clear();
             watch.calls = 0;
-            let ended = std::mem::take(&mut watch.joiners);
-            watch.ended.extend(ended.iter().filter(|j| Some(j.1) == was.map(|a| a.badge)));
             return;
         };
         if let (2, 0, Some((cursor, end))) = (call.number(), answer.code, was.span) {
@@ -100,21 +114,86 @@ impl Stories {
         self.counts[0] += again as u64;
     }
 
-    fn follow_abort(&mut self, e: u8, who: (u8, u32), step: &Step) {
+    fn follow_abort(&mut self, e: u8, step: &Step) {
         let Step { answer, after, .. } = *step;
         let watch = &mut self.watch[e as usize];
         let saw = |s: Situation| after.log().seen.contains(&s);
-        if saw(Situation::AbortBegun) {
-            self.counts[1] += watch.ended.contains(&who) as u64;
-            self.counts[4] += (saw(Situation::OtherDone) && !saw(Situation::OtherNothing)) as u64;
-        }
-        watch.ended.retain(|w| w.0 != who.0);
-        if saw(Situation::JoinerBroken) {
-            watch.joiners.push(who);
-        }
+        let worked = saw(Situation::OtherDone) && !saw(Situation::OtherNothing);
+        self.counts[4] += (saw(Situation::AbortBegun) && worked) as u64;
         watch.calls += (answer.count > 0) as u32;
         self.counts[3] += (watch.calls >= 3) as u64;
         self.counts[2] += (after.left(e) >= 3) as u64;
+    }
+}
+
+/// Members and their notes.
+impl Watch {
+    fn idle(&self) -> bool {
+        self.ended.is_empty() && self.passed.is_empty()
+    }
+}
+
+impl Stories {
+    fn follow_members(&mut self, e: u8, step: &Step) {
+        let Step { before, call, answer, after } = *step;
+        let here = call.named().endpoint == Some(e as u32) && call.by_thread();
+        if let (true, true, Some(caller)) = (here, answer.accepted(), before.running()) {
+            self.follow_noted(e, caller, step);
+            self.follow_note(e, caller, step);
+        }
+        let watch = &mut self.watch[e as usize];
+        let works = |t: &u8| after.endpoint(e).abort.is_some_and(|a| a.members.contains(*t));
+        watch.rejoined = watch.rejoined.filter(works);
+        let calls = before.running().filter(|_| call.by_thread() && answer.accepted());
+        let stood = after.log().seen.contains(&Situation::NoteStanding);
+        watch.passed.retain(|&t| after.thread(t).present() && (calls != Some(t) || here && stood));
+        for ended in &mut watch.ended {
+            let note = Bond::Note { endpoint: e, badge: ended.badge };
+            let noted = ended.noted.threads().filter(|&t| after.thread(t).bond == note);
+            ended.noted = noted.collect();
+        }
+        watch.ended.retain(|ended| !ended.noted.is_empty());
+    }
+
+    /// Members who are noted by the call, and one who joins an empty set.
+    fn follow_noted(&mut self, e: u8, caller: u8, step: &Step) {
+        let Step { before, after, .. } = *step;
+        let watch = &mut self.watch[e as usize];
+        let saw = |s: Situation| after.log().seen.contains(&s);
+        if let Some(was) = before.endpoint(e).abort {
+            let (badge, members) = (was.badge, was.members);
+            let note = Bond::Note { endpoint: e, badge };
+            let noted: Set = members.threads().filter(|&t| after.thread(t).bond == note).collect();
+            self.counts[11] += watch.rejoined.is_some_and(|t| noted.contains(t)) as u64;
+            watch.ended.push(Ended { badge, noted, answered: 0, queued: 0 });
+        }
+        if saw(Situation::JoinEmpty) && saw(Situation::AbortBroken) {
+            watch.rejoined = Some(caller);
+        }
+    }
+
+    /// A note that is answered, and what its thread calls next.
+    fn follow_note(&mut self, e: u8, caller: u8, step: &Step) {
+        let Step { call, after, .. } = *step;
+        let watch = &mut self.watch[e as usize];
+        let saw = |s: Situation| after.log().seen.contains(&s);
+        let joins = saw(Situation::JoinMembers) || saw(Situation::JoinEmpty);
+        self.counts[10] += (joins && watch.passed.contains(&caller)) as u64;
+        if !saw(Situation::NoteAnswered) {
+            return;
+        }
+        let own = |ended: &&mut Ended| {
+            call.named().badge == Some(ended.badge) && ended.noted.contains(caller)
+        };
+        for ended in watch.ended.iter_mut().filter(own) {
+            ended.answered += 1;
+            ended.queued += saw(Situation::NoteQueued) as u32;
+            self.counts[1] += (ended.answered == 2) as u64;
+            self.counts[9] += (ended.queued == 2) as u64;
+        }
+        if saw(Situation::NoteStanding) {
+            watch.passed.push(caller);
+        }
     }
 }
 

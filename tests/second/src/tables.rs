@@ -1,5 +1,8 @@
 //! The blocks of threads, endpoints and lines.
 
+use crate::queue::Queue;
+use crate::set::Set;
+
 /// Where a thread stands.
 #[derive(Clone, Copy, Debug, PartialEq, Eq)]
 pub enum Place {
@@ -11,11 +14,12 @@ pub enum Place {
     OnLine(u8),
 }
 
-/// What ties a thread to an abort: it owns one, or has a note of one.
+/// What ties a thread to an abort: it is one of those who work on it, or has a
+/// note that it ended.
 #[derive(Clone, Copy, Debug, PartialEq, Eq)]
 pub enum Bond {
     None,
-    Owner { endpoint: u8, badge: u32 },
+    Member { endpoint: u8, badge: u32 },
     Note { endpoint: u8, badge: u32 },
 }
 
@@ -57,24 +61,25 @@ pub enum Phase {
     Closing,
 }
 
-/// A standing abort. The span is cursor and end mark, or nothing left.
+/// A standing abort. The span is cursor and end mark, or nothing left; the
+/// members are the threads that work on it.
 #[derive(Clone, Copy, Debug, PartialEq, Eq)]
 pub struct Abort {
     pub badge: u32,
     pub span: Option<(u8, u8)>,
-    pub owner: Option<u8>,
+    pub members: Set,
 }
 
 #[derive(Clone, Copy, Debug, PartialEq, Eq)]
 pub struct Endpoint {
     pub phase: Phase,
-    pub queue: crate::queue::Queue,
+    pub queue: Queue,
     pub abort: Option<Abort>,
 }
 
 impl Endpoint {
     pub const ABSENT: Endpoint =
-        Endpoint { phase: Phase::Absent, queue: crate::queue::Queue::EMPTY, abort: None };
+        Endpoint { phase: Phase::Absent, queue: Queue::EMPTY, abort: None };
 }
 
 #[derive(Clone, Copy, Debug, PartialEq, Eq)]

@@ -2,9 +2,10 @@
 
 use crate::call::{Answer, Call, Numbers};
 use crate::machine::Machine;
+use crate::set::Set;
 use crate::situation::{Situation, SITUATIONS};
 use crate::stories::{Stories, STORIES};
-use crate::tables::Phase;
+use crate::tables::{Bond, Phase};
 use std::fmt;
 
 /// One call, with the machine before and after it.
@@ -39,9 +40,9 @@ const CALL_LIMIT: usize = 14;
 
 type Edge = fn(&Numbers, &Step) -> bool;
 
-/// Numbers at the edge of their range, tables that are full, and grants that go
-/// by creation.
-const EDGES: [(&str, Edge); 26] = [
+/// Numbers at the edge of their range, tables that are full, grants that go by
+/// creation, and notes.
+const EDGES: [(&str, Edge); 30] = [
     ("thread 255 accepted", |n, s| n.thread == Some(255) && s.answer.accepted()),
     ("thread 256 refused", |n, s| n.thread == Some(256) && s.answer.code == 19),
     ("priority 255 accepted", |n, s| n.priority == Some(255) && s.answer.accepted()),
@@ -68,10 +69,23 @@ const EDGES: [(&str, Edge); 26] = [
     ("all 32 lines awaited", |_, s| s.call.number() == 10 && all_lines(s.after)),
     ("100 or more removed by one delete", |_, s| s.call.number() == 11 && s.answer.count >= 100),
     ("100 or more looked at by one abort", |_, s| s.call.number() == 12 && s.answer.count >= 100),
+    ("thread 0 noted", |_, s| noted(s).contains(0)),
+    ("thread 255 noted", |_, s| noted(s).contains(255)),
+    ("100 or more noted by one delete", |_, s| s.call.number() == 11 && noted(s).count() >= 100),
+    ("100 or more noted by one abort", |_, s| s.call.number() == 12 && noted(s).count() >= 100),
 ];
 
 fn done(step: &Step, number: u32) -> bool {
     step.call.number() == number && step.answer.code == 0
+}
+
+/// Who is noted by the call.
+fn noted(step: &Step) -> Set {
+    let Step { before, call, after, .. } = *step;
+    let endpoint = call.named().endpoint.filter(|_| (11..=12).contains(&call.number()));
+    let abort = endpoint.filter(|&e| e < 64).and_then(|e| before.endpoint(e as u8).abort);
+    let members = abort.into_iter().flat_map(|abort| abort.members.threads());
+    members.filter(|&t| matches!(after.thread(t).bond, Bond::Note { .. })).collect()
 }
 
 fn fewer_grants(step: &Step) -> bool {
@@ -89,6 +103,9 @@ fn all_endpoints(m: &Machine) -> bool {
 fn all_lines(m: &Machine) -> bool {
     (0..32).all(|l| m.line(l).waiter.is_some())
 }
+
+/// `Tally::add` has a bit for each situation.
+const _: () = assert!(SITUATIONS.len() <= 128);
 
 /// The counts.
 pub struct Tally {

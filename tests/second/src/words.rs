@@ -3,6 +3,7 @@
 
 use crate::machine::Machine;
 use crate::queue::Queue;
+use crate::set::Set;
 use crate::tables::{Abort, Bond, Line, Phase, Place, Thread};
 
 /// How many words the tables are.
@@ -10,10 +11,10 @@ pub const TABLE: usize = 4096;
 
 const QUEUES: usize = 2560;
 const ENDPOINTS: usize = 3200;
-const LINES: usize = 3584;
-const SUMMARY: usize = 3616;
-const TOP: usize = 3624;
-const RUNNING: usize = 3625;
+const LINES: usize = 3520;
+const SUMMARY: usize = 3552;
+const TOP: usize = 3560;
+const RUNNING: usize = 3561;
 
 /// Whether the words are the memory of a sound machine: they show one, and
 /// it has no other memory.
@@ -34,7 +35,18 @@ fn waiters_at(e: usize) -> usize {
 }
 
 fn endpoint_at(e: usize) -> usize {
-    ENDPOINTS + 6 * e
+    ENDPOINTS + 5 * e
+}
+
+/// The word that is 1 where an abort stands at an endpoint.
+pub fn aborting_at(e: u8) -> usize {
+    endpoint_at(e as usize) + 1
+}
+
+/// The word that ties a thread to an abort: 1 + e in the set of endpoint e,
+/// 65 + e a note of it.
+pub fn owes_at(t: u8) -> usize {
+    10 * t as usize + 8
 }
 
 /// None is 0 and thread t is t + 1.
@@ -68,7 +80,10 @@ pub fn write_memory(machine: &Machine, words: &mut [u32]) {
     for (e, endpoint) in machine.endpoints.iter().enumerate() {
         words[waiters_at(e)..][..2].copy_from_slice(&queue_words(&endpoint.queue));
         let block = endpoint_words(endpoint.phase, &endpoint.abort);
-        words[endpoint_at(e)..][..6].copy_from_slice(&block);
+        words[endpoint_at(e)..][..5].copy_from_slice(&block);
+        for t in endpoint.abort.iter().flat_map(|abort| abort.members.threads()) {
+            words[owes_at(t)] = 1 + e as u32;
+        }
     }
     for (l, line) in machine.lines.iter().enumerate() {
         words[LINES + l] = line.waiter.map_or(line.pending as u32, |t| 2 + t as u32);
@@ -81,7 +96,7 @@ pub fn write_memory(machine: &Machine, words: &mut [u32]) {
 const THREAD_WORDS: [&str; 10] =
     ["place", "priority", "ticks", "outcome", "badge", "message", "next", "prev", "owes", "note"];
 const QUEUE_WORDS: [&str; 2] = ["head", "tail"];
-const ENDPOINT_WORDS: [&str; 6] = ["status", "aborting", "aborted", "owner", "cursor", "end"];
+const ENDPOINT_WORDS: [&str; 5] = ["status", "aborting", "aborted", "cursor", "end"];
 
 /// What the word at an address is.
 pub fn word_name(at: usize) -> String {
@@ -101,6 +116,7 @@ pub fn word_name(at: usize) -> String {
     }
 }
 
+/// A thread's words, but for the set that it is in: that stands at the abort.
 fn thread_words(machine: &Machine, t: u8) -> [u32; 10] {
     let block = machine.thread(t);
     let place = match block.place {
@@ -111,8 +127,7 @@ fn thread_words(machine: &Machine, t: u8) -> [u32; 10] {
         Place::OnLine(l) => 130 + l as u32,
     };
     let (owes, note) = match block.bond {
-        Bond::None => (0, 0),
-        Bond::Owner { endpoint, .. } => (1 + endpoint as u32, 0),
+        Bond::None | Bond::Member { .. } => (0, 0),
         Bond::Note { endpoint, badge } => (65 + endpoint as u32, badge),
     };
     [
@@ -133,20 +148,20 @@ fn queue_words(queue: &Queue) -> [u32; 2] {
     [link(queue.head), link(queue.tail)]
 }
 
-fn endpoint_words(phase: Phase, abort: &Option<Abort>) -> [u32; 6] {
+fn endpoint_words(phase: Phase, abort: &Option<Abort>) -> [u32; 5] {
     let status = match phase {
         Phase::Absent => 0,
         Phase::Open => 1,
         Phase::Closing => 2,
     };
     let Some(abort) = abort else {
-        return [status, 0, 0, 0, 0, 0];
+        return [status, 0, 0, 0, 0];
     };
     let (cursor, end) = match abort.span {
         Some((cursor, end)) => (Some(cursor), Some(end)),
         None => (None, None),
     };
-    [status, 1, abort.badge, link(abort.owner), link(cursor), link(end)]
+    [status, 1, abort.badge, link(cursor), link(end)]
 }
 
 /// The machine that the words show, if each word that is read has a meaning;
@@ -170,10 +185,11 @@ pub fn shown(words: &[u32]) -> Option<Machine> {
         machine.levels[p] = queue_shown(&words[level_at(p)..])?;
     }
     for (e, endpoint) in machine.endpoints.iter_mut().enumerate() {
-        let block = &words[endpoint_at(e)..][..6];
+        let block = &words[endpoint_at(e)..][..5];
         endpoint.queue = queue_shown(&words[waiters_at(e)..])?;
         endpoint.phase = *[Phase::Absent, Phase::Open, Phase::Closing].get(block[0] as usize)?;
-        endpoint.abort = abort_shown(block)?;
+        let members = |t: &u8| words[owes_at(*t)] == 1 + e as u32;
+        endpoint.abort = abort_shown(block, || (0..=255).filter(members).collect())?;
     }
     for (l, line) in machine.lines.iter_mut().enumerate() {
         *line = line_shown(words[LINES + l])?;
@@ -195,7 +211,7 @@ fn thread_shown(words: &[u32], block: &[u32], runs: bool) -> Option<Thread> {
         0 => Bond::None,
         owes @ 1..=64 => {
             let endpoint = (owes - 1) as u8;
-            Bond::Owner { endpoint, badge: words[endpoint_at(endpoint as usize) + 2] }
+            Bond::Member { endpoint, badge: words[endpoint_at(endpoint as usize) + 2] }
         }
         owes @ 65..=128 => Bond::Note { endpoint: (owes - 65) as u8, badge: block[9] },
         _ => return None,
@@ -216,16 +232,16 @@ fn queue_shown(words: &[u32]) -> Option<Queue> {
 }
 
 /// The abort, or none, where the endpoint's words show either.
-fn abort_shown(block: &[u32]) -> Option<Option<Abort>> {
+fn abort_shown(block: &[u32], members: impl Fn() -> Set) -> Option<Option<Abort>> {
     match block[1] {
         0 => Some(None),
         1 => {
-            let span = match (named(block[4])?, named(block[5])?) {
+            let span = match (named(block[3])?, named(block[4])?) {
                 (Some(cursor), Some(end)) => Some((cursor, end)),
                 (None, None) => None,
                 _ => return None,
             };
-            Some(Some(Abort { badge: block[2], span, owner: named(block[3])? }))
+            Some(Some(Abort { badge: block[2], span, members: members() }))
         }
         _ => None,
     }

@@ -1,7 +1,7 @@
 //! The listing of the paper, the journal's edges, and short scenes.
 
 use second::{
-    listing, read, write, Bond, Call, Machine, Phase, Place, Read, Written, HEADER, WORDS,
+    listing, read, write, Bond, Call, Machine, Phase, Place, Read, Set, Written, HEADER, WORDS,
 };
 
 const INPUT: [u32; 27] = [
@@ -187,7 +187,7 @@ fn other_badge_exactly() {
     let run = codes(&mut m, &[send(7), send(7), send(8), abort(1, 7)]);
     assert_eq!(run, [(1, 0), (1, 0), (1, 0), (2, 1)]);
     assert_eq!(m.running(), Some(1));
-    assert_eq!(m.endpoint(0).abort.and_then(|a| a.owner), Some(4));
+    assert_eq!(m.endpoint(0).abort.map(|a| a.members), Some(Set::from_iter([4])));
     assert_eq!(codes(&mut m, &[abort(2, 8)]), [(2, 2)]);
     assert!(m.endpoint(0).abort.is_none());
     assert_eq!(m.thread(4).bond, Bond::Note { endpoint: 0, badge: 7 });

@@ -1,14 +1,14 @@
 -- A noted caller is answered; another goes on by the status.
 use borrow.Author.Needs.{needs}
-use Rattle.aborts.proofs.Opening.{calls-asked, note-asked, forgotten-asked, noted-answered, not-noted}
+use Rattle.aborts.proofs.Opening.{calls-asked, note-asked, dropped-asked, noted-answered, not-noted}
 use Rattle.aborts.proofs.abort.Statement.{statement}
 use Rattle.aborts.proofs.abort.Tie as tie
 
 has-note-requires : tie.Need-has-note-requires
 has-note-requires c κs = calls-asked (c .before .before .pre)
 
-set-owes-requires : tie.Need-set-owes-requires
-set-owes-requires c κs =
+drop-debt-requires : tie.Need-drop-debt-requires
+drop-debt-requires c κs =
     let at-start = c .before .before .before .before .before in
     note-asked (at-start .pre)
 
@@ -17,12 +17,11 @@ plain-requires c κs = search needs
 
 accept-requires : tie.Need-accept-requires
 accept-requires c κs =
-    let at-set-owes = c .before .before .before .before in
-    let at-if1 = at-set-owes .before .before in
+    let at-drop-debt = c .before .before .before .before in
+    let at-if1 = at-drop-debt .before .before in
     let at-has-note = at-if1 .before in
     let at-start = at-has-note .before .before .before in
-    forgotten-asked (at-has-note .has-note .ensures) (at-if1 .if1 .taken) (at-set-owes .set-owes .ensures)
-    (at-start .pre)
+    dropped-asked (at-drop-debt .drop-debt .ensures) (at-start .pre)
 
 same-length : tie.Need-same-length
 same-length c = search needs
@@ -31,10 +30,10 @@ returns : tie.Need-returns
 returns c =
     let at-accept = c .before .before in
     let at-plain = at-accept .before in
-    let at-set-owes = at-plain .before .before .before .before in
-    let at-if1 = at-set-owes .before .before in
+    let at-drop-debt = at-plain .before .before .before .before in
+    let at-if1 = at-drop-debt .before .before in
     let at-has-note = at-if1 .before in
-    noted-answered (at-has-note .has-note .ensures) (at-if1 .if1 .taken) (at-set-owes .set-owes .ensures)
+    noted-answered (at-has-note .has-note .ensures) (at-if1 .if1 .taken) (at-drop-debt .drop-debt .ensures)
     (at-plain .plain .ensures) (at-accept .accept .ensures)
 
 abort-at-requires : tie.Need-abort-at-requires
@@ -55,7 +54,7 @@ abort-spec =
     tie.close
     (tie.spec
     has-note-requires
-    set-owes-requires
+    drop-debt-requires
     plain-requires
     accept-requires
     same-length

@@ -1,7 +1,7 @@
 -- The refusals by status, and the work of a caller without other debts.
 use borrow.Author.Needs.{needs}
 use native.Mathlib.Omega.{arith}
-use Rattle.aborts.proofs.Opening.{calls-asked, refused-missing, refused-closing, owing-asked, opened}
+use Rattle.aborts.proofs.Opening.{note-asked, refused-missing, refused-closing, open-asked, opened}
 use Rattle.aborts.proofs.abort_at.Statement.{statement}
 use Rattle.aborts.proofs.abort_at.Tie as tie
 
@@ -32,20 +32,20 @@ returns-2 c =
     let at-status = at-if2 .before .before in
     refused-closing (at-status .endpoint .ensures) (at-if2 .if2 .taken) (c .plain2 .ensures)
 
-drop-other-requires : tie.Need-drop-other-requires
-drop-other-requires c κs =
+drop-debt-requires : tie.Need-drop-debt-requires
+drop-debt-requires c κs =
     let at-start = c .before .before .before .before .before .before in
-    calls-asked (at-start .pre)
+    note-asked (at-start .pre)
 
 abort-open-requires : tie.Need-abort-open-requires
 abort-open-requires c κs =
-    let at-drop-other = c .before .before .before in
-    let at-if2 = at-drop-other .before .before in
+    let at-drop-debt = c .before .before .before in
+    let at-if2 = at-drop-debt .before .before in
     let at-if1 = at-if2 .before in
     let at-status = at-if1 .before in
     let at-start = at-status .before .before .before in (
-      owing-asked (at-status .endpoint .ensures) (at-if1 .if1 .left) (at-if2 .if2 .left)
-          (at-drop-other .drop-other .ensures) (at-start .pre),
+      open-asked (at-status .endpoint .ensures) (at-if1 .if1 .left) (at-if2 .if2 .left)
+          (at-drop-debt .drop-debt .ensures) (at-start .pre),
       omega (arith, at-start .pre .holds .numbers .1),
       at-start .pre .holds .numbers .2,
     )
@@ -56,11 +56,11 @@ same-length-3 c = search needs
 returns-3 : tie.Need-returns-3
 returns-3 c =
     let at-abort-open = c .before .before in
-    let at-drop-other = at-abort-open .before .before .before .before in
-    let at-if2 = at-drop-other .before .before in
+    let at-drop-debt = at-abort-open .before .before .before .before in
+    let at-if2 = at-drop-debt .before .before in
     let at-if1 = at-if2 .before in
     let at-status = at-if1 .before in
-    opened (at-status .endpoint .ensures) (at-if1 .if1 .left) (at-if2 .if2 .left) (at-drop-other .drop-other .ensures)
+    opened (at-status .endpoint .ensures) (at-if1 .if1 .left) (at-if2 .if2 .left) (at-drop-debt .drop-debt .ensures)
     (at-abort-open .abort-open .ensures)
 
 pub abort-at-spec : {M : Type 1} → statement M
@@ -74,7 +74,7 @@ abort-at-spec =
     plain-requires-2
     same-length-2
     returns-2
-    drop-other-requires
+    drop-debt-requires
     abort-open-requires
     same-length-3
     returns-3)

@@ -1,7 +1,6 @@
 -- The three ways into the work.
 use borrow.Author.Needs.{needs}
-use Rattle.aborts.proofs.Opening.{bare-shown, opens-none, joining-shown, opens-same}
-use Rattle.aborts.proofs.Opening.{clear-shown, opens-other}
+use Rattle.aborts.proofs.Opening.{opens-none, joining-shown, opens-same, opens-other}
 use Rattle.aborts.proofs.abort_open.Statement.{statement}
 use Rattle.aborts.proofs.abort_open.Tie as tie
 
@@ -13,7 +12,7 @@ begin-own-requires c κs =
     let at-if1 = c .before in
     let at-aborting = at-if1 .before in
     let at-start = at-aborting .before .before .before in (
-      bare-shown (at-aborting .endpoint .ensures) (at-if1 .if1 .taken) (at-start .pre .0),
+      at-start .pre .0,
       search needs,
       at-start .pre .2,
     )
@@ -26,7 +25,7 @@ returns c =
     let at-begin-own = c .before .before in
     let at-if1 = at-begin-own .before .before in
     let at-aborting = at-if1 .before in
-    opens-none (at-aborting .endpoint .ensures) (at-if1 .if1 .taken) _ (at-begin-own .begin-own .ensures)
+    opens-none _ (at-aborting .endpoint .ensures) (at-if1 .if1 .taken) _ (at-begin-own .begin-own .ensures)
 
 under-abort-requires : tie.Need-under-abort-requires
 under-abort-requires c κs = search needs
@@ -36,7 +35,7 @@ join-own-requires c κs =
     let at-if2 = c .before in
     let at-under-abort = at-if2 .before in
     let at-start = at-under-abort .before .before .before .before .before .before in
-    (joining-shown (at-under-abort .under-abort .ensures) (at-if2 .if2 .taken) (at-start .pre .0), search needs)
+    (joining-shown _ (at-under-abort .under-abort .ensures) (at-if2 .if2 .taken) (at-start .pre .0), search needs)
 
 same-length-2 : tie.Need-same-length-2
 same-length-2 c = search needs
@@ -46,14 +45,14 @@ returns-2 c =
     let at-join-own = c .before .before in
     let at-if2 = at-join-own .before .before in
     let at-under-abort = at-if2 .before in
-    opens-same (at-under-abort .under-abort .ensures) (at-if2 .if2 .taken) _ (at-join-own .join-own .ensures)
+    opens-same _ (at-under-abort .under-abort .ensures) (at-if2 .if2 .taken) _ (at-join-own .join-own .ensures)
 
 work-other-requires : tie.Need-work-other-requires
 work-other-requires c κs =
     let at-if2 = c .before in
     let at-under-abort = at-if2 .before in
     let at-start = at-under-abort .before .before .before .before .before .before in (
-      clear-shown (at-under-abort .under-abort .ensures) (at-if2 .if2 .left) (at-start .pre .0),
+      at-start .pre .0,
       at-start .pre .1,
       at-start .pre .2,
     )
@@ -68,7 +67,7 @@ returns-3 c =
     let at-under-abort = at-if2 .before in
     let at-if1 = at-under-abort .before .before in
     let at-aborting = at-if1 .before in
-    opens-other (at-under-abort .under-abort .ensures) (at-if2 .if2 .left) _ (at-aborting .endpoint .ensures)
+    opens-other _ (at-under-abort .under-abort .ensures) (at-if2 .if2 .left) _ (at-aborting .endpoint .ensures)
     (at-if1 .if1 .left) (at-work-other .work-other .ensures)
 
 pub abort-open-spec : {M : Type 1} → statement M

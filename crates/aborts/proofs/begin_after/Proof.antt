@@ -1,6 +1,6 @@
 -- Broken off where no allowance is left.
 use borrow.Author.Needs.{needs}
-use Rattle.aborts.proofs.Working.{bare-chooses, after-broken, after-begins}
+use Rattle.aborts.proofs.Working.{chooses-asked, after-broken, after-begins}
 use Rattle.aborts.proofs.begin_after.Statement.{statement}
 use Rattle.aborts.proofs.begin_after.Tie as tie
 
@@ -8,7 +8,7 @@ counted-requires : tie.Need-counted-requires
 counted-requires c κs = search needs
 
 accept-requires : tie.Need-accept-requires
-accept-requires c κs = search bare-chooses
+accept-requires c κs = search chooses-asked
 
 same-length : tie.Need-same-length
 same-length c = search needs

@@ -1,6 +1,6 @@
 -- Broken off where a waiter is left, else ended.
 use borrow.Author.Needs.{needs}
-use Rattle.aborts.proofs.Working.{chooses-asked, debtor-asked, endable-asked, ended-asked, own-broken}
+use Rattle.aborts.proofs.Working.{chooses-asked, thread-asked, endable-asked, ended-asked, own-broken}
 use Rattle.aborts.proofs.Working.{own-ended}
 use Rattle.aborts.proofs.end_own.Statement.{statement}
 use Rattle.aborts.proofs.end_own.Tie as tie
@@ -29,7 +29,7 @@ returns c =
 drop-debt-requires : tie.Need-drop-debt-requires
 drop-debt-requires c κs =
     let at-start = c .before .before .before .before .before in
-    debtor-asked (at-start .pre)
+    thread-asked (at-start .pre)
 
 end-abort-requires : tie.Need-end-abort-requires
 end-abort-requires c κs = search endable-asked

@@ -1,7 +1,7 @@
 -- Looks at the other badge's pending; with none left it ends, and the call's own begins.
 use borrow.Author.Needs.{needs}
-use Rattle.aborts.proofs.Working.{clear-within, clear-endpoint, clear-chooses, other-endable, bare-asked}
-use Rattle.aborts.proofs.Working.{looked-clear, looks-bound, rest-small, other-broken, other-ended}
+use Rattle.aborts.proofs.Working.{within-asked, endpoint-asked, chooses-asked, over-asked}
+use Rattle.aborts.proofs.Working.{looked-asked, looks-bound, rest-small, other-broken, other-ended}
 use Rattle.aborts.proofs.work_other.Statement.{statement}
 use Rattle.aborts.proofs.work_other.Tie as tie
 
@@ -12,7 +12,7 @@ endpoint-requires : tie.Need-endpoint-requires
 endpoint-requires c κs =
     let at-look-up-to = c .before .before .before in
     let at-start = at-look-up-to .before .before .before in
-    clear-endpoint (looked-clear (at-look-up-to .look-up-to .ensures) (at-start .pre .0))
+    endpoint-asked (looked-asked (at-look-up-to .look-up-to .ensures) (at-start .pre .0))
 
 counted-requires : tie.Need-counted-requires
 counted-requires c κs = search needs
@@ -21,7 +21,7 @@ accept-requires : tie.Need-accept-requires
 accept-requires c κs =
     let at-look-up-to = c .before .before .before .before .before .before .before in
     let at-start = at-look-up-to .before .before .before in
-    clear-chooses (looked-clear (at-look-up-to .look-up-to .ensures) (at-start .pre .0))
+    chooses-asked (looked-asked (at-look-up-to .look-up-to .ensures) (at-start .pre .0))
 
 same-length : tie.Need-same-length
 same-length c = search needs
@@ -40,22 +40,22 @@ end-abort-requires : tie.Need-end-abort-requires
 end-abort-requires c κs =
     let at-look-up-to = c .before .before .before .before .before .before in
     let at-start = at-look-up-to .before .before .before in
-    other-endable (looked-clear (at-look-up-to .look-up-to .ensures) (at-start .pre .0))
+    endpoint-asked (looked-asked (at-look-up-to .look-up-to .ensures) (at-start .pre .0))
 
 sub-rest : tie.Need-sub-rest
 sub-rest c =
     let at-look-up-to = c .before .before .before .before .before .before .before .before .before in
     let at-start = at-look-up-to .before .before .before in
-    looks-bound (at-look-up-to .look-up-to .ensures) (clear-within (at-start .pre .0))
+    looks-bound (at-look-up-to .look-up-to .ensures) (within-asked (at-start .pre .0))
 
 begin-after-requires : tie.Need-begin-after-requires
 begin-after-requires c κs =
     let at-end-abort = c .before .before .before in
     let at-look-up-to = at-end-abort .before .before .before .before .before .before .before in
     let at-start = at-look-up-to .before .before .before in (
-      bare-asked (at-end-abort .end-abort .ensures)
-          (looked-clear (at-look-up-to .look-up-to .ensures) (at-start .pre .0)),
-      rest-small (at-look-up-to .look-up-to .ensures) (clear-within (at-start .pre .0)) (at-start .pre .1),
+      over-asked (at-end-abort .end-abort .ensures)
+          (looked-asked (at-look-up-to .look-up-to .ensures) (at-start .pre .0)),
+      rest-small (at-look-up-to .look-up-to .ensures) (within-asked (at-start .pre .0)) (at-start .pre .1),
       at-start .pre .2,
     )
 

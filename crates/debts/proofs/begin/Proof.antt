@@ -1,4 +1,4 @@
--- The abort that stands has the senders to look at, and it and its owner name each other.
+-- The abort begins with the first and the last sender as its marks, and the thread joins its set.
 use borrow.Author.Needs.{needs}
 use Rattle.debts.proofs.Beginning.{beginner-asked, begins}
 use Rattle.debts.proofs.begin.Statement.{statement}
@@ -16,23 +16,11 @@ first-at-requires c κs = search needs
 last-sender-requires : tie.Need-last-sender-requires
 last-sender-requires c κs = search needs
 
-add-set-abort : tie.Need-add-set-abort
-add-set-abort c = search needs
-
-cast-set-abort : tie.Need-cast-set-abort
-cast-set-abort c = search needs
-
 set-abort-requires : tie.Need-set-abort-requires
 set-abort-requires c κs = search needs
 
-cast-set-owes : tie.Need-cast-set-owes
-cast-set-owes c = search needs
-
-add-set-owes : tie.Need-add-set-owes
-add-set-owes c = search needs
-
-set-owes-requires : tie.Need-set-owes-requires
-set-owes-requires c κs =
+join-requires : tie.Need-join-requires
+join-requires c κs =
     let at-set-abort = c .before .before .before in
     let at-last-sender = at-set-abort .before .before in
     let at-first-at = at-last-sender .before .before in
@@ -54,11 +42,7 @@ begin-spec =
     add-first-at
     first-at-requires
     last-sender-requires
-    add-set-abort
-    cast-set-abort
     set-abort-requires
-    cast-set-owes
-    add-set-owes
-    set-owes-requires
+    join-requires
     same-length
     returns)

@@ -1,11 +1,11 @@
--- The note, no abort and the status: three steps that are the machine's one.
+-- The notes, no abort and the status: three steps that are the machine's one.
 use borrow.Author.Needs.{needs}
 use Rattle.debts.proofs.Ending.{abort-asked, status-asked, ends}
 use Rattle.debts.proofs.end_abort.Statement.{statement}
 use Rattle.debts.proofs.end_abort.Tie as tie
 
-note-owner-requires : tie.Need-note-owner-requires
-note-owner-requires c κs = search needs
+note-set-requires : tie.Need-note-set-requires
+note-set-requires c κs = search needs
 
 set-abort-requires : tie.Need-set-abort-requires
 set-abort-requires c κs = search abort-asked
@@ -22,4 +22,4 @@ returns c = search ends depth 9
 pub end-abort-spec : {M : Type 1} → statement M
 end-abort-spec =
     tie.close
-    (tie.spec note-owner-requires set-abort-requires set-status-requires same-length returns)
+    (tie.spec note-set-requires set-abort-requires set-status-requires same-length returns)

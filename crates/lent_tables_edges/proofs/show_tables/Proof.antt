@@ -8,10 +8,10 @@ use Rattle.lent_tables_edges.proofs.show_tables.Tie as tie
 
 abbrev Inv-loop : tie.InvT-loop
 Inv-loop text kept₀ number₀ at₀ kept number at =
-    (length kept ≡ length kept₀) × (at ≤ length text) × (number ≤ 6)
+    (length kept ≡ length kept₀) × (at ≤ length text) × (number ≤ 10)
 
 abbrev μ-loop : tie.MeasureT-loop
-μ-loop text kept₀ number₀ at₀ kept number at = 6 - number
+μ-loop text kept₀ number₀ at₀ kept number at = 10 - number
 
 table-requires : tie.Need-table-requires Inv-loop μ-loop
 table-requires c κs = search needs

@@ -1,12 +1,12 @@
 -- The answers: what the paper says of refusals, codes, counts, and calls that are broken off.
 use Prim.Native.Nat.{ℕ, _+_, _≤_}
 use mathlib.Core.Path.{_≡_, refl, sym, _∙_, ap, subst}
-use mathlib.Core.Logic.{_⊎_, inl, inr, _↔_}
+use mathlib.Core.Logic.{_⊎_, inl, inr, _↔_, ⊎-elim}
 use mathlib.Core.Bool.{Bool, true, false}
 use mathlib.Core.Option.{Option, none, some}
 use mathlib.Core.List.{[]}
 use native.Mathlib.Omega.{arith}
-use borrow.Author.Tests.{eq-eqb}
+use borrow.Author.Tests.{eq-eqb, leb-false}
 use lib.ListN.{length}
 use Rattle.machine.specs.declared.Call.{Call}
 use Rattle.machine.specs.declared.Call.the-variants.{Delete, Abort}
@@ -14,8 +14,8 @@ use Rattle.machine.specs.Calls.{numberOf, inRange}
 use Rattle.machine.specs.Lists.{Mem, Distinct}
 use Rattle.machine.specs.State as State
 use Rattle.machine.specs.State.{State, Thread, nothing, noted, setThread, withDebt}
-use Rattle.machine.specs.Endpoints.{pendingOf}
-use Rattle.machine.specs.Results.{Result, plain, done}
+use Rattle.machine.specs.Endpoints.{pendingOf, dropDebt}
+use Rattle.machine.specs.Results.{Result, plain, done, isAccepted}
 use Rattle.machine.specs.Grants.{Grants, lacks, barred}
 use Rattle.machine.specs.Aborts.{pendingAt, hasNote, abortUnless, abort}
 use Rattle.machine.specs.Machine.{byCaller, perform, performUnless, performIf, step}
@@ -25,8 +25,8 @@ use Rattle.machine.proofs.Lists.{put-same}
 use Rattle.machine.proofs.Preserved.Mid.{sound-mid}
 use Rattle.machine.proofs.Preserved.AbortSteps.{pending-once}
 use Rattle.machine.proofs.Running.{goes-on-exactly}
-use Rattle.machine.proofs.Calls.Shapes.{refused, plainly, granted, handed, removed, looked}
-use Rattle.machine.proofs.Calls.Shapes.{Comes, lacking, shaped, shape}
+use Rattle.machine.proofs.Calls.Shapes.{refused, plainly, granted, handed, removed, looked, Comes, lacking}
+use Rattle.machine.proofs.Calls.Shapes.{shaped, shape}
 
 -- "Number, three zeros", and everything "left as it was": a refusal changes nothing.
 pub refused-same :
@@ -60,6 +60,14 @@ codes g s c = go (shape g s c)
     go (shaped (handed b m r)) = inl (omega arith)
     go (shaped (removed n j r l i x k)) = inl l
     go (shaped (looked n k r l i x)) = inl l
+
+-- A call that is not accepted is refused, and leaves the state.
+pub refused-state : (g : Grants) (s : State) (c : Call) → isAccepted (step g s c .answer) ≡ false → step g s c .state ≡ s
+refused-state g s c h =
+    let k = leb-false (step g s c .answer .code) 2 h in
+    let l : 16 ≤ step g s c .answer .code =
+    ⊎-elim (λ i. absurd (omega arith)) (⊎-elim (λ i. omega (arith, i .0)) (λ i. omega arith)) (codes g s c) in
+    refused-same g s c l .0
 
 -- "Count is 0 except for 11 and 12."
 pub count-zero :
@@ -181,9 +189,9 @@ module _ (g : Grants) (s : State) (t e a b : ℕ) (in-range : inRange (Abort e a
   has-it : hasNote e b (s .threads t .debt) ≡ true
   has-it = rw (owed, eq-eqb e e refl, eq-eqb b b refl)
 
-  -- "The owner's next abort call of that endpoint and badge is answered 0, count 0, before 23 is tried; the note goes
+  -- A member's "next abort call of that endpoint and badge is answered 0, count 0, before 23 is tried; the note goes
   pub noted-first : step g s (Abort e a b) ≡ done (setThread t (withDebt nothing (s .threads t)) s)
-  unfolding step performIf performUnless perform abort abortUnless
+  unfolding step performIf performUnless perform abort abortUnless dropDebt
   noted-first =
       ap (λ (x : Bool). performIf x g (Abort e a b) s) in-range
       ∙ ap (λ (o : Option ℕ). performUnless (barred o g (Abort e a b)) (Abort e a b) s) runs

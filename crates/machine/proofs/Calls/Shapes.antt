@@ -3,37 +3,37 @@
 use Prim.Native.Nat.{ℕ, zero, suc, _+_, _-_, _≤_, _<_}
 use mathlib.Core.Path.{_≡_, refl, sym, _∙_, ap, subst}
 use mathlib.Core.Logic.{_⊎_, inl, inr, _↔_, ⊎-elim}
-use mathlib.Core.Bool.{Bool, true, false, _&&_}
+use mathlib.Core.Bool.{Bool, true, false}
 use mathlib.Core.Option.{Option, none, some}
 use mathlib.Core.List.{List, [], _∷_, _++_}
 use native.Mathlib.Omega.{arith}
 use native.Mathlib.Nat.{le-of-eq}
-use lib.Dec.{eqb, leb, lit≤}
+use lib.Dec.{eqb, lit≤}
 use lib.ListN.{length, length-append}
-use borrow.Author.Tests.{leb-true}
 use Rattle.machine.specs.declared.Call.{Call}
 use Rattle.machine.specs.declared.Call.the-variants.{CreateThread, DestroyThread, SetPriority, CreateEndpoint}
 use Rattle.machine.specs.declared.Call.the-variants.{Interrupt, Tick, Send, Receive, Yield, Wait, Delete, Abort}
 use Rattle.machine.specs.declared.Call.the-variants.{Grant}
-use Rattle.machine.specs.Calls.{numberOf, inRange, isEndpoint, isAllowance, isBadge}
+use Rattle.machine.specs.Calls.{numberOf, inRange}
 use Rattle.machine.specs.Lists.{Mem, Distinct}
 use Rattle.machine.specs.State as State
-use Rattle.machine.specs.State.{State, Debt, nothing, owns, noted, Status, missing, live, closing, Line, quiet}
-use Rattle.machine.specs.State.{pending, awaited, Endpoint, missingEndpoint, setEndpoint}
+use Rattle.machine.specs.State.{State, Status, missing, live, closing, Line, quiet, pending, awaited, Endpoint}
+use Rattle.machine.specs.State.{missingEndpoint, setEndpoint}
 use Rattle.machine.specs.Scheduling.{choose}
-use Rattle.machine.specs.Endpoints.{underAbort, pendingOf, withOwner, dropped, dropDebt, endAbort}
+use Rattle.machine.specs.Endpoints.{pendingOf, dropDebt, endAbort}
 use Rattle.machine.specs.Results.{Look, Result, plain, counted, refuse, accept, receipt}
 use Rattle.machine.specs.Grants.{Grants, barred}
 use Rattle.machine.specs.Aborts.{Removal, removeUpTo, deleted, deleteFrom, deleteAt, delete, Looked, pendingAt}
 use Rattle.machine.specs.Aborts.{lookUpTo, begin, join, ended, lookedOwn, workOwn, beginAfter, finished}
-use Rattle.machine.specs.Aborts.{lookedOther, workOther, underBadge, abortFrom, dropUnless, dropOther}
-use Rattle.machine.specs.Aborts.{abortOpen, abortAt, abortUnless, abort}
+use Rattle.machine.specs.Aborts.{lookedOther, workOther, underBadge, abortFrom, abortOpen, abortAt, abortUnless}
+use Rattle.machine.specs.Aborts.{abort}
 use Rattle.machine.specs.Machine.{createIf, createThread, destroyIf, destroyThread, priorityIf, setPriority}
 use Rattle.machine.specs.Machine.{createAt, createEndpoint, interrupt, tick, sendTo, sendUnless, sendAt, send}
 use Rattle.machine.specs.Machine.{receiveFrom, receiveAt, receive, yield, waitAt, wait, byCaller, perform}
 use Rattle.machine.specs.Machine.{grantAt, grantIf, grant, performUnless, performIf, step}
 use Rattle.machine.specs.Work.{allowanceOf, WorkLeft, to-remove, to-look, not-begun}
-use Rattle.machine.proofs.Lists.{Same, same, other, same?, clash, put-same, put-all}
+use Rattle.machine.proofs.Lists.{Same, same, other, same?, put-same}
+use Rattle.machine.proofs.Ranges.{bounds}
 use Rattle.machine.proofs.Running.{choose-keeps}
 use Rattle.machine.proofs.Calls.Loops.{Removed, removes, looks}
 
@@ -172,17 +172,10 @@ module _ (s : State) (e a : ℕ) where
   deleted-shape (w ∷ l) r h i (inl k) R = let z : _≡_ {A = ℕ} 0 1 = cc in absurd (omega arith)
   deleted-shape (w ∷ l) r h i (inr k) R = removed-some (r .count) (r .state) w (rw h (inl refl)) k R
 
-dropped-waiters : (d : Debt) (t e : ℕ) (s : State) → dropped d t s .endpoints e .waiters ≡ s .endpoints e .waiters
-unfolding dropped
-dropped-waiters nothing t e s = refl
-dropped-waiters (owns f) t e s =
-    put-all (λ k x. x .waiters ≡ s .endpoints k .waiters) (s .endpoints) f _ refl (λ k n. refl) e
-dropped-waiters (noted f b) t e s = refl
-
 closed-waiters :
     (t e : ℕ) (s : State) → endAbort closing e (dropDebt t s) .endpoints e .waiters ≡ s .endpoints e .waiters
 unfolding endAbort dropDebt
-closed-waiters t e s = ap (λ (x : Endpoint). x .waiters) (put-same _ e _) ∙ dropped-waiters _ t e s
+closed-waiters t e s = ap (λ (x : Endpoint). x .waiters) (put-same _ e _)
 
 deleteFrom-shape :
     (s r : State) (e a : ℕ) → r .endpoints e .waiters ≡ s .endpoints e .waiters
@@ -292,49 +285,21 @@ module _ (s : State) (t e a b : ℕ) where
           begun y k n d = let c : x ≡ y = cc in absurd (n (subst (λ (z : State.Abort). z .badge ≡ b) c f))
       go (other n g) = rw g (other-shape x h n r p)
 
--- Ownership aside, a dropped debt leaves every abort as it was.
-abbrev disowned : Option State.Abort → Option State.Abort
-disowned x = withOwner none x
-
-dropped-abort :
-    (d : Debt) (t e : ℕ) (s : State) → disowned (dropped d t s .endpoints e .abort) ≡ disowned (s .endpoints e .abort)
-unfolding dropped
-dropped-abort nothing t e s = refl
-dropped-abort (owns f) t e s =
-    put-all (λ k x. disowned (x .abort) ≡ disowned (s .endpoints k .abort)) (s .endpoints) f _
-    (again (s .endpoints f .abort)) (λ k n. refl) e
-  where
-    again : (x : Option State.Abort) → disowned (disowned x) ≡ disowned x
-    again none = refl
-    again (some x) = refl
-dropped-abort (noted f b) t e s = refl
-
-unless-abort :
-    (x : Bool) (t e : ℕ) (s : State)
-    → disowned (dropUnless x t s .endpoints e .abort) ≡ disowned (s .endpoints e .abort)
-unfolding dropUnless dropDebt
-unless-abort true t e s = refl
-unless-abort false t e s = dropped-abort _ t e s
-
 module _ (s : State) (t e a b : ℕ) where
   from-shape :
-      (y x : Option State.Abort) (r : State) → r .endpoints e .abort ≡ y → s .endpoints e .abort ≡ x
-      → disowned y ≡ disowned x → Shape s (Abort e a b) (abortFrom y t e a b r)
+      (x : Option State.Abort) (r : State) → s .endpoints e .abort ≡ x → pendingAt e r ≡ pendingOf x
+      → Shape s (Abort e a b) (abortFrom x t e a b r)
   unfolding abortFrom
-  from-shape none none r h k q =
+  from-shape none r h p =
       own-shape s t e a b a [] (begin t e b r) (omega arith)
       (λ x f. let z : _≡_ {A = ℕ} 0 1 = cc in absurd (omega arith))
-  from-shape none (some x) r h k q = let z : _≡_ {A = ℕ} 0 1 = cc in absurd (omega arith)
-  from-shape (some y) none r h k q = let z : _≡_ {A = ℕ} 0 1 = cc in absurd (omega arith)
-  from-shape (some y) (some x) r h k q =
-      subst (λ (c : Bool). Shape s (Abort e a b) (underBadge c t e a b r)) (sym (ap (underAbort b) q))
-      (badge-shape s t e a b x r k (ap pendingOf h ∙ ap pendingOf q))
+  from-shape (some x) r h p = badge-shape s t e a b x r h p
 
   abortAt-shape : (x : Status) → Shape s (Abort e a b) (abortAt x t e a b s)
-  unfolding abortAt abortOpen dropOther
+  unfolding abortAt abortOpen dropDebt
   abortAt-shape missing = refused 23 (lit≤ tt) (lit≤ tt)
   abortAt-shape closing = refused 25 (lit≤ tt) (lit≤ tt)
-  abortAt-shape live = from-shape _ _ (dropOther t e b s) refl refl (unless-abort _ t e s)
+  abortAt-shape live = from-shape (s .endpoints e .abort) (dropDebt t s) refl refl
 
   abort-shape : (x : Bool) → 1 ≤ a → Shape s (Abort e a b) (abortUnless x t e a b s)
   unfolding abortUnless
@@ -363,17 +328,6 @@ caller-shape :
 caller-shape s c none f h = refused 20 (lit≤ tt) (lit≤ tt)
 caller-shape s c (some t) f h = h t
 
-both : (x y : Bool) → x && y ≡ true → (x ≡ true) × (y ≡ true)
-both true y h = (refl, h)
-both false y h = absurd (clash h refl)
-
--- The allowance of an abort in range is at least 1.
-allowed : (e a b : ℕ) → inRange (Abort e a b) ≡ true → 1 ≤ a
-allowed e a b h =
-    leb-true 1 a
-    (both (leb 1 a) (leb a 65535)
-    (both (isEndpoint e) (isAllowance a) (both (isEndpoint e && isAllowance a) (isBadge b) h .0) .1) .0)
-
 pub perform-shape : (s : State) (c : Call) → inRange c ≡ true → Shape s c (perform c s)
 unfolding perform createThread destroyThread setPriority createEndpoint interrupt tick send receive yield wait delete
     abort grant
@@ -389,7 +343,7 @@ perform-shape s Yield h = caller-shape s _ (s .runs) (λ t. yield t) (λ t. plai
 perform-shape s (Wait l) h = caller-shape s _ (s .runs) (λ t. wait t l) (λ t. wait-shape s _ t l)
 perform-shape s (Delete e a) h = caller-shape s _ (s .runs) (λ t. delete t e a) (λ t. delete-shape s _ t e a)
 perform-shape s (Abort e a b) h =
-    caller-shape s _ (s .runs) (λ t. abort t e a b) (λ t. abort-shape s t e a b _ (allowed e a b h))
+    caller-shape s _ (s .runs) (λ t. abort t e a b) (λ t. abort-shape s t e a b _ (bounds (Abort e a b) h .1 .0))
 perform-shape s (Grant t e k b) h = grant-shape s t e k b _
 
 pub shape : (g : Grants) (s : State) (c : Call) → Comes s c (step g s c)

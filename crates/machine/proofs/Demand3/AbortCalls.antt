@@ -14,12 +14,11 @@ use Rattle.machine.specs.declared.Call.{Call}
 use Rattle.machine.specs.declared.Call.the-variants.{Abort}
 use Rattle.machine.specs.Calls.{inRange}
 use Rattle.machine.specs.Lists.{put, Mem, Rising}
-use Rattle.machine.specs.State.{State, Debt, nothing, owns, noted, Status, missing, live, closing, Endpoint, Line}
-use Rattle.machine.specs.State.{setThread, withDebt}
+use Rattle.machine.specs.State.{State, Debt, nothing, works, noted, Status, missing, live, closing, Endpoint, Line}
 use Rattle.machine.specs.Scheduling.{choose}
-use Rattle.machine.specs.Endpoints.{dropped, dropDebt}
+use Rattle.machine.specs.Endpoints.{dropDebt}
 use Rattle.machine.specs.Results.{Look, Result, plain, counted, refuse, done, isAccepted}
-use Rattle.machine.specs.Aborts.{dropOther, abortOpen, abortAt, hasNote, abortUnless, abort}
+use Rattle.machine.specs.Aborts.{abortOpen, abortAt, hasNote, abortUnless, abort}
 use Rattle.machine.specs.Grants.{Grants, barred}
 use Rattle.machine.specs.Machine.{byCaller, perform, performUnless, performIf, step}
 use Rattle.machine.specs.Sound.{Sound}
@@ -33,11 +32,12 @@ use Rattle.machine.specs.Tied.{noteIn, Tied}
 use Rattle.machine.proofs.Lists.{Same, same, other, same?, clash}
 use Rattle.machine.proofs.Sublists.{sub-only, rising-sub, entry-last}
 use Rattle.machine.proofs.Preserved.Mid.{sound-mid}
-use Rattle.machine.proofs.Preserved.Statuses.{keeps-self, keeps-debt}
+use Rattle.machine.proofs.Preserved.Statuses.{keeps-self}
+use Rattle.machine.proofs.Preserved.Debts.{dropDebt-drops}
 use Rattle.machine.proofs.Ranges.{bounds}
 use Rattle.machine.proofs.Demand3.Standing.{Stage, within, Core, core-grow}
 use Rattle.machine.proofs.Demand3.Owing.{still-self, tied-still, tied-drop}
-use Rattle.machine.proofs.Demand3.Leaving.{leaves-self, leaves-debt}
+use Rattle.machine.proofs.Demand3.Leaving.{leaves-self, leaves-dropDebt}
 use Rattle.machine.proofs.Running.{choose-keeps}
 use Rattle.machine.proofs.Demand3.Blocking.{leaves-choose, still-choose}
 use Rattle.machine.proofs.Demand3.EachLook.{Frame, frame-keeps}
@@ -139,31 +139,19 @@ module _ (past : List Call) (s : State) (h : History) (I : Inv past s h) (e a b 
             refl (λ i. absurd (omega arith));
       })
 
-  -- The note goes.
-  forgotten :
-      (t : ℕ) → s .threads t .debt ≡ noted e b
-      → Tied (setThread t (withDebt nothing (s .threads t)) s .threads) (s .endpoints) (letsGo t (h .aborts .debts))
-      (h .aborts .ended)
-  unfolding dropDebt dropped
-  forgotten t debt =
-      subst
-      (λ (k : Debt).
-      Tied (dropped k t s .threads) (dropped k t s .endpoints) (letsGo t (h .aborts .debts)) (h .aborts .ended)) debt
-      (tied-drop s (I .tied) t (I .sound .owners))
-
   -- Answered from a note.
   noted12 :
       (t : ℕ) → s .runs ≡ some t → s .threads t .debt ≡ noted e b
-      → Sound (done (setThread t (withDebt nothing (s .threads t)) s) .state)
-      → Inv (past ++ (Abort e a b ∷ [])) (done (setThread t (withDebt nothing (s .threads t)) s) .state)
-      (told (Abort e a b) s (done (setThread t (withDebt nothing (s .threads t)) s)) h)
+      → Sound (done (dropDebt t s) .state)
+      → Inv (past ++ (Abort e a b ∷ [])) (done (dropDebt t s) .state)
+      (told (Abort e a b) s (done (dropDebt t s)) h)
   unfolding recorded
   noted12 t runs debt S =
       next past s h I (Abort e a b) (done q) o refl outcome
       (record {
         sound = S;
-        core = idle-core past s h I (Abort e a b) (done q) (leaves-choose s q (leaves-debt s t nothing));
-        tied = tied-still (still-choose q q (still-self q)) (λ z i. i) (forgotten t debt);
+        core = idle-core past s h I (Abort e a b) (done q) (leaves-choose s q (leaves-dropDebt t s));
+        tied = tied-still (still-choose q q (still-self q)) (λ z i. i) (tied-drop s (I .tied) t);
         rising = frame-rising (h .since) e s (done q .state) [] frame (I .rising);
         stray = I .stray;
         new = λ z i. inl i;
@@ -173,13 +161,13 @@ module _ (past : List Call) (s : State) (h : History) (I : Inv past s h) (e a b 
       })
     where
       q : State
-      q = setThread t (withDebt nothing (s .threads t)) s
+      q = dropDebt t s
 
       o : Outcome
       o = apart (letsGo t (h .aborts .debts)) (h .aborts .debts .notes t) (done q) h
 
       frame : Frame (h .since) e s (done q .state) []
-      frame = frame-choose (h .since) e s q [] (frame-keeps (h .since) e s q (keeps-debt s t nothing))
+      frame = frame-choose (h .since) e s q [] (frame-keeps (h .since) e s q (dropDebt-drops s t .keeps))
 
       N : Noted (h .aborts .debts .notes t) e b
       N = noted-of (h .aborts .debts .notes t) e b (I .tied .notes t ∙ ap noteIn debt)
@@ -213,9 +201,9 @@ module _ (past : List Call) (s : State) (h : History) (I : Inv past s h) (e a b 
   -- Worked on.
   works12 :
       (t : ℕ) → s .runs ≡ some t → hasNote e b (s .threads t .debt) ≡ false → s .endpoints e .status ≡ live
-      → inRange (Abort e a b) ≡ true → Sound (abortOpen t e a b (dropOther t e b s) .state)
-      → Inv (past ++ (Abort e a b ∷ [])) (abortOpen t e a b (dropOther t e b s) .state)
-      (told (Abort e a b) s (abortOpen t e a b (dropOther t e b s)) h)
+      → inRange (Abort e a b) ≡ true → Sound (abortOpen t e a b (dropDebt t s) .state)
+      → Inv (past ++ (Abort e a b ∷ [])) (abortOpen t e a b (dropDebt t s) .state)
+      (told (Abort e a b) s (abortOpen t e a b (dropDebt t s)) h)
   unfolding recorded
   works12 t runs unnoted lives range S =
       next past s h I (Abort e a b) r o refl outcome
@@ -223,7 +211,7 @@ module _ (past : List Call) (s : State) (h : History) (I : Inv past s h) (e a b 
         sound = S;
         core =
             core-grow (within (stageOf past h)) (Abort e a b) (r .answer) (fits past s h I) core;
-        tied = subst (λ (x : State). Tied (x .threads) (x .endpoints) (R .gone .debts) (R .gone .ended))
+        tied = subst (λ (x : State). Tied (x .threads) (R .gone .debts) (R .gone .ended))
             (sym (R .chosen)) (tied-still (still-choose (R .state) (R .state) (still-self (R .state))) (λ z i. i)
             (R .tied));
         rising = frame-rising (h .since) e s (r .state) (r .looks) frame (I .rising);
@@ -235,10 +223,10 @@ module _ (past : List Call) (s : State) (h : History) (I : Inv past s h) (e a b 
       })
     where
       r : Result
-      r = abortOpen t e a b (dropOther t e b s)
+      r = abortOpen t e a b (dropDebt t s)
 
       R : Ran (stageOf past h) (h .aborts .standing) t e b s a (startAt t e b s h)
-          (abortOpen t e a b (dropOther t e b s))
+          (abortOpen t e a b (dropDebt t s))
       R =
           ran (stageOf past h) (h .aborts .standing) (goneOf h) t e b (I .now) (range12 e a b range .1) s a
           (range12 e a b range .0) (sound-mid (I .sound)) (I .core) (I .tied) runs lives
@@ -306,7 +294,7 @@ module _ (past : List Call) (s : State) (h : History) (I : Inv past s h) (e a b 
 
   noted-is : (d : Debt) → hasNote e b d ≡ true → d ≡ noted e b
   noted-is nothing p = absurd (clash p refl)
-  noted-is (owns f) p = absurd (clash p refl)
+  noted-is (works f) p = absurd (clash p refl)
   noted-is (noted f c) p =
       let r = and-eq-true-iff (eqb f e) (eqb c b) .0 p in
       ap (λ (x : ℕ). noted x c) (eqb-true f e (r .0)) ∙ ap (noted e) (eqb-true c b (r .1))

@@ -5,7 +5,7 @@ use mathlib.Core.Bool.{Bool, true, false}
 use mathlib.Core.Option.{Option, none, some}
 use mathlib.Core.List.{List, [], map}
 use native.Mathlib.Omega.{arith}
-use Rattle.machine.specs.State.{State, Debt, nothing, owns, noted}
+use Rattle.machine.specs.State.{State, Debt, nothing, works, noted}
 use Rattle.machine.specs.Endpoints.{senders}
 use Rattle.machine.specs.Results.{Result, isAccepted}
 use Rattle.machine.specs.Aborts.{hasNote}
@@ -29,7 +29,7 @@ note-is e b o d h = from o ∙ ap (hasNote e b) h ∙ alone d
 
     alone : (d : Debt) → hasNote e b (noteIn d) ≡ hasNote e b d
     alone nothing = refl
-    alone (owns f) = refl
+    alone (works f) = refl
     alone (noted f c) = refl
 
 -- The noted abort.
@@ -72,6 +72,28 @@ abbrev pub startAt : ℕ → ℕ → ℕ → State → History → Walk
 startAt t e b s h =
     walkAt (h .since) e s (h .aborts .standing e) (came-in t e b (h .aborts .standing e) (goneOf h))
 
+pub start-is :
+    (t e b : ℕ) (s : State) (h : History)
+    → h .waiting .messages e ≡ map (h .since) (senders (s .threads) (s .endpoints e .waiters)) → h .aborts .stray ≡ []
+    → startOf t e b h ≡ startAt t e b s h
+start-is t e b s h m p =
+    ap (λ (k : List ℕ).
+    record {
+      standing = h .aborts .standing e;
+      queued = k;
+      ended = h .aborts .ended;
+      debts = comesIn t e b (h .aborts .standing e) (h .aborts .debts);
+      stray = h .aborts .stray;
+    }) m
+    ∙ ap (λ (l : List ℕ).
+    record {
+      standing = h .aborts .standing e;
+      queued = map (h .since) (senders (s .threads) (s .endpoints e .waiters));
+      ended = h .aborts .ended;
+      debts = comesIn t e b (h .aborts .standing e) (h .aborts .debts);
+      stray = l;
+    }) p
+
 pub walks-from :
     (t e a b : ℕ) (s : State) (r : Result) (h : History) (w : Walk)
     → h .waiting .messages e ≡ map (h .since) (senders (s .threads) (s .endpoints e .waiters)) → h .aborts .stray ≡ []
@@ -84,26 +106,8 @@ unfolding walks
 walks-from t e a b s r h w m p q =
     ap (λ (x : Walk).
     walked e (reportIf (walk (namedLooks (h .since) (r .looks)) a (courseOf t e b h) x .standing) b)
-    (close (courseOf t e b h) (walk (namedLooks (h .since) (r .looks)) a (courseOf t e b h) x)) h) start
+    (close (courseOf t e b h) (walk (namedLooks (h .since) (r .looks)) a (courseOf t e b h) x)) h)
+    (start-is t e b s h m p)
     ∙ ap (λ (x : Walk).
     walked e
     (reportIf (walk (namedLooks (h .since) (r .looks)) a (courseOf t e b h) (startAt t e b s h) .standing) b) x h) q
-  where
-    start : startOf t e b h ≡ startAt t e b s h
-    start =
-        ap (λ (k : List ℕ).
-        record {
-          standing = h .aborts .standing e;
-          queued = k;
-          ended = h .aborts .ended;
-          debts = comesIn t e b (h .aborts .standing e) (h .aborts .debts);
-          stray = h .aborts .stray;
-        }) m
-        ∙ ap (λ (l : List ℕ).
-        record {
-          standing = h .aborts .standing e;
-          queued = map (h .since) (senders (s .threads) (s .endpoints e .waiters));
-          ended = h .aborts .ended;
-          debts = comesIn t e b (h .aborts .standing e) (h .aborts .debts);
-          stray = l;
-        }) p

@@ -30,7 +30,7 @@ use Rattle.machine.proofs.Preserved.Statuses.{keeps-place}
 use Rattle.machine.proofs.Preserved.Debts.{mid-dropDebt, dropDebt-drops}
 use Rattle.machine.proofs.Demand3.Leaving.{leaves-self, leaves-then, leaves-wakeFrom, leaves-dropDebt}
 use Rattle.machine.proofs.Calls.Ticks.{is-absent}
-use Rattle.machine.proofs.Demand3.Owing.{Still, still-self, still-then, still-thread, still-endpoint}
+use Rattle.machine.proofs.Demand3.Owing.{Still, still-self, still-then, still-thread}
 use Rattle.machine.proofs.Demand3.Owing.{still-wakeFrom}
 use Rattle.machine.proofs.Running.{choose-keeps}
 use Rattle.machine.proofs.Demand3.Blocking.{JoinsTail, CallerBlocks, leaves-choose, still-choose}
@@ -108,7 +108,7 @@ module _ (s : State) (S : Sound s) (t : ℕ) (runs : s .runs ≡ some t) where
 
   still-join : (e : ℕ) → Still (dropDebt t s) (joinEndpoint t e (dropDebt t s))
   unfolding joinEndpoint
-  still-join e = still-endpoint (dropDebt t s) e _ refl
+  still-join e = still-self (dropDebt t s)
 
   turn-wait : (l : ℕ) → Arrival s (Wait l) (wait t l s)
   unfolding wait waitAt block

@@ -29,7 +29,7 @@ pub leaves-choose : (s r : State) → NobodyComes s r → NobodyComes s (choose 
 leaves-choose s r H = rw (choose-keeps r .threads, choose-keeps r .endpoints) H
 
 pub still-choose : (s r : State) → Still s r → Still s (choose r)
-still-choose s r H = rw (choose-keeps r .threads, choose-keeps r .endpoints) H
+still-choose s r H = rw (choose-keeps r .threads) H
 
 -- Of two queues, the second is the first, or t has joined its tail.
 abbrev pub JoinsTail : ℕ → List ℕ → List ℕ → Type 0

@@ -19,6 +19,7 @@ use Rattle.machine.specs.Machine.{byCaller, perform, performUnless, perf
 use Rattle.machine.specs.Sound.{Sound}
 use Rattle.machine.specs.Sorts.{removes, sortOf}
 use Rattle.machine.specs.History.{Aborting, Ended, History, queues?, named}
+use Rattle.machine.specs.Walk.{letsGo}
 use Rattle.machine.specs.Outcomes.{Outcome, unchanged, deletes, outcomeOf, outcomeIf}
 use Rattle.machine.specs.Recorded.{recorded, told}
 use Rattle.machine.specs.Claim.{In}
@@ -120,7 +121,9 @@ module _ (past : List Call) (s : State) (h : History) (I : Inv past s h) where
           }
         where
           new :
-              (z : Ended) → In z (record { abort = x; by = h .now } ∷ h .aborts .ended)
+              (z : Ended)
+              → In z
+              (record { abort = x; by = h .now; members = letsGo t (h .aborts .debts) .members e } ∷ h .aborts .ended)
               → In z (h .aborts .ended) ⊎ (h .now ≤ z .by)
           new z (inl i) = inr (rw i (omega arith))
           new z (inr i) = inl i

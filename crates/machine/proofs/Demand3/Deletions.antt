@@ -1,13 +1,13 @@
 -- Call 11 ends the abort of its endpoint and removes waiters, in the machine and in the history.
 use Prim.Native.Nat.{ℕ, zero, suc}
-use mathlib.Core.Path.{_≡_, refl, sym, _∙_, ap, subst}
+use mathlib.Core.Path.{_≡_, refl, _∙_, ap, subst}
 use mathlib.Core.Bool.{true}
 use mathlib.Core.Option.{Option, none, some}
 use mathlib.Core.List.{List, [], _∷_}
 use native.Mathlib.Omega.{arith}
 use Rattle.machine.specs.Lists.{put}
 use Rattle.machine.specs.State.{State, Thread, Abort, closing, Endpoint, missingEndpoint, setEndpoint}
-use Rattle.machine.specs.Endpoints.{ownerOf, wakeFrom, dropDebt, note, endAbort}
+use Rattle.machine.specs.Endpoints.{wakeFrom, dropDebt, note, endAbort}
 use Rattle.machine.specs.Aborts.{Removal, oneMore, removeUpTo, deleted, deleteFrom}
 use Rattle.machine.specs.Results.{isAccepted}
 use Rattle.machine.specs.History.{Aborting, Ended, Debts}
@@ -21,7 +21,7 @@ use Rattle.machine.proofs.Sublists.{Sub, sub-refl, sub-none}
 use Rattle.machine.proofs.Demand3.Standing.{Stage, within, Both, Core}
 use Rattle.machine.proofs.Demand3.Leaving.{NobodyComes, Passes, leaves-self, leaves-then, leaves-endpoint}
 use Rattle.machine.proofs.Demand3.Leaving.{leaves-wakeFrom, leaves-dropDebt, core-leaves}
-use Rattle.machine.proofs.Demand3.Owing.{Still, still-self, still-then, still-endpoint, still-wakeFrom}
+use Rattle.machine.proofs.Demand3.Owing.{Still, still-self, still-then, still-wakeFrom}
 use Rattle.machine.proofs.Demand3.Owing.{tied-still, tied-drop, tied-end}
 use Rattle.machine.proofs.Demand3.Blocking.{leaves-choose, still-choose}
 use Rattle.machine.proofs.Demand3.Ending.{core-end}
@@ -67,7 +67,7 @@ leaves-closing e s h =
     rw h
     (leaves-endpoint s e _ (rw h tt) (sub-refl (s .endpoints e .waiters)) (λ t p k. absurd (closing-live refl k)))
 
--- Removing waiters leaves every debt and every owner.
+-- Removing waiters leaves every debt.
 still-remove : (n : ℕ) (l : List ℕ) (e : ℕ) (s : State) → Still s (removeUpTo n l e s .state)
 unfolding removeUpTo oneMore
 still-remove zero l e s = still-self s
@@ -78,24 +78,21 @@ still-remove (suc n) (w ∷ l) e s =
     (still-remove n (r .endpoints e .waiters) e r)
 
 still-deleted :
-    (l : List ℕ) (e : ℕ) (s : State) (r : Removal) → s .endpoints e .abort ≡ none → Still s (r .state)
-    → Still s (deleted l e r .state)
+    (l : List ℕ) (e : ℕ) (s : State) (r : Removal) → Still s (r .state) → Still s (deleted l e r .state)
 unfolding deleted
-still-deleted [] e s r h H =
-    still-choose s (setEndpoint e missingEndpoint (r .state))
-    (still-then s (r .state) (setEndpoint e missingEndpoint (r .state)) H
-    (still-endpoint (r .state) e missingEndpoint (sym (H .owner e ∙ ap ownerOf h))))
-still-deleted (w ∷ l) e s r h H = still-choose s (r .state) H
+still-deleted [] e s r H =
+    still-choose s (setEndpoint e missingEndpoint (r .state)) H
+still-deleted (w ∷ l) e s r H = still-choose s (r .state) H
 
-still-delete : (e a : ℕ) (s : State) → s .endpoints e .abort ≡ none → Still s (deleteFrom e a s .state)
+still-delete : (e a : ℕ) (s : State) → Still s (deleteFrom e a s .state)
 unfolding deleteFrom
-still-delete e a s h =
+still-delete e a s =
     still-deleted (removeUpTo a (s .endpoints e .waiters) e s .state .endpoints e .waiters) e s
-    (removeUpTo a (s .endpoints e .waiters) e s) h (still-remove a (s .endpoints e .waiters) e s)
+    (removeUpTo a (s .endpoints e .waiters) e s) (still-remove a (s .endpoints e .waiters) e s)
 
 still-closing : (e : ℕ) (s : State) → s .endpoints e .abort ≡ none → Still s (endAbort closing e s)
 unfolding endAbort note
-still-closing e s h = rw h (still-endpoint s e _ (ap ownerOf (sym h)))
+still-closing e s h = rw h (still-self s)
 
 -- Whatever it removes, a delete that goes on is accepted.
 pub delete-accepted : (e a : ℕ) (s : State) → isAccepted (deleteFrom e a s .answer) ≡ true
@@ -117,7 +114,7 @@ delete-looks e a s = go (removeUpTo a (s .endpoints e .waiters) e s .state .endp
 
 module _
     (stage : Stage) {standing : ℕ → Option Aborting} {d : List Ended} {owed : Debts} (t e a : ℕ) (s : State) (M : Mid s)
-    (C : Core stage (s .threads) (s .endpoints) standing d) (T : Tied (s .threads) (s .endpoints) owed d) where
+    (C : Core stage (s .threads) (s .endpoints) standing d) (T : Tied (s .threads) owed d) where
   abbrev place : ℕ
   place = stage .until
 
@@ -137,8 +134,8 @@ module _
       (keeps-endAbort closing e q .waiters f ∙ dropDebt-drops s t .keeps .waiters f)
       (leaves-delete e a (endAbort closing e q) bare-after .queues f)
 
-  dropped-tied : Tied (q .threads) (q .endpoints) (letsGo t owed) d
-  dropped-tied = tied-drop s T t (M .owners)
+  dropped-tied : Tied (q .threads) (letsGo t owed) d
+  dropped-tied = tied-drop s T t
 
   dropped-core : Core (within stage) (q .threads) (q .endpoints) standing d
   dropped-core =
@@ -163,43 +160,43 @@ module _
           core-leaves (within stage) (suc place) (omega arith) (leaves-closing e q h) dropped-core
       bare (some k) h B = absurd B
 
-  pub tied-none : standing e ≡ none → Tied (r .threads) (r .endpoints) (letsGo t owed) d
+  pub tied-none : standing e ≡ none → Tied (r .threads) (letsGo t owed) d
   tied-none told = go (q .endpoints e .abort) refl (rw told at (dropped-core .stands e))
     where
       go : (k : Option Abort) → q .endpoints e .abort ≡ k → Both (within stage) (q .threads) e k none
-          → Tied (r .threads) (r .endpoints) (letsGo t owed) d
+          → Tied (r .threads) (letsGo t owed) d
       go none h B =
           tied-still
           (still-then q (endAbort closing e q) r (still-closing e q h)
-          (still-delete e a (endAbort closing e q) bare-after)) (λ z i. i) dropped-tied
+          (still-delete e a (endAbort closing e q))) (λ z i. i) dropped-tied
       go (some k) h B = absurd B
 
   -- The abort x stood, and ends.
   pub delete-some :
       (x : Aborting) → standing e ≡ some x
       → Core (within stage) (r .threads) (r .endpoints) (put standing e none)
-      (record { abort = x; by = place } ∷ d)
+      (record { abort = x; by = place; members = letsGo t owed .members e } ∷ d)
   delete-some x told =
       removes (put standing e none) _ (over (q .endpoints e .abort) refl (rw told at (dropped-core .stands e)))
     where
       over :
           (k : Option Abort) → q .endpoints e .abort ≡ k → Both (within stage) (q .threads) e k (some x)
           → Core (within stage) (endAbort closing e q .threads) (endAbort closing e q .endpoints)
-          (put standing e none) (record { abort = x; by = place } ∷ d)
+          (put standing e none) (record { abort = x; by = place; members = letsGo t owed .members e } ∷ d)
       over none h B = absurd B
       over (some k) h B =
           core-end (within stage) q dropped-core e (mid-dropDebt s t M) closing k x place
-          h told (omega arith) (λ i. absurd (closing-live refl i)) (λ i. absurd (closing-live refl i))
+          _ h told (omega arith) (λ i. absurd (closing-live refl i)) (λ i. absurd (closing-live refl i))
 
   pub tied-some :
       (x : Aborting) → standing e ≡ some x
-      → Tied (r .threads) (r .endpoints) (hears e (reportOf x) (letsGo t owed)) (record { abort = x; by = place } ∷ d)
+      → Tied (r .threads) (hears e (reportOf x) (letsGo t owed)) (record { abort = x; by = place; members = letsGo t owed .members e } ∷ d)
   tied-some x told = go (q .endpoints e .abort) refl (rw told at (dropped-core .stands e))
     where
       go : (k : Option Abort) → q .endpoints e .abort ≡ k → Both (within stage) (q .threads) e k (some x)
-          → Tied (r .threads) (r .endpoints) (hears e (reportOf x) (letsGo t owed))
-          (record { abort = x; by = place } ∷ d)
+          → Tied (r .threads) (hears e (reportOf x) (letsGo t owed))
+          (record { abort = x; by = place; members = letsGo t owed .members e } ∷ d)
       go none h B = absurd B
       go (some k) h B =
-          tied-still (still-delete e a (endAbort closing e q) bare-after) (λ z i. i)
-          (tied-end q dropped-tied e closing k h x (B .endpoint) (B .badge) (record { abort = x; by = place }) refl)
+          tied-still (still-delete e a (endAbort closing e q)) (λ z i. i)
+          (tied-end q dropped-tied e closing k h x (B .endpoint) (B .badge) (record { abort = x; by = place; members = letsGo t owed .members e }) refl)

@@ -45,7 +45,7 @@ fresh =
             stands = λ e. tt;
             over = λ z i. absurd i;
           };
-      tied = record { workers = λ e. refl; notes = λ t. refl; heard = λ t r h. no-report h };
+      tied = record { members = λ e t. refl; notes = λ t. refl; heard = λ t r h. no-report h };
       rising = λ e. tt;
       stray = refl;
       given = λ d i. absurd i;
@@ -90,18 +90,22 @@ along (c ∷ l) past x I =
     })
     (onward past (x .grants) (x .state) (x .history) c I))
 
+-- What holds after every call, after every list.
+pub invariant : (calls : List Call) → Inv calls (runFrom step calls freshRun .state) (historyOf calls)
+invariant calls = along calls [] freshRun fresh
+
 -- For every list of the thirteen calls, with any numbers, refused ones included, made in turn from fresh tables, the
 -- claim holds after the list.
 pub demand : (calls : List Call) → Claim calls (historyOf calls)
-demand calls = claim calls (runFrom step calls freshRun .state) (historyOf calls) (along calls [] freshRun fresh)
+demand calls = claim calls (runFrom step calls freshRun .state) (historyOf calls) (invariant calls)
 
--- Whoever owns an abort or has a note of one in the machine does so in the history, which reads neither, and every note
--- is of an abort that has ended.
+-- Whoever works on an abort or has a note of one in the machine does so in the history, which reads neither, and every
+-- note is of an abort that has ended.
 pub debts-are :
     (calls : List Call)
-    → Tied (runFrom step calls freshRun .state .threads) (runFrom step calls freshRun .state .endpoints)
+    → Tied (runFrom step calls freshRun .state .threads)
     (historyOf calls .aborts .debts) (historyOf calls .aborts .ended)
-debts-are calls = along calls [] freshRun fresh .tied
+debts-are calls = invariant calls .tied
 
 -- Whoever has a note in the history is answered from it, whatever has become of the endpoint.
 pub notes-first : NotesFirst step

@@ -11,10 +11,10 @@ use lib.ListN.{length, getElem?}
 use Rattle.machine.specs.declared.Call.{Call}
 use Rattle.machine.specs.declared.Call.the-variants.{Send}
 use Rattle.machine.specs.Lists.{put, only, Mem}
-use Rattle.machine.specs.State.{State, Thread, sending, owns, noted, Abort, Status, live, Endpoint, withDebt}
-use Rattle.machine.specs.Endpoints.{isSending, senders, noteTo, note, endAbort}
+use Rattle.machine.specs.State.{State, Thread, sending, works, Abort, Status, live, Endpoint, withDebt}
+use Rattle.machine.specs.Endpoints.{isSending, senders, informed, noteAll, note, endAbort}
 use Rattle.machine.specs.Sound.{Queued}
-use Rattle.machine.specs.Aborts.{begin}
+use Rattle.machine.specs.Aborts.{join, begin}
 use Rattle.machine.specs.History.{Aborting, Ended}
 use Rattle.machine.specs.Claim.{In, isOld}
 use Rattle.machine.proofs.Lists.{Same, same, other, same?, clash, mem-only, only-keep, distinct-only, put-all}
@@ -83,14 +83,15 @@ module _
 
   -- The abort z ends, its status with it; where the endpoint stays live, nothing was left to look at.
   module _
-      (M : Mid s) (status : Status) (a : Abort) (z : Aborting) (by : ℕ) (was : s .endpoints e .abort ≡ some a)
+      (M : Mid s) (status : Status) (a : Abort) (z : Aborting) (by : ℕ) (members : List ℕ)
+      (was : s .endpoints e .abort ≡ some a)
       (told : standing e ≡ some z) (soon : by < stage .until) (spent : status ≡ live → a .pending ≡ [])
       (lives : status ≡ live → s .endpoints e .status ≡ live) where
     abbrev closed : Endpoint
     closed = record { status = status; waiters = s .endpoints e .waiters; abort = none }
 
     abbrev record-of : Ended
-    record-of = record { abort = z; by = by }
+    record-of = record { abort = z; by = by; members = members }
 
     end-stood : Stood stage (s .threads) e a z
     end-stood = stands-both stage (s .threads) e was told (C .stands e)
@@ -137,30 +138,21 @@ module _
             }))
         new y (inr i) = inl i
 
-    core-note :
-        (u : Option ℕ)
-        → Core stage (noteTo u e (a .badge) s .threads) (put (noteTo u e (a .badge) s .endpoints) e closed)
-        (put standing e none) (record-of ∷ ended)
-    unfolding noteTo
-    core-note none = core-closed (s .threads) (λ t. refl) (λ t f p. p)
-    core-note (some u) =
-        core-closed (put (s .threads) u (withDebt (noted e (a .badge)) (s .threads u)))
-        (put-all (λ t y. callMade y ≡ callMade (s .threads t)) (s .threads) u _ refl (λ t i. refl))
-        (put-all (λ t y. (f : ℕ) → y .place ≡ sending f → s .threads t .place ≡ sending f) (s .threads) u _ (λ f p. p)
-        (λ t i f p. p))
-
     pub core-end :
         Core stage (endAbort status e s .threads) (endAbort status e s .endpoints) (put standing e none)
         (record-of ∷ ended)
-    unfolding endAbort note
-    core-end = rw was (core-note (a .owner))
+    unfolding endAbort note noteAll
+    core-end =
+        rw was
+        (core-closed (λ t. withDebt (informed e (a .badge) (s .threads t .debt)) (s .threads t)) (λ t. refl)
+        (λ t f p. p))
 
-  -- An abort of badge b begins on the senders queued there, the caller t its owner.
+  -- An abort of badge b begins on the senders queued there, with the caller t in its set.
   module _ (M : Mid s) (t b place : ℕ) (now : length (stage .past) ≤ place) (soon : place < stage .until) where
     begun-stood :
         (g : ℕ → Thread) → ((u : ℕ) → g u .place ≡ s .threads u .place)
         → Stood stage g e
-        (record { badge = b; owner = some t; pending = senders (s .threads) (s .endpoints e .waiters) })
+        (record { badge = b; pending = senders (s .threads) (s .endpoints e .waiters) })
         (begunOn since s e b place)
     unfolding only
     begun-stood g places =
@@ -198,20 +190,20 @@ module _
         record {
           status = s .endpoints e .status;
           waiters = s .endpoints e .waiters;
-          abort = some (record { badge = b; owner = some t; pending = senders (s .threads) (s .endpoints e .waiters) });
+          abort = some (record { badge = b; pending = senders (s .threads) (s .endpoints e .waiters) });
         }
 
     pub core-begin :
         Core stage (begin t e b s .threads) (begin t e b s .endpoints)
         (put standing e (some (begunOn since s e b place))) ended
-    unfolding begin
+    unfolding begin join
     core-begin =
         core-at ended e begin-entry (some (begunOn since s e b place))
         (record { calls = λ u c h. sym (calls u) ∙ h; live = λ u f p. lives f }) (begun-stood g places)
         (λ z i. inl i) C
       where
         g : ℕ → Thread
-        g = put (s .threads) t (withDebt (owns e) (s .threads t))
+        g = put (s .threads) t (withDebt (works e) (s .threads t))
 
         calls : (u : ℕ) → callMade (g u) ≡ callMade (s .threads u)
         calls = put-all (λ u y. callMade y ≡ callMade (s .threads u)) (s .threads) t _ refl (λ u i. refl)

@@ -14,7 +14,7 @@ use Rattle.machine.specs.Lists.{Mem}
 use Rattle.machine.specs.State.{State, Place, absent, able, sending, receiving, waiting, nothing, Status, missing}
 use Rattle.machine.specs.State.{live, closing, Line, quiet, pending, awaited, absentThread, setThread}
 use Rattle.machine.specs.Scheduling.{enqueue, unqueue, standDown, wake}
-use Rattle.machine.specs.Endpoints.{ownerOf, leaveEndpoint, dropDebt}
+use Rattle.machine.specs.Endpoints.{leaveEndpoint, dropDebt}
 use Rattle.machine.specs.Results.{Result, plain, refuse, isAccepted}
 use Rattle.machine.specs.Machine.{isAble, isRunning, createIf, leaveReady, leave, destroyIf, moveReady}
 use Rattle.machine.specs.Machine.{changeUnless, priorityIf, createAt, createEndpoint, fire, interrupt, leaveTicks}
@@ -26,7 +26,7 @@ use Rattle.machine.proofs.Preserved.Debts.{live-present, dropDebt-drops
 use Rattle.machine.proofs.Demand3.Leaving.{NobodyComes, no-call, leaves-clear, leaves-self, leaves-then}
 use Rattle.machine.proofs.Demand3.Leaving.{leaves-thread, leaves-endpoint, leaves-queue, leaves-dropDebt}
 use Rattle.machine.proofs.Sublists.{sub-none}
-use Rattle.machine.proofs.Demand3.Owing.{Still, still-self, still-then, still-thread, still-endpoint}
+use Rattle.machine.proofs.Demand3.Owing.{Still, still-self, still-then, still-thread}
 use Rattle.machine.proofs.Demand3.Owing.{still-leaveEndpoint}
 use Rattle.machine.proofs.Demand3.Blocking.{CallerBlocks, leaves-choose, still-choose}
 
@@ -202,7 +202,7 @@ module _ (s : State) (S : Sound s) where
           (leaves-choose s _
           (leaves-endpoint s e _ (rw (bare h) tt) (sub-none (s .endpoints e .waiters))
           (λ t p k. absurd (nobody e t h p)))) refl
-          (keeps refl (still-choose s _ (still-endpoint s e _ (ap ownerOf (sym (bare h))))))
+          (keeps refl (still-choose s _ (still-self s)))
         where
           bare : s .endpoints e .status ≡ missing → s .endpoints e .abort ≡ none
           bare h = S .statuses .no-abort e (λ l. live-present l h)

@@ -66,7 +66,7 @@ pub record Inv (past : List Call) (s : State) (h : History) : Type 0 where
   pub answered : length (h .answers) ≡ length past
   pub waiting : h .waiting ≡ waitingIn (h .since) s
   pub core : Core (stageOf past h) (s .threads) (s .endpoints) (h .aborts .standing) (h .aborts .ended)
-  pub tied : Tied (s .threads) (s .endpoints) (h .aborts .debts) (h .aborts .ended)
+  pub tied : Tied (s .threads) (h .aborts .debts) (h .aborts .ended)
   pub rising : (e : ℕ) → Rising (map (h .since) (s .endpoints e .waiters))
   pub stray : h .aborts .stray ≡ []
   pub given : (d : Delivery) → In d (h .deliveries) → Given past h d

@@ -7,9 +7,9 @@ use mathlib.Core.List.{List}
 use native.Mathlib.Omega.{arith}
 use Rattle.machine.specs.declared.Call.{Call}
 use Rattle.machine.specs.Lists.{put, Mem}
-use Rattle.machine.specs.State.{State, Thread, able, sending, Debt, nothing, owns, noted, Abort, live, Endpoint}
+use Rattle.machine.specs.State.{State, Thread, able, sending, Debt, nothing, Abort, live, Endpoint}
 use Rattle.machine.specs.State.{setThread, setEndpoint, withDebt, withPlace}
-use Rattle.machine.specs.Endpoints.{passing, withOwner, leaveEndpoint, wakeFrom, dropped, dropDebt}
+use Rattle.machine.specs.Endpoints.{passing, leaveEndpoint, wakeFrom, dropDebt}
 use Rattle.machine.specs.Scheduling.{enqueue, wake}
 use Rattle.machine.specs.History.{Aborting, Ended}
 use Rattle.machine.specs.Claim.{In}
@@ -61,10 +61,6 @@ passed-self g e a = record { badge = refl; part = sub-refl (a .pending); kept = 
 pub passes-self : (g : ℕ → Thread) (e : ℕ) (o : Option Abort) → Passes g e o o
 passes-self g e none = tt
 passes-self g e (some a) = passed-self g e a
-
-pub passes-owner : (g : ℕ → Thread) (e : ℕ) (o : Option Abort) (u : Option ℕ) → Passes g e o (withOwner u o)
-passes-owner g e none u = tt
-passes-owner g e (some a) u = record { badge = refl; part = sub-refl (a .pending); kept = λ t m h. m }
 
 -- One who no longer sends there leaves.
 pub passes-leave :
@@ -183,20 +179,9 @@ pub leaves-wakeFrom : (s : State) (e t o b m : ℕ) → NobodyComes s (wakeFrom 
 unfolding wakeFrom wake enqueue leaveEndpoint
 leaves-wakeFrom s e t o b m = leaves-queue s e t (withPlace able o b m (s .threads t)) refl
 
--- t's ownership or note goes.
-leaves-dropped : (d : Debt) (t : ℕ) (s : State) → NobodyComes s (dropped d t s)
-unfolding dropped
-leaves-dropped nothing t s = leaves-self s
-leaves-dropped (owns e) t s =
-    leaves-then s (setThread t (withDebt nothing (s .threads t)) s) (dropped (owns e) t s)
-    (leaves-debt s t nothing)
-    (leaves-endpoint (setThread t (withDebt nothing (s .threads t)) s) e _
-    (passes-owner _ e (s .endpoints e .abort) none) (sub-refl (s .endpoints e .waiters)) (λ u h k. k))
-leaves-dropped (noted e b) t s = leaves-debt s t nothing
-
 pub leaves-dropDebt : (t : ℕ) (s : State) → NobodyComes s (dropDebt t s)
 unfolding dropDebt
-leaves-dropDebt t s = leaves-dropped (s .threads t .debt) t s
+leaves-dropDebt t s = leaves-debt s t nothing
 
 -- Core
 

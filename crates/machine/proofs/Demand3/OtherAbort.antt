@@ -8,20 +8,20 @@ use native.Mathlib.Omega.{arith}
 use lib.Dec.{eqb}
 use lib.ListN.{length}
 use Rattle.machine.specs.State.{State, nothing, Abort, live, Endpoint}
-use Rattle.machine.specs.Endpoints.{senders, pendingOf, endAbort}
+use Rattle.machine.specs.Endpoints.{senders, pendingOf, worksAt, endAbort}
 use Rattle.machine.specs.Aborts.{Looked, pendingAt, lookUpTo, beginAfter, finished, lookedOther, workOther}
 use Rattle.machine.specs.History.{Aborting, Reported, NamedLook, namedLooks}
-use Rattle.machine.specs.Walk.{Walk, Course, hearsBy, reportOf, begins, ends, passes, settles, settle, walk}
+use Rattle.machine.specs.Walk.{Walk, Course, letsGo, hearsBy, reportOf, begins, ends, passes, settles, settle, walk}
 use Rattle.machine.specs.Walk.{closes, close}
-use Rattle.machine.proofs.Lists.{put-same}
-use Rattle.machine.proofs.Preserved.Debts.{nothing-owns, live-present, mid-endAbort, endAbort-entry}
+use Rattle.machine.proofs.Lists.{put-same, put-again}
+use Rattle.machine.proofs.Preserved.Debts.{live-present, mid-endAbort, endAbort-entry}
 use Rattle.machine.proofs.Preserved.Debts.{endAbort-runs, endAbort-debt}
 use Rattle.machine.proofs.Preserved.AbortSteps.{Steady, steady-lookUpTo}
 use Rattle.machine.proofs.Preserved.Aborts.{running-present}
 use Rattle.machine.proofs.Demand3.Standing.{Stage, within, Stood, Core}
 use Rattle.machine.proofs.Demand3.Ending.{core-end}
 use Rattle.machine.proofs.Demand3.Owing.{tied-free, tied-end}
-use Rattle.machine.proofs.Demand3.Together.{put-again, Gone, walkAt, Going, going-abort, left-some, left-none}
+use Rattle.machine.proofs.Demand3.Together.{Gone, walkAt, Going, going-abort, left-some, left-none}
 use Rattle.machine.proofs.Demand3.Together.{settle-pending}
 use Rattle.machine.proofs.Demand3.EachLook.{Frame, frame-then, frame-keep, Walked, walked}
 use Rattle.machine.proofs.Demand3.OwnAbort.{More, more-cons, walk-keeps, keeps-endAbort, walk-settle, walk-nil}
@@ -51,7 +51,7 @@ module _
     abbrev over : Gone
     over =
         record {
-          ended = record { abort = x; by = place } ∷ d .ended;
+          ended = record { abort = x; by = place; members = letsGo t (d .debts) .members e } ∷ d .ended;
           debts = hearsBy t e (reportOf x) (d .debts);
         }
 
@@ -66,11 +66,10 @@ module _
               Core (within stage) (endAbort live e (r .state) .threads)
               (endAbort live e (r .state) .endpoints) f (over .ended))
               (put-again standing e (some x) none)
-              (core-end (within stage) (r .state) (G .core) e (G .mid) live k x place was (put-same standing e (some x))
+              (core-end (within stage) (r .state) (G .core) e (G .mid) live k x place _ was (put-same standing e (some x))
               (omega arith) (λ i. h) (λ i. lives));
           tied =
-              tied-end (r .state) (tied-free (r .state) (G .tied) t (G .mid .owners) free) e live k was x
-              (S .endpoint) (S .badge) _ refl;
+              tied-end (r .state) (tied-free (r .state) (G .tied) t free) e live k was x (S .endpoint) (S .badge) _ refl;
         }
 
     settle-over :
@@ -93,6 +92,16 @@ module _
 
     more-over : More place (start .ended) (over .ended)
     more-over = more-cons place (start .ended) (d .ended) _ (omega arith) E
+
+    -- The walk after the looks, with none to come.
+    walk-looked :
+        (m : ℕ)
+        → ((l : List NamedLook)
+        → walk (namedLooks since (r .looks) ++ l) a c start ≡ walk l m c (walkAt since e (r .state) (some x) d))
+        → walk (namedLooks since (r .looks)) a c start ≡ settle m c (walkAt since e (r .state) (some x) d)
+    walk-looked m W =
+        ap (λ (l : List NamedLook). walk l a c start) (sym (append-nil (namedLooks since (r .looks)))) ∙ W []
+        ∙ walk-nil m c _
 
     finishes :
         (runs : r .state .runs ≡ some t) (m : ℕ)
@@ -117,17 +126,15 @@ module _
           queued =
               map since (senders (endAbort live e (r .state) .threads)
               (endAbort live e (r .state) .endpoints e .waiters));
-          closes =
-              ap (close c)
-              (ap (λ (l : List NamedLook). walk l a c start) (sym (append-nil (namedLooks since (r .looks)))) ∙ W []
-              ∙ walk-nil 0 c _ ∙ settle-over 0 h);
+          closes = ap (close c) (walk-looked 0 W ∙ settle-over 0 h);
           reports = λ i. absurd (omega arith);
+          rests = λ i. ap (λ (w : Walk). w .standing) (sym (walk-looked 0 W ∙ settle-over 0 h));
         }
     finishes runs (suc m) W h =
         own-begins stage standing t e b now s a start m (r .looks)
         (endAbort live e (r .state)) over
         (going-over h) (ap (λ (y : Endpoint). y .abort) (endAbort-entry (r .state) e live))
-        (endAbort-debt (r .state) e live t (λ o. nothing-owns free (G .mid .owners .each-other e t .0 o)) ∙ free)
+        (endAbort-debt (r .state) e live t (ap (worksAt e) free) ∙ free)
         (running-present (going-over h .mid) (endAbort-runs (r .state) e live ∙ runs)) small here
         (ap (λ (y : Endpoint). y .status) (endAbort-entry (r .state) e live)) frame-over
         (λ l.
@@ -159,13 +166,13 @@ module _
           more = E;
           queued = map since (senders (r .state .threads) (r .state .endpoints e .waiters));
           closes =
-              ap (close c)
-              (ap (λ (l : List NamedLook). walk l a c start) (sym (append-nil (namedLooks since (r .looks)))) ∙ W []
-              ∙ walk-nil m c _
-              ∙ settle-pending (within stage) standing e (r .state) x d G k was S u l m c h)
-              ∙ rw (left-some (within stage) standing e (r .state) x d G k was S u l h);
+              ap (close c) looked-so ∙ rw (left-some (within stage) standing e (r .state) x d G k was S u l h);
           reports = λ i. absurd (omega arith);
+          rests = λ i. ap (λ (w : Walk). w .standing) (sym looked-so);
         }
+      where
+        looked-so : walk (namedLooks since (r .looks)) a c start ≡ walkAt since e (r .state) (some x) d
+        looked-so = walk-looked m W ∙ settle-pending (within stage) standing e (r .state) x d G k was S u l m c h
 
   pub other-works :
       (q : State) (x : Aborting) (d : Gone) → Going (within stage) standing e q (some x) d

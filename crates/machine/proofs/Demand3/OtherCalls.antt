@@ -193,17 +193,17 @@ module _ (past : List Call) (s : State) (h : History) (I : Inv past s h) where
     told-as since p = rw (p, outcome-simple (sortOf c) n (isAccepted (r .answer)) (s .runs) r h)
 
     sheds-tied : Sheds s c r
-        → Tied (r .state .threads) (r .state .endpoints) (letGoBy who (h .aborts .debts)) (h .aborts .ended)
+        → Tied (r .state .threads) (letGoBy who (h .aborts .debts)) (h .aborts .ended)
     sheds-tied (keeps p H) =
         subst
         (λ (o : Option ℕ).
-        Tied (r .state .threads) (r .state .endpoints) (letGoBy o (h .aborts .debts)) (h .aborts .ended))
+        Tied (r .state .threads) (letGoBy o (h .aborts .debts)) (h .aborts .ended))
         (sym p) (tied-still H (λ z i. i) (I .tied))
     sheds-tied (sheds t p H) =
         subst
         (λ (o : Option ℕ).
-        Tied (r .state .threads) (r .state .endpoints) (letGoBy o (h .aborts .debts)) (h .aborts .ended))
-        (sym p) (tied-still H (λ z i. i) (tied-drop s (I .tied) t (I .sound .owners)))
+        Tied (r .state .threads) (letGoBy o (h .aborts .debts)) (h .aborts .ended))
+        (sym p) (tied-still H (λ z i. i) (tied-drop s (I .tied) t))
 
     no-stray : map (λ (v : Look). h .since (v .waiter)) (r .looks) ++ h .aborts .stray ≡ []
     no-stray =

@@ -9,29 +9,29 @@ use native.Mathlib.Omega.{arith}
 use lib.ListN.{length}
 use borrow.Author.Tests.{eq-eqb}
 use Rattle.machine.specs.Lists.{put}
-use Rattle.machine.specs.State.{State, nothing, owns, noted, Abort, Status, live, Endpoint, setEndpoint}
+use Rattle.machine.specs.State.{State, nothing, works, Abort, Status, live, Endpoint, setEndpoint}
 use Rattle.machine.specs.Scheduling.{choose}
-use Rattle.machine.specs.Endpoints.{isSending, senders, pendingOf, ownerOf, withOwner, dropDebt, noteTo, note}
-use Rattle.machine.specs.Endpoints.{endAbort}
+use Rattle.machine.specs.Endpoints.{isAborting, isSending, senders, pendingOf, dropDebt, noteAll}
+use Rattle.machine.specs.Endpoints.{note, endAbort}
 use Rattle.machine.specs.Results.{Look, Result, counted, isAccepted}
-use Rattle.machine.specs.Aborts.{Looked, pendingAt, lookUpTo, begin, ended, lookedOwn, workOwn}
+use Rattle.machine.specs.Aborts.{Looked, pendingAt, lookUpTo, join, begin, ended, lookedOwn, workOwn}
 use Rattle.machine.specs.Sound.{Present}
 use Rattle.machine.specs.History.{Aborting, Ended, Reported, NamedLook, namedLooks}
-use Rattle.machine.specs.Walk.{Walk, Course, takesUp, hearsBy, begins, ends, passes, settles, settle, walk}
+use Rattle.machine.specs.Walk.{Walk, Course, takesUp, letsGo, hearsBy, begins, ends, passes, settles, settle, walk}
 use Rattle.machine.specs.Walk.{closes, close, reportOf, reportIf}
 use Rattle.machine.specs.Claim.{In}
 use Rattle.machine.specs.Tied.{Tied}
-use Rattle.machine.proofs.Lists.{put-same}
+use Rattle.machine.proofs.Lists.{put-same, put-again}
 use Rattle.machine.proofs.Sublists.{only-agree}
-use Rattle.machine.proofs.Preserved.Statuses.{Keeps, keeps-place, keeps-entry, keeps-both}
-use Rattle.machine.proofs.Preserved.Debts.{mid-dropDebt, dropDebt-drops}
+use Rattle.machine.proofs.Preserved.Statuses.{Keeps, keeps-then, keeps-place, keeps-debt, keeps-entry}
+use Rattle.machine.proofs.Preserved.Debts.{nobody-works, mid-dropDebt, dropDebt-drops, keeps-noteAll}
 use Rattle.machine.proofs.Preserved.AbortSteps.{mid-begin, Steady, steady-lookUpTo}
 use Rattle.machine.proofs.Preserved.Aborts.{begin-status}
 use Rattle.machine.proofs.Demand3.Standing.{Stage, within, Stood, Core}
 use Rattle.machine.proofs.Demand3.Leaving.{leaves-dropDebt, core-leaves}
 use Rattle.machine.proofs.Demand3.Ending.{begunOn, core-end, core-begin}
 use Rattle.machine.proofs.Demand3.Owing.{tied-drop, tied-begin, tied-end}
-use Rattle.machine.proofs.Demand3.Together.{put-again, Gone, walkAt, Going, going-abort, left-some, left-none}
+use Rattle.machine.proofs.Demand3.Together.{Gone, walkAt, Going, going-abort, left-some, left-none}
 use Rattle.machine.proofs.Demand3.EachLook.{Frame, frame-then, frame-keep, Walked, walked}
 
 -- The second list has the ended aborts of the first, and others that ended at the place or later.
@@ -60,23 +60,25 @@ walk-keeps since e s r o d K =
     ∙ only-agree _ _ (s .endpoints e .waiters) (λ t m. ap isSending (keeps-place K t)))
 
 pub keeps-endAbort : (status : Status) (e : ℕ) (s : State) → Keeps s (endAbort status e s)
-unfolding endAbort note noteTo
+unfolding endAbort note
 keeps-endAbort status e s = go (s .endpoints e .abort)
   where
     closed : Endpoint
     closed = record { status = status; waiters = s .endpoints e .waiters; abort = none }
 
-    told : (a : Abort) (o : Option ℕ) → Keeps s (setEndpoint e closed (noteTo o e (a .badge) s))
-    told a none = keeps-entry s e closed refl
-    told a (some u) = keeps-both s e closed refl u (noted e (a .badge))
-
     go : (k : Option Abort) → Keeps s (setEndpoint e closed (note k e s))
     go none = keeps-entry s e closed refl
-    go (some a) = told a (a .owner)
+    go (some a) =
+        keeps-then (keeps-noteAll s e (a .badge))
+        (keeps-entry (noteAll e (a .badge) s) e closed (sym (keeps-noteAll s e (a .badge) .waiters e)))
+
+pub keeps-join : (t e : ℕ) (s : State) → Keeps s (join t e s)
+unfolding join
+keeps-join t e s = keeps-debt s t (works e)
 
 pub keeps-begin : (t e b : ℕ) (s : State) → Keeps s (begin t e b s)
 unfolding begin
-keeps-begin t e b s = keeps-both s e _ refl t (owns e)
+keeps-begin t e b s = keeps-then (keeps-entry s e _ refl) (keeps-join t e _)
 
 -- Two walks of which the same is to settle go the same way.
 pub walk-settle :
@@ -144,7 +146,7 @@ module _ (stage : Stage) (standing : ℕ → Option Aborting) (t e b : ℕ) wher
     pub stands : Option Aborting
     pub gone : Gone
     pub core : Core (within stage) (state .threads) (state .endpoints) (put standing e stands) (gone .ended)
-    pub tied : Tied (state .threads) (state .endpoints) (gone .debts) (gone .ended)
+    pub tied : Tied (state .threads) (gone .debts) (gone .ended)
     pub more : More place (start .ended) (gone .ended)
     pub queued : List ℕ
     pub closes :
@@ -155,6 +157,8 @@ module _ (stage : Stage) (standing : ℕ → Option Aborting) (t e b : ℕ) wher
         → (z : Ended) × In z (gone .ended)
         × (reportIf (walk (namedLooks since (r .looks)) a course start .standing) b ≡ some (reportOf (z .abort)))
         × (z .abort .endpoint ≡ e) × (z .abort .badge ≡ b) × (z .by ≤ place)
+    -- Broken off, the call leaves standing what its looks have come to.
+    pub rests : r .answer .code ≡ 2 → stands ≡ walk (namedLooks since (r .looks)) a course start .standing
 
   module _ (now : length (stage .past) ≤ stage .until) (s : State) (a : ℕ) (start : Walk) where
     -- The abort x of the call's badge, after the looks: it ends if nothing is left.
@@ -170,29 +174,27 @@ module _ (stage : Stage) (standing : ℕ → Option Aborting) (t e b : ℕ) wher
         A : (k : Abort) × (q .endpoints e .abort ≡ some k) × Stood (within stage) (q .threads) e k x
         A = going-abort (within stage) standing e q (some x) d x refl G
 
-        k : Abort
-        k = record { badge = A .0 .badge; owner = ownerOf (dropDebt t q .endpoints e .abort); pending = A .0 .pending }
+        was : dropDebt t q .endpoints e .abort ≡ some (A .0)
+        was = dropDebt-drops q t .abort e ∙ A .1
 
-        was : dropDebt t q .endpoints e .abort ≡ some k
-        was = dropDebt-drops q t .abort e ∙ ap (withOwner (ownerOf (dropDebt t q .endpoints e .abort))) (A .1)
+        z : Ended
+        z = record { abort = x; by = place; members = letsGo t (d .debts) .members e }
 
         pending : (l : List ℕ) → pendingAt e q ≡ l → A .0 .pending ≡ l
         pending l h = ap pendingOf (sym (A .1)) ∙ h
 
         over : A .0 .pending ≡ []
             → Core (within stage) (endAbort live e (dropDebt t q) .threads)
-            (endAbort live e (dropDebt t q) .endpoints) (put standing e none)
-            (record { abort = x; by = place } ∷ d .ended)
+            (endAbort live e (dropDebt t q) .endpoints) (put standing e none) (z ∷ d .ended)
         over h =
             subst
             (λ (f : ℕ → Option Aborting).
             Core (within stage) (endAbort live e (dropDebt t q) .threads)
-            (endAbort live e (dropDebt t q) .endpoints) f
-            (record { abort = x; by = place } ∷ d .ended))
+            (endAbort live e (dropDebt t q) .endpoints) f (z ∷ d .ended))
             (put-again standing e (some x) none)
             (core-end (within stage) (dropDebt t q)
             (core-leaves (within stage) (suc place) (omega arith) (leaves-dropDebt t q) (G .core)) e
-            (mid-dropDebt q t (G .mid)) live k x place was (put-same standing e (some x)) (omega arith) (λ i. h)
+            (mid-dropDebt q t (G .mid)) live (A .0) x place _ was (put-same standing e (some x)) (omega arith) (λ i. h)
             (λ i. dropDebt-drops q t .status e ∙ lives))
 
         go : (l : List ℕ) → pendingAt e q ≡ l → Ran s a start (ended l t e looks q)
@@ -208,15 +210,12 @@ module _ (stage : Stage) (standing : ℕ → Option Aborting) (t e b : ℕ) wher
               accepted = refl;
               stands = none;
               gone =
-                  record {
-                    ended = record { abort = x; by = place } ∷ d .ended;
-                    debts = hearsBy t e (reportOf x) (d .debts);
-                  };
+                  record { ended = z ∷ d .ended; debts = hearsBy t e (reportOf x) (d .debts) };
               core = over (pending [] h);
               tied =
-                  tied-end (dropDebt t q) (tied-drop q (G .tied) t (G .mid .owners)) e live k was x
-                  (A .2 .endpoint) (A .2 .badge) _ refl;
-              more = more-cons place (start .ended) (d .ended) _ (omega arith) E;
+                  tied-end (dropDebt t q) (tied-drop q (G .tied) t) e live (A .0) was x (A .2 .endpoint) (A .2 .badge)
+                  z refl;
+              more = more-cons place (start .ended) (d .ended) z (omega arith) E;
               queued = map since (senders (q .threads) (q .endpoints e .waiters));
               closes =
                   rw (
@@ -224,14 +223,8 @@ module _ (stage : Stage) (standing : ℕ → Option Aborting) (t e b : ℕ) wher
                     left-none (within stage) standing e q x d G (A .0) (A .1) (A .2) (pending [] h),
                   );
               reports =
-                  λ i. (
-                    record { abort = x; by = place },
-                    inl refl,
-                    rw (W, eq-eqb (x .badge) b badge),
-                    A .2 .endpoint,
-                    badge,
-                    omega arith,
-                  );
+                  λ i. (z, inl refl, rw (W, eq-eqb (x .badge) b badge), A .2 .endpoint, badge, omega arith);
+              rests = λ i. absurd (omega arith);
             }
         go (u ∷ l) h =
             record {
@@ -253,6 +246,7 @@ module _ (stage : Stage) (standing : ℕ → Option Aborting) (t e b : ℕ) wher
                         (pending (u ∷ l) h),
                   );
               reports = λ i. absurd (omega arith);
+              rests = λ i. ap (λ (w : Walk). w .standing) (sym W);
             }
 
     -- The abort x of the call's badge, with allowance k, after the looks made earlier in the call.
@@ -303,14 +297,14 @@ module _ (stage : Stage) (standing : ℕ → Option Aborting) (t e b : ℕ) wher
     own-begins k earlier q d G bare free present small here lives F W E =
         own-works (suc k) earlier (begin t e b q) (begunOn since q e b place) begun
         (record {
-          mid = mid-begin t e b q (G .mid) present free lives bare small;
+          mid = mid-begin t e b q (G .mid) present lives small;
           core =
               subst
               (λ (f : ℕ → Option Aborting).
               Core (within stage) (begin t e b q .threads) (begin t e b q .endpoints) f (d .ended))
               (put-again standing e none (some (begunOn since q e b place)))
               (core-begin (within stage) q (G .core) e (G .mid) t b place now (omega arith));
-          tied = tied-begin q (G .tied) t e b free;
+          tied = tied-begin q (G .tied) t e b free (nobody-works (G .mid) e (ap isAborting bare));
         })
         refl (begin-status t e b q ∙ lives)
         (frame-keep since e s q (begin t e b q) earlier F (keeps-begin t e b q))

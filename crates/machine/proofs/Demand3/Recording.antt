@@ -87,7 +87,7 @@ module _ (past : List Call) (s : State) (h : History) (I : Inv past s h) (c : Ca
     pub core :
         Core (grown c (r .answer) (naming since (within (stageOf past h)))) (r .state .threads) (r .state .endpoints)
         (o .aborts .standing) (o .aborts .ended)
-    pub tied : Tied (r .state .threads) (r .state .endpoints) (o .aborts .debts) (o .aborts .ended)
+    pub tied : Tied (r .state .threads) (o .aborts .debts) (o .aborts .ended)
     pub rising : (e : ℕ) → Rising (map since (r .state .endpoints e .waiters))
     pub stray : o .aborts .stray ≡ []
     pub new : (z : Ended) → In z (o .aborts .ended) → In z (h .aborts .ended) ⊎ (h .now ≤ z .by)

@@ -1,6 +1,6 @@
 -- A call 12 between two looks: the machine's state and the history's walk go together.
 use Prim.Native.Nat.{ℕ}
-use mathlib.Core.Path.{_≡_, refl, sym, _∙_, ap, subst, fun-ext}
+use mathlib.Core.Path.{_≡_, refl, sym, _∙_, ap, subst}
 use mathlib.Core.Logic.{_⊎_, inl, inr, ⊎-elim}
 use mathlib.Core.Bool.{Bool, true, false, _&&_, not}
 use mathlib.Core.Option.{Option, none, some}
@@ -16,7 +16,7 @@ use Rattle.machine.specs.History.{Aborting, Ended, Debts, isIn}
 use Rattle.machine.specs.Walk.{Walk, Course, isNone, leftOf, passes, settles, settle, lookedAt, takes, takeLook}
 use Rattle.machine.specs.Claim.{isOld}
 use Rattle.machine.specs.Tied.{Tied}
-use Rattle.machine.proofs.Lists.{Same, same, other, same?, put-all, put-same, put-other, mem-left, mem-right}
+use Rattle.machine.proofs.Lists.{Same, same, other, same?, put-all, put-same, put-other, mem-left, mem-right, put-again}
 use Rattle.machine.proofs.Lists.{mem-keep, at-tail, inserted-mem, only-keep, distinct-apart, without-hit}
 use Rattle.machine.proofs.Lists.{only-nil, only-hit}
 use Rattle.machine.proofs.Lists.{only-miss, only-none}
@@ -29,21 +29,6 @@ use Rattle.machine.proofs.Demand3.Standing.{Stage, sends-call, Stood, B
 use Rattle.machine.proofs.Demand3.Owing.{tied-still}
 use Rattle.machine.proofs.Demand3.Leaving.{Fewer, fewer-sends, leaves-wakeFrom, core-at}
 use Rattle.machine.proofs.Demand3.Ending.{sender-sends, sends-sender}
-
--- Tables changed twice at one place, or not at all.
-pub put-again : {A : Type 0} (f : ℕ → A) (e : ℕ) (x y : A) → put (put f e x) e y ≡ put f e y
-put-again f e x y = fun-ext (λ k. go k (same? k e))
-  where
-    go : (k : ℕ) → Same k e → put (put f e x) e y k ≡ put f e y k
-    go k (same i _) = rw (i, put-same (put f e x) e y, put-same f e y)
-    go k (other i _) = rw (put-other (put f e x) e k y i, put-other f e k y i, put-other f e k x i)
-
-pub put-self : {A : Type 0} (f : ℕ → A) (e : ℕ) → put f e (f e) ≡ f
-put-self f e = fun-ext (λ k. go k (same? k e))
-  where
-    go : (k : ℕ) → Same k e → put f e (f e) k ≡ f k
-    go k (same i _) = rw (i, put-same f e (f e))
-    go k (other i _) = put-other f e k (f e) i
 
 eqb-sym : (a b : ℕ) → eqb a b ≡ eqb b a
 eqb-sym a b = go (same? a b)
@@ -63,7 +48,7 @@ stood-look :
     (stage : Stage) {f g : ℕ → Thread} {e : ℕ} (u : ℕ) (l : List ℕ) {a : Abort} {x : Aborting}
     → ((t : ℕ) → g t .place ≡ sending e → f t .place ≡ sending e) → a .pending ≡ u ∷ l → (b : Bool)
     → isOld (stage .past) x (stage .since u) ≡ b → Stood stage f e a x
-    → Stood stage g e (record { badge = a .badge; owner = a .owner; pending = without u (a .pending) })
+    → Stood stage g e (record { badge = a .badge; pending = without u (a .pending) })
     (lookedAt (record { waiter = stage .since u; removed = b }) x)
 stood-look stage {f} {g} {e} u l {a} {x} places first b old S =
     record {
@@ -124,7 +109,7 @@ pub record Going
     (stage : Stage) (standing : ℕ → Option Aborting) (e : ℕ) (s : State) (o : Option Aborting) (d : Gone) : Type 0 where
   pub mid : Mid s
   pub core : Core stage (s .threads) (s .endpoints) (put standing e o) (d .ended)
-  pub tied : Tied (s .threads) (s .endpoints) (d .debts) (d .ended)
+  pub tied : Tied (s .threads) (d .debts) (d .ended)
 
 module _ (stage : Stage) (standing : ℕ → Option Aborting) (e : ℕ) (s : State) where
   abbrev since : ℕ → ℕ
@@ -293,7 +278,7 @@ module _ (stage : Stage) (standing : ℕ → Option Aborting) (e : ℕ) (s : Sta
           record {
             mid = mid-look e u l s (G .mid) (ap pendingOf was ∙ first);
             core = core-look (hits e u s);
-            tied = tied-still (record { debt = T .debt; owner = λ f. T .entry f .owner }) (λ z i. i) (G .tied);
+            tied = tied-still (T .debt) (λ z i. i) (G .tied);
           }
 
       pub walk-look :

@@ -1,14 +1,10 @@
 -- The claim bites: each machine that goes wrong makes it, or another statement, false on a short list of calls.
 use Prim.Native.Nat.{ℕ, _≤_}
-use mathlib.Core.Path.{_≡_, refl, _∙_, ap}
+use mathlib.Core.Path.{_≡_, refl, ap}
 use mathlib.Core.Logic.{inl, inr}
-use mathlib.Core.Bool.{Bool, true, _&&_, and-eq-true-iff}
-use mathlib.Core.Option.{Option, none, some}
 use mathlib.Core.List.{List, [], _∷_}
 use native.Mathlib.Omega.{arith}
-use lib.Dec.{eqb}
 use lib.ListN.{length}
-use borrow.Author.Tests.{eqb-true}
 use Rattle.machine.specs.declared.Answer.{Answer}
 use Rattle.machine.specs.declared.Call.{Call}
 use Rattle.machine.specs.declared.Call.the-variants.{CreateThread, DestroyThread, CreateEndpoint, Send, Receive}
@@ -18,39 +14,23 @@ use Rattle.machine.specs.State.{State}
 use Rattle.machine.specs.Results.{Result}
 use Rattle.machine.specs.Grants.{Grants, freshGrants}
 use Rattle.machine.specs.Machine.{step}
-use Rattle.machine.specs.History.{Ended, Delivery, Reported}
+use Rattle.machine.specs.History.{Aborting, Ended, Delivery}
 use Rattle.machine.specs.Recorded.{runFrom, freshRun, historyBy}
-use Rattle.machine.specs.Claim.{In, Claim}
+use Rattle.machine.specs.Claim.{Claim}
 use Rattle.machine.specs.Tied.{NotesFirst}
 use Rattle.machine.proofs.Calls.Ticks.{ticks-kept}
 use Rattle.machine.proofs.Lists.{clash}
 use Rattle.machine.proofs.Examples.Computed.{computed}
+use Rattle.machine.proofs.Examples.Refuting.{unended}
 use Rattle.machine.proofs.Examples.Wrong.{idler, remover, copier, boaster, taker, marker, repeater, thief, noter}
 use Rattle.machine.proofs.Examples.Wrong.{lifo, hider, ghost, latecomer, refiller}
-
--- The call that the reported abort began in.
-beganOf : Option Reported → ℕ
-beganOf none = 0
-beganOf (some r) = r .began
-
--- All aborts of the list began in call n.
-allBegan : ℕ → List Ended → Bool
-allBegan n [] = true
-allBegan n (z ∷ l) = eqb (z .abort .began) n && allBegan n l
-
-all-began : (n : ℕ) (l : List Ended) → allBegan n l ≡ true → (z : Ended) → In z l → z .abort .began ≡ n
-unfolding allBegan
-all-began n [] h z i = absurd i
-all-began n (x ∷ l) h z (inl e) =
-    ap (λ (y : Ended). y .abort .began) e ∙ eqb-true (x .abort .began) n (and-eq-true-iff _ _ .0 h .0)
-all-began n (x ∷ l) h z (inr i) = all-began n l (and-eq-true-iff (eqb (x .abort .began) n) (allBegan n l) .0 h .1) z i
 
 headOf : List ℕ → ℕ
 headOf [] = 0
 headOf (x ∷ l) = x
 
 -- Threads 1 and 2 wait to send under badge 7; thread 3 runs, which may receive and abort.
-abbrev two-lookups : List Call → List Call
+abbrev pub two-lookups : List Call → List Call
 two-lookups l =
     CreateThread 1 10 ∷ CreateThread 2 10 ∷ CreateEndpoint 0 ∷ Grant 1 0 1 7 ∷ Grant 2 0 1 7 ∷ Send 0 7 100
     ∷ Send 0 7 101 ∷ CreateThread 3 20 ∷ Grant 3 0 10 0 ∷ l
@@ -106,6 +86,7 @@ over =
             removed = 7 ∷ [];
           };
       by = 13;
+      members = [];
     }
 
 taken : Delivery
@@ -133,9 +114,13 @@ two-others =
     CreateThread 1 10 ∷ CreateThread 2 10 ∷ CreateEndpoint 0 ∷ Grant 1 0 1 8 ∷ Grant 2 0 1 8 ∷ Send 0 8 100
     ∷ Send 0 8 101 ∷ CreateThread 3 20 ∷ Grant 3 0 8 0 ∷ Abort 0 1 7 ∷ Abort 0 1 7 ∷ []
 
+looked-again : Aborting
+looked-again =
+    record { endpoint = 0; badge = 7; began = 9; onto = 5 ∷ 6 ∷ []; looked = 5 ∷ 5 ∷ []; removed = [] }
+
 pub repeater-fails : Claim two-others (historyBy repeater two-others) → ⊥
-unfolding computed repeater
-repeater-fails C = C .not-twice _ (inl (0, refl)) .0 (inl refl)
+unfolding computed repeater looked-again
+repeater-fails C = C .not-twice looked-again (inl (0, refl)) .0 (inl refl)
 
 -- every-look-of-an-abort: refused by 20, the call has removed the waiter of badge 8.
 abbrev nobody-runs : List Call
@@ -154,13 +139,8 @@ noted-work =
     ∷ Send 0 7 102 ∷ Send 0 7 103 ∷ Interrupt 0 ∷ Abort 0 1 7 ∷ Abort 0 1 7 ∷ [])
 
 pub noter-fails : Claim noted-work (historyBy noter noted-work) → ⊥
-unfolding computed noter beganOf allBegan
-noter-fails C =
-    let R = C .reported-ended _ (inl refl) refl in
-    let p : 19 ≡ R .reported .began = ap beganOf (R .is) in
-    let same = ap (λ (r : Reported). r .began) (R .ended .same) in
-    let q = all-began 9 (historyBy noter noted-work .aborts .ended) refl (R .ended .ended) (R .ended .found) in
-    omega (arith, p, q, same)
+unfolding computed noter
+noter-fails = unended noted-work (historyBy noter noted-work) refl refl
 
 latest : Delivery
 latest = record { place = 9; endpoint = 0; badge = 7; message = 101; queue = 5 ∷ 6 ∷ []; handed = 6 ∷ [] }
@@ -195,7 +175,7 @@ unfolding computed ghost
 ghost-fails C = C .looks-at-waiters _ (inl refl) _ (inl refl)
 
 -- NotesFirst: the endpoint of thread 1's abort is deleted, and its next abort call there is refused by 23.
-abbrev noted-gone : List Call
+abbrev pub noted-gone : List Call
 noted-gone =
     CreateThread 2 5 ∷ CreateEndpoint 0 ∷ Grant 2 0 1 7 ∷ Send 0 7 100 ∷ CreateThread 3 5 ∷ Grant 3 0 1 7
     ∷ Send 0 7 101 ∷ CreateThread 1 10 ∷ Grant 1 0 8 0 ∷ Abort 0 1 7 ∷ CreateThread 6 11 ∷ Grant 6 0 4 0

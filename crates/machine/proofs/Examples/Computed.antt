@@ -1,15 +1,14 @@
 -- One name to open the machine and the history by, where a run of given calls is computed.
-use Rattle.machine.specs.Lists.{put, without, only}
+use Rattle.machine.specs.Lists.{put, without, only, below}
 use Rattle.machine.specs.Scheduling.{enqueue, enqueueFirst, unqueue, standDown, standBack, wake, block}
 use Rattle.machine.specs.Scheduling.{highestBelow, highest, dispatchHead, dispatchAt, dispatch, displace}
 use Rattle.machine.specs.Scheduling.{chooseFor, choose}
-use Rattle.machine.specs.Endpoints.{joinEndpoint, leaveEndpoint, wakeFrom, dropped, dropDebt, noteTo, note}
-use Rattle.machine.specs.Endpoints.{endAbort}
+use Rattle.machine.specs.Endpoints.{joinEndpoint, leaveEndpoint, wakeFrom, dropDebt, noteAll, note, endAbort}
 use Rattle.machine.specs.Grants.{lacks, regranted, grantsAfter}
 use Rattle.machine.specs.Aborts.{oneMore, removeUpTo, deleted, deleteFrom, deleteAt, delete, hits, lookAt, look}
-use Rattle.machine.specs.Aborts.{afterLook, lookUpTo, begin, joinAs, join, ended, lookedOwn, workOwn, beginAfter}
-use Rattle.machine.specs.Aborts.{finished, lookedOther, workOther, underBadge, abortFrom, dropUnless, dropOther}
-use Rattle.machine.specs.Aborts.{abortOpen, abortAt, abortUnless, abort}
+use Rattle.machine.specs.Aborts.{afterLook, lookUpTo, join, begin, ended, lookedOwn, workOwn, beginAfter}
+use Rattle.machine.specs.Aborts.{finished, lookedOther, workOther, underBadge, abortFrom, abortOpen}
+use Rattle.machine.specs.Aborts.{abortAt, abortUnless, abort}
 use Rattle.machine.specs.Machine.{createIf, createThread, leaveReady, leave, destroyIf, destroyThread, moveReady}
 use Rattle.machine.specs.Machine.{changeUnless, priorityIf, setPriority, createAt, createEndpoint, fire}
 use Rattle.machine.specs.Machine.{interrupt, leaveTicks, tickFor, tick, sendTo, sendUnless, sendAt, send}
@@ -22,11 +21,11 @@ use Rattle.machine.specs.Outcomes.{deletes, walks, abortsBy, abortsOf, o
 use Rattle.machine.specs.Recorded.{deliveredIf, delivered, abortCallsOf, recorded, told, runFrom}
 
 unfoldable pub computed : Unit {0}
-unfolding put without only enqueue enqueueFirst unqueue standDown standBack wake block highestBelow highest
-    dispatchHead dispatchAt dispatch displace chooseFor choose joinEndpoint leaveEndpoint wakeFrom dropped dropDebt
-    noteTo note endAbort oneMore removeUpTo deleted deleteFrom deleteAt delete hits lookAt look afterLook lookUpTo
-    begin joinAs join ended lookedOwn workOwn beginAfter finished lookedOther workOther underBadge abortFrom
-    dropUnless dropOther abortOpen abortAt abortUnless abort createIf createThread leaveReady leave destroyIf
+unfolding put without only below enqueue enqueueFirst unqueue standDown standBack wake block highestBelow highest
+    dispatchHead dispatchAt dispatch displace chooseFor choose joinEndpoint leaveEndpoint wakeFrom dropDebt
+    noteAll note endAbort oneMore removeUpTo deleted deleteFrom deleteAt delete hits lookAt look afterLook lookUpTo
+    join begin ended lookedOwn workOwn beginAfter finished lookedOther workOther underBadge abortFrom
+    abortOpen abortAt abortUnless abort createIf createThread leaveReady leave destroyIf
     destroyThread moveReady changeUnless priorityIf setPriority createAt createEndpoint fire interrupt leaveTicks
     tickFor tick sendTo sendUnless sendAt send receiveFrom receiveAt receive yield waitAt wait grantAt grantIf grant
     perform performUnless performIf step lacks regranted grantsAfter named leftOf begins ends passes settles settle

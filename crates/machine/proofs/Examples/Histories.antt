@@ -2,13 +2,14 @@
 -- that ended, what was handed over and what each call 12 reports.
 use Prim.Native.Nat.{ℕ}
 use mathlib.Core.Path.{_≡_, refl}
+use mathlib.Core.Bool.{true}
 use mathlib.Core.Option.{Option, none, some}
 use mathlib.Core.List.{List, [], _∷_}
 use Rattle.machine.specs.declared.Answer.{Answer}
 use Rattle.machine.specs.declared.Call.{Call}
-use Rattle.machine.specs.declared.Call.the-variants.{CreateThread, DestroyThread, CreateEndpoint, Interrupt, Send}
-use Rattle.machine.specs.declared.Call.the-variants.{Receive, Wait, Delete, Abort, Grant}
-use Rattle.machine.specs.History.{Aborting, Ended, Delivery, AbortCall, Reported}
+use Rattle.machine.specs.declared.Call.the-variants.{CreateThread, DestroyThread, SetPriority, CreateEndpoint}
+use Rattle.machine.specs.declared.Call.the-variants.{Interrupt, Send, Receive, Wait, Delete, Abort, Grant}
+use Rattle.machine.specs.History.{Aborting, Ended, Delivery, AbortCall, NamedLook, Reported}
 use Rattle.machine.specs.Recorded.{historyOf}
 use Rattle.machine.proofs.Examples.Computed.{computed}
 
@@ -47,8 +48,9 @@ abort : ℕ → ℕ → ℕ → List ℕ → List ℕ → List ℕ → Aborting
 abort e b began onto looked removed =
     record { endpoint = e; badge = b; began = began; onto = onto; looked = looked; removed = removed }
 
-ends : ℕ → Aborting → Ended
-ends by x = record { abort = x; by = by }
+-- the call that it ended in, and the members of its set but that call's caller
+ends : ℕ → List ℕ → Aborting → Ended
+ends by members x = record { abort = x; by = by; members = members }
 
 -- the call, its endpoint, badge and message, the queue before it and whose message it handed over
 hands : ℕ → ℕ → ℕ → ℕ → List ℕ → List ℕ → Delivery
@@ -73,7 +75,7 @@ example-history :
           done ∷ done ∷ done ∷ done ∷ done ∷ done ∷ done ∷ blocked ∷ blocked ∷ answer 2 1 0 0 ∷ answer 26 0 0 0
           ∷ answer 0 0 8 200 ∷ done ∷ done ∷ done ∷ [];
       ended =
-          ends 12 (abort 0 7 9 (7 ∷ 8 ∷ []) (7 ∷ []) (7 ∷ [])) ∷ [];
+          ends 12 (2 ∷ []) (abort 0 7 9 (7 ∷ 8 ∷ []) (7 ∷ []) (7 ∷ [])) ∷ [];
       deliveries = hands 11 0 8 200 (8 ∷ []) (8 ∷ []) ∷ [];
       reports = reports 0 7 9 ∷ reports 0 7 9 ∷ reports 0 7 9 ∷ [];
     }
@@ -95,8 +97,8 @@ other-badge-history :
           done ∷ done ∷ done ∷ done ∷ done ∷ blocked ∷ done ∷ done ∷ blocked ∷ done ∷ done ∷ blocked
           ∷ answer 2 1 0 0 ∷ answer 0 3 0 0 ∷ [];
       ended =
-          ends 13 (abort 0 8 13 (8 ∷ []) (8 ∷ []) (8 ∷ []))
-          ∷ ends 13 (abort 0 7 12 (5 ∷ 8 ∷ 11 ∷ []) (5 ∷ 8 ∷ 11 ∷ []) (5 ∷ 11 ∷ [])) ∷ [];
+          ends 13 [] (abort 0 8 13 (8 ∷ []) (8 ∷ []) (8 ∷ []))
+          ∷ ends 13 (1 ∷ []) (abort 0 7 12 (5 ∷ 8 ∷ 11 ∷ []) (5 ∷ 8 ∷ 11 ∷ []) (5 ∷ 11 ∷ [])) ∷ [];
       deliveries = [];
       reports = reports 0 8 13 ∷ reports 0 7 12 ∷ [];
     }
@@ -110,7 +112,7 @@ finished-by-another l =
     ∷ Send 0 7 101 ∷ CreateThread 1 10 ∷ Grant 1 0 8 0 ∷ Abort 0 1 7 ∷ CreateThread 6 11 ∷ Grant 6 0 8 0
     ∷ Abort 0 5 7 ∷ DestroyThread 6 ∷ l
 
--- Thread 1's call 14 is answered from its note, and reports the abort that it owned.
+-- Thread 1's call 14 is answered from its note, and reports the abort that it began.
 joined : List Call
 joined = finished-by-another (Abort 0 5 7 ∷ [])
 
@@ -120,7 +122,7 @@ joined-history :
       answers =
           done ∷ done ∷ done ∷ blocked ∷ done ∷ done ∷ blocked ∷ done ∷ done ∷ answer 2 1 0 0 ∷ done ∷ done
           ∷ answer 0 1 0 0 ∷ done ∷ done ∷ [];
-      ended = ends 12 (abort 0 7 9 (3 ∷ 6 ∷ []) (3 ∷ 6 ∷ []) (3 ∷ 6 ∷ [])) ∷ [];
+      ended = ends 12 (1 ∷ []) (abort 0 7 9 (3 ∷ 6 ∷ []) (3 ∷ 6 ∷ []) (3 ∷ 6 ∷ [])) ∷ [];
       deliveries = [];
       reports = reports 0 7 9 ∷ reports 0 7 9 ∷ reports 0 7 9 ∷ [];
     }
@@ -131,9 +133,9 @@ joined-history = refl
 owed : List Call
 owed = finished-by-another []
 
-owed-worker : historyOf owed .aborts .debts .workers 0 ≡ []
+owed-members : historyOf owed .aborts .debts .members 0 ≡ []
 unfolding owed computed
-owed-worker = refl
+owed-members = refl
 
 owed-note : historyOf owed .aborts .debts .notes 1 ≡ reports 0 7 9
 unfolding owed computed reports
@@ -154,7 +156,7 @@ revoked-history :
       answers =
           done ∷ done ∷ done ∷ blocked ∷ done ∷ done ∷ blocked ∷ done ∷ done ∷ answer 2 1 0 0 ∷ done ∷ done
           ∷ answer 0 1 0 0 ∷ done ∷ done ∷ answer 29 0 0 0 ∷ done ∷ done ∷ [];
-      ended = ends 12 (abort 0 7 9 (3 ∷ 6 ∷ []) (3 ∷ 6 ∷ []) (3 ∷ 6 ∷ [])) ∷ [];
+      ended = ends 12 (1 ∷ []) (abort 0 7 9 (3 ∷ 6 ∷ []) (3 ∷ 6 ∷ []) (3 ∷ 6 ∷ [])) ∷ [];
       deliveries = [];
       reports = reports 0 7 9 ∷ none ∷ reports 0 7 9 ∷ reports 0 7 9 ∷ [];
     }
@@ -162,7 +164,7 @@ unfolding tableOf reportsOf revoked computed answer done blocked abort ends hand
 revoked-history = refl
 
 -- The abort broken off in call 9 is ended by the delete of call 12, and the endpoint is made anew, where all have to be
--- granted their rights again. Its owner's note is answered while a message of the badge's new holder is queued, which
+-- granted their rights again. Its member's note is answered while a message of the badge's new holder is queued, which
 -- stays and is received.
 made-anew : List Call
 made-anew =
@@ -176,7 +178,7 @@ made-anew-history :
       answers =
           done ∷ done ∷ done ∷ blocked ∷ done ∷ done ∷ blocked ∷ done ∷ done ∷ answer 2 1 0 0 ∷ done ∷ done
           ∷ answer 0 1 0 0 ∷ done ∷ done ∷ done ∷ blocked ∷ done ∷ answer 0 0 7 300 ∷ [];
-      ended = ends 12 (abort 0 7 9 (3 ∷ 6 ∷ []) (3 ∷ []) (3 ∷ [])) ∷ [];
+      ended = ends 12 (1 ∷ []) (abort 0 7 9 (3 ∷ 6 ∷ []) (3 ∷ []) (3 ∷ [])) ∷ [];
       deliveries = hands 18 0 7 300 (16 ∷ []) (16 ∷ []) ∷ [];
       reports = reports 0 7 9 ∷ reports 0 7 9 ∷ [];
     }
@@ -200,9 +202,60 @@ incident-history :
           done ∷ done ∷ done ∷ blocked ∷ done ∷ done ∷ blocked ∷ done ∷ done ∷ blocked ∷ done ∷ done
           ∷ answer 2 1 0 0 ∷ done ∷ done ∷ done ∷ answer 26 0 0 0 ∷ blocked ∷ answer 0 1 0 0 ∷ done ∷ blocked
           ∷ answer 0 0 7 300 ∷ [];
-      ended = ends 18 (abort 0 7 12 (3 ∷ 6 ∷ 9 ∷ []) (3 ∷ 9 ∷ []) (3 ∷ 9 ∷ [])) ∷ [];
+      ended = ends 18 [] (abort 0 7 12 (3 ∷ 6 ∷ 9 ∷ []) (3 ∷ 9 ∷ []) (3 ∷ 9 ∷ [])) ∷ [];
       deliveries = hands 21 0 7 300 (20 ∷ []) (20 ∷ []) ∷ [];
       reports = reports 0 7 12 ∷ reports 0 7 12 ∷ [];
     }
 unfolding tableOf reportsOf incident computed answer done blocked abort ends hands reports
 incident-history = refl
+
+-- Two joiners: thread 11 begins the abort of badge 7 in call 16, 12 joins in call 18 and 13 in call 20, which ends it
+-- while the two wait to go on; the badge goes to thread 4, whose message is queued in call 24. Both are answered from
+-- their notes, and 12 receives that message in call 29.
+abbrev pub joiners : List Call
+joiners =
+    CreateEndpoint 0 ∷ CreateThread 1 5 ∷ Grant 1 0 1 7 ∷ Send 0 7 1 ∷ CreateThread 2 5 ∷ Grant 2 0 1 7 ∷ Send 0 7 2
+    ∷ CreateThread 3 5 ∷ Grant 3 0 1 7 ∷ Send 0 7 3 ∷ CreateThread 11 10 ∷ CreateThread 12 5 ∷ CreateThread 13 5
+    ∷ Grant 11 0 8 0 ∷ Grant 12 0 10 0 ∷ Grant 13 0 8 0 ∷ Abort 0 1 7 ∷ SetPriority 12 11 ∷ Abort 0 1 7
+    ∷ SetPriority 13 12 ∷ Abort 0 1 7 ∷ CreateThread 4 20 ∷ Grant 1 0 0 0 ∷ Grant 4 0 1 7 ∷ Send 0 7 500
+    ∷ SetPriority 11 13 ∷ Abort 0 5 7 ∷ SetPriority 12 14 ∷ Abort 0 5 7 ∷ Receive 0 ∷ []
+
+joiners-history :
+    tableOf joiners
+    ≡ record {
+      answers =
+          done ∷ done ∷ done ∷ blocked ∷ done ∷ done ∷ blocked ∷ done ∷ done ∷ blocked ∷ done ∷ done ∷ done ∷ done
+          ∷ done ∷ done ∷ answer 2 1 0 0 ∷ done ∷ answer 2 1 0 0 ∷ done ∷ answer 0 1 0 0 ∷ done ∷ done ∷ done
+          ∷ blocked ∷ done ∷ done ∷ done ∷ done ∷ answer 0 0 7 500 ∷ [];
+      ended = ends 20 (11 ∷ 12 ∷ []) (abort 0 7 16 (3 ∷ 6 ∷ 9 ∷ []) (3 ∷ 6 ∷ 9 ∷ []) (3 ∷ 6 ∷ 9 ∷ [])) ∷ [];
+      deliveries = hands 29 0 7 500 (24 ∷ []) (24 ∷ []) ∷ [];
+      reports = reports 0 7 16 ∷ reports 0 7 16 ∷ reports 0 7 16 ∷ reports 0 7 16 ∷ reports 0 7 16 ∷ [];
+    }
+unfolding tableOf reportsOf computed answer done blocked abort ends hands reports
+joiners-history = refl
+
+-- The place of a call 12, its looks, and who is queued at its endpoint after it.
+pub record Leaves : Type 0 where
+  pub place : ℕ
+  pub looks : List NamedLook
+  pub queue : List ℕ
+
+leavesOf : List AbortCall → List Leaves
+leavesOf [] = []
+leavesOf (y ∷ l) =
+    record { place = y .place; looks = y .looks; queue = y .behind .queues (y .endpoint) } ∷ leavesOf l
+
+leaves : ℕ → List NamedLook → List ℕ → Leaves
+leaves place looks queue = record { place = place; looks = looks; queue = queue }
+
+removes : ℕ → NamedLook
+removes w = record { waiter = w; removed = true }
+
+-- No waiter of the new holder is removed: calls 26 and 28 look at nobody, and the message of call 24 is queued after
+-- both.
+new-holder-stays :
+    leavesOf (historyOf joiners .abortCalls)
+    ≡ leaves 28 [] (24 ∷ []) ∷ leaves 26 [] (24 ∷ []) ∷ leaves 20 (removes 9 ∷ []) []
+    ∷ leaves 18 (removes 6 ∷ []) (9 ∷ []) ∷ leaves 16 (removes 3 ∷ []) (6 ∷ 9 ∷ []) ∷ []
+unfolding leavesOf leaves removes computed
+new-holder-stays = refl

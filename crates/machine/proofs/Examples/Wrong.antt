@@ -21,7 +21,7 @@ use Rattle.machine.specs.Aborts.{abort}
 use Rattle.machine.specs.Machine.{receiveFrom, receiveAt, byCaller, step}
 
 -- Another result for a call 12, a call 8 or a call 2; the result given for the others.
-abbrev instead12 : (ℕ → ℕ → ℕ → Result) → Call → Result → Result
+abbrev pub instead12 : (ℕ → ℕ → ℕ → Result) → Call → Result → Result
 instead12 f (CreateThread t p) r = r
 instead12 f (DestroyThread t) r = r
 instead12 f (SetPriority t p) r = r
@@ -71,7 +71,7 @@ abbrev unlessBarred : Grants → Call → (State → Result) → State → Resul
 unlessBarred g c f s = pick (barred (s .runs) g c) (refuse 29 s) (f s)
 
 -- The state or the answer of a result changed.
-abbrev withState : State → Result → Result
+abbrev pub withState : State → Result → Result
 withState s r = record { state = s; answer = r .answer; looks = r .looks }
 
 abbrev withAnswer : Answer → Result → Result
@@ -79,7 +79,7 @@ withAnswer a r = record { state = r .state; answer = a; looks = r .looks }
 
 abbrev withPending : List ℕ → Option Standing → Option Standing
 withPending l none = none
-withPending l (some a) = some (record { badge = a .badge; owner = a .owner; pending = l })
+withPending l (some a) = some (record { badge = a .badge; pending = l })
 
 -- It works in an abort's first call and afterwards only answers 0.
 unfoldable pub idler : Grants → State → Call → Result
@@ -212,7 +212,7 @@ unfoldable pub thief : Grants → State → Call → Result
 thief g s c = instead12 (λ e a b. stealing (s .runs) e a b g s) c (step g s c)
 
 -- Broken off, it gives the caller a note, and so answers 0 at the next call, with work left.
-abbrev noteFor : Option ℕ → ℕ → ℕ → State → State
+abbrev pub noteFor : Option ℕ → ℕ → ℕ → State → State
 noteFor none e b s = s
 noteFor (some t) e b s = setThread t (withDebt (noted e b) (s .threads t)) s
 

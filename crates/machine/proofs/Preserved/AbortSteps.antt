@@ -1,6 +1,6 @@
 -- Call 12's steps: a look, the beginning of an abort and the joining of one keep Mid, and so does the loop of looks.
 use Prim.Native.Nat.{ℕ, zero, suc, _<_, _^_}
-use mathlib.Core.Path.{_≡_, refl, sym, _∙_, ap}
+use mathlib.Core.Path.{_≡_, refl, sym, _∙_, ap, subst}
 use mathlib.Core.Logic.{inl, inr}
 use mathlib.Core.Bool.{Bool, true, false}
 use mathlib.Core.Option.{Option, none, some}
@@ -8,17 +8,17 @@ use mathlib.Core.List.{List, [], _∷_, _++_, append-assoc, append-nil}
 use native.Mathlib.Omega.{arith}
 use borrow.Author.Tests.{eq-eqb}
 use Rattle.machine.specs.Lists.{put, without, Mem, Distinct}
-use Rattle.machine.specs.State.{State, sending, nothing, owns, Abort, live, Endpoint}
+use Rattle.machine.specs.State.{State, sending, works, Abort, live, Endpoint, setEndpoint}
 use Rattle.machine.specs.Scheduling.{enqueue, wake}
-use Rattle.machine.specs.Endpoints.{isSending, senders, underAbort, pendingOf, ownerOf, passing, withOwner}
+use Rattle.machine.specs.Endpoints.{isSending, senders, underAbort, pendingOf, isAborting, passing}
 use Rattle.machine.specs.Endpoints.{leaveEndpoint, wakeFrom}
-use Rattle.machine.specs.Aborts.{hits, lookAt, look, afterLook, pendingAt, lookUpTo, begin, joinAs, join}
+use Rattle.machine.specs.Aborts.{hits, lookAt, look, afterLook, pendingAt, lookUpTo, join, begin}
 use Rattle.machine.specs.Sound.{Present, Queued, Stretch}
-use Rattle.machine.proofs.Lists.{put-all, clash, distinct-left, distinct-right, without-first, mem-keep}
+use Rattle.machine.proofs.Lists.{put-all, put-same, clash, distinct-left, distinct-right, without-first, mem-keep}
 use Rattle.machine.proofs.Lists.{mem-only, only-keep, only-all}
 use Rattle.machine.specs.Mid.{Mid}
-use Rattle.machine.proofs.Preserved.Statuses.{EntryFits, May, bearing, mid-entry, mid-both}
-use Rattle.machine.proofs.Preserved.Debts.{nothing-owns, owners-claim, abort-live, fits-some, fits-owner}
+use Rattle.machine.proofs.Preserved.Statuses.{EntryFits, bearing, mid-debt, mid-entry}
+use Rattle.machine.proofs.Preserved.Debts.{works-one, abort-live, fits-some}
 use Rattle.machine.proofs.Preserved.Waking.{mid-wakeFrom}
 
 nil-cons : {x : ℕ} {l : List ℕ} → [] ≡ x ∷ l → ⊥
@@ -58,7 +58,7 @@ module _ {s : State} (M : Mid s) (e : ℕ) (a : Abort) (h : s .endpoints e .abor
     kept-fits :
         (s .threads w .badge ≡ a .badge → ⊥) → EntryFits s e (bearing (passing w (some a)) (s .endpoints e))
     kept-fits n =
-        fits-some M e (record { badge = a .badge; owner = a .owner; pending = without w (a .pending) })
+        fits-some M e (record { badge = a .badge; pending = without w (a .pending) })
         (abort-live M e a h) (M .ranges .abort-badge e a h) part-passed
         (λ t g b.
         mem-keep w t (a .pending) (M .marks .none-outside e t a h g b)
@@ -74,7 +74,7 @@ look-some {s} e w l a M h p true q =
     (λ n. (refl, refl))
 look-some {s} e w l a M h p false q =
     mid-entry s e (bearing (passing w (s .endpoints e .abort)) (s .endpoints e)) refl M
-    (rw h (kept-fits M e a h w l p (λ k. clash (eq-eqb _ _ (sym k)) q))) (rw h refl)
+    (rw h (kept-fits M e a h w l p (λ k. clash (eq-eqb _ _ (sym k)) q))) (λ u k. rw h refl)
 
 pub mid-look :
     (e w : ℕ) (l : List ℕ) (s : State) → Mid s → pendingAt e s ≡ w ∷ l → Mid (look e w s)
@@ -89,41 +89,44 @@ mid-look e w l s M p = go (s .endpoints e .abort) refl p
 -- The entries have the same status, and the same abort but for what is pending.
 pub record SameAbort (x y : Endpoint) : Type 0 where
   pub status : x .status ≡ y .status
-  pub owner : ownerOf (x .abort) ≡ ownerOf (y .abort)
+  pub aborting : isAborting (x .abort) ≡ isAborting (y .abort)
   pub under : (b : ℕ) → underAbort b (x .abort) ≡ underAbort b (y .abort)
 
--- What a step leaves that wakes a waiter or passes it: who runs, every debt and, but for queues, every entry.
+-- What a step leaves that wakes a waiter or passes it: who runs, every thread's ticks and debt and, but for queues,
+-- every entry.
 pub record Steady (s s′ : State) : Type 0 where
   pub runs : s′ .runs ≡ s .runs
+  pub ticks : (t : ℕ) → s′ .threads t .ticks ≡ s .threads t .ticks
   pub debt : (t : ℕ) → s′ .threads t .debt ≡ s .threads t .debt
   pub entry : (e : ℕ) → SameAbort (s′ .endpoints e) (s .endpoints e)
 
 alike-self : (x : Endpoint) → SameAbort x x
-alike-self x = record { status = refl; owner = refl; under = λ b. refl }
+alike-self x = record { status = refl; aborting = refl; under = λ b. refl }
 
 pub steady-self : (s : State) → Steady s s
-steady-self s = record { runs = refl; debt = λ t. refl; entry = λ e. alike-self (s .endpoints e) }
+steady-self s = record { runs = refl; ticks = λ t. refl; debt = λ t. refl; entry = λ e. alike-self (s .endpoints e) }
 
 pub steady-then : {s s′ s″ : State} → Steady s s′ → Steady s′ s″ → Steady s s″
 steady-then F G =
     record {
       runs = G .runs ∙ F .runs;
+      ticks = λ t. G .ticks t ∙ F .ticks t;
       debt = λ t. G .debt t ∙ F .debt t;
       entry =
           λ e.
           record {
             status = G .entry e .status ∙ F .entry e .status;
-            owner = G .entry e .owner ∙ F .entry e .owner;
+            aborting = G .entry e .aborting ∙ F .entry e .aborting;
             under = λ b. G .entry e .under b ∙ F .entry e .under b;
           };
     }
 
 module _ (w : ℕ) where
-  passing-owner : (k : Option Abort) → ownerOf (passing w k) ≡ ownerOf k
-  passing-owner none = refl
-  passing-owner (some a) = refl
+  passing-aborting : (k : Option Abort) → isAborting (passing w k) ≡ isAborting k
+  passing-aborting none = refl
+  passing-aborting (some a) = refl
 
-  passing-under : (b : ℕ) (k : Option Abort) → underAbort b (passing w k) ≡ underAbort b k
+  pub passing-under : (b : ℕ) (k : Option Abort) → underAbort b (passing w k) ≡ underAbort b k
   passing-under b none = refl
   passing-under b (some a) = refl
 
@@ -135,7 +138,7 @@ module _ (w : ℕ) where
       put-all (λ k x. SameAbort x (f k)) f e _
       (record {
         status = refl;
-        owner = passing-owner (f e .abort);
+        aborting = passing-aborting (f e .abort);
         under = λ b. passing-under b (f e .abort);
       })
       (λ k n. alike-self (f k))
@@ -146,6 +149,7 @@ module _ (e w : ℕ) (s : State) where
   steady-wakeFrom o b m =
       record {
         runs = refl;
+        ticks = put-all (λ t x. x .ticks ≡ s .threads t .ticks) (s .threads) w _ refl (λ t n. refl);
         debt = put-all (λ t x. x .debt ≡ s .threads t .debt) (s .threads) w _ refl (λ t n. refl);
         entry = alike-passing w (s .endpoints) e (without w (s .endpoints e .waiters));
       }
@@ -156,6 +160,7 @@ module _ (e w : ℕ) (s : State) where
   steady-lookAt false =
       record {
         runs = refl;
+        ticks = λ t. refl;
         debt = λ t. refl;
         entry = alike-passing w (s .endpoints) e (s .endpoints e .waiters);
       }
@@ -204,48 +209,34 @@ module _ {s : State} (M : Mid s) (e : ℕ) where
             sends = sender;
           }
 
-  -- The abort of badge b that t begins may stand.
+  -- The abort of badge b that begins may stand.
   fits-begin :
-      (t b : ℕ) → s .endpoints e .status ≡ live → b < 2 ^ 28
-      → EntryFits s e (bearing (some (record { badge = b; owner = some t; pending = first-to-last })) (s .endpoints e))
-  fits-begin t b l h =
-      fits-some M e (record { badge = b; owner = some t; pending = first-to-last }) l h part-senders
+      (b : ℕ) → s .endpoints e .status ≡ live → b < 2 ^ 28
+      → EntryFits s e (bearing (some (record { badge = b; pending = first-to-last })) (s .endpoints e))
+  fits-begin b l h =
+      fits-some M e (record { badge = b; pending = first-to-last }) l h part-senders
       (λ u p q.
       only-keep (λ v. isSending (s .threads v .place)) u queue (M .queues .queued u e .1 (inl p))
       (ap isSending p))
 
-may-own : {s : State} {t : ℕ} (e : ℕ) → Present s t → May s t (owns e)
-may-own e p = record { in-range = λ h. tt; unused = λ h. absurd (p h) }
-
--- "Abort begins by storing cursor (first sender), end mark (last sender), badge and owner (the caller)."
-
-pub mid-begin :
-    (t e b : ℕ) (s : State) → Mid s → Present s t → s .threads t .debt ≡ nothing
-    → s .endpoints e .status ≡ live → s .endpoints e .abort ≡ none → b < 2 ^ 28 → Mid (begin t e b s)
-unfolding begin
-mid-begin t e b s M p d l n h =
-    mid-both s e (bearing (some (record { badge = b; owner = some t; pending = first-to-last M e })) (s .endpoints e))
-    refl t (owns e) M (may-own e p) (fits-begin M e t b l h)
-    (owners-claim (M .owners) t (owns e) e _ (ap ownerOf n) (λ f. nothing-owns d) refl refl)
-
--- "The same badge is joined; a joiner becomes owner only if there is none."
-
-mid-joinAs :
-    (o : Option ℕ) (t e : ℕ) (s : State) (a : Abort) → s .endpoints e .abort ≡ some a → ownerOf (some a) ≡ o → Mid s
-    → Present s t → (a .owner ≡ none → s .threads t .debt ≡ nothing) → Mid (joinAs o t e s)
-unfolding joinAs
-mid-joinAs (some u) t e s a h o M p d = M
-mid-joinAs none t e s a h o M p d =
-    mid-both s e (bearing (withOwner (some t) (s .endpoints e .abort)) (s .endpoints e)) refl t (owns e) M (may-own e p)
-    (fits-owner M e (some t))
-    (owners-claim (M .owners) t (owns e) e _ (ap ownerOf h ∙ o) (λ f. nothing-owns (d o))
-    (ap (λ (k : Option Abort). ownerOf (withOwner (some t) k)) h) refl)
+-- "An endpoint now keeps the set of all threads working on its abort": whoever joins is in it.
 
 pub mid-join :
-    (t e : ℕ) (s : State) (a : Abort) → s .endpoints e .abort ≡ some a → Mid s → Present s t
-    → (a .owner ≡ none → s .threads t .debt ≡ nothing) → Mid (join t e s)
+    (t e : ℕ) (s : State) → isAborting (s .endpoints e .abort) ≡ true → Mid s → Present s t → Mid (join t e s)
 unfolding join
-mid-join t e s a h M p d = mid-joinAs (ownerOf (s .endpoints e .abort)) t e s a h (ap ownerOf (sym h)) M p d
+mid-join t e s h M p =
+    mid-debt s t (works e) M (record { in-range = λ h. tt; unused = λ h. absurd (p h) })
+    (λ f k. subst (λ (i : ℕ). isAborting (s .endpoints i .abort) ≡ true) (works-one refl k) h)
+
+-- "Abort begins by storing cursor (first sender), end mark (last sender), badge" and the set, which has the caller.
+
+pub mid-begin :
+    (t e b : ℕ) (s : State) → Mid s → Present s t → s .endpoints e .status ≡ live → b < 2 ^ 28 → Mid (begin t e b s)
+unfolding begin
+mid-begin t e b s M p l h =
+    let x = bearing (some (record { badge = b; pending = first-to-last M e })) (s .endpoints e) in
+    mid-join t e (setEndpoint e x s) (ap (λ (y : Endpoint). isAborting (y .abort)) (put-same (s .endpoints) e x))
+    (mid-entry s e x refl M (fits-begin M e b l h) (λ u k. refl)) p
 
 -- "A look takes the cursor's waiter": as many looks as the allowance lets. The second argument is what is pending.
 

@@ -51,7 +51,7 @@ chosen-sound M C =
       chosen = C;
       statuses = M .statuses;
       marks = M .marks;
-      owners = M .owners;
+      members = M .members;
       outcomes = M .outcomes;
     }
 
@@ -70,7 +70,7 @@ mid-head s p t q M r e =
           (subst (λ (o : Option ℕ). Levels (s .threads) o (s .levels)) r (P .levels)) e (put-same (s .levels) p q)
           (put-else (s .levels) p q);
       lines = P .lines;
-      owned = P .owned;
+      sets = P .sets;
     })
 
 dispatched-sound : {s r : State} → Mid s → s .runs ≡ none → Dispatched s r → Sound r

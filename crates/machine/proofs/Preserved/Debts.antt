@@ -1,92 +1,48 @@
--- Ownerships and notes: dropping a thread's debt and ending an abort keep Mid, and what these steps leave as it was.
+-- Sets and notes: dropping a thread's debt and ending an abort keep Mid, and what these steps leave as it was.
 use Prim.Native.Nat.{ℕ, _≤_, _<_, _^_}
-use mathlib.Core.Path.{_≡_, refl, sym, _∙_, ap, subst}
-use mathlib.Core.Logic.{_↔_}
+use mathlib.Core.Path.{_≡_, refl, _∙_, ap, subst}
 use mathlib.Core.Option.{Option, none, some}
 use mathlib.Core.Bool.{Bool, true, false}
 use native.Mathlib.Omega.{arith}
-use lib.Dec.{leb}
-use borrow.Author.Tests.{leb-true, leb-false}
-use Rattle.machine.specs.Lists.{Mem}
-use Rattle.machine.specs.State.{State, sending, Debt, nothing, owns, noted, Abort, Status, missing, live, closing}
-use Rattle.machine.specs.State.{Endpoint, setThread, setEndpoint, withDebt}
-use Rattle.machine.specs.Endpoints.{ownerOf, withOwner, dropped, dropDebt, noteTo, note, endAbort}
-use Rattle.machine.specs.Sound.{Stretch, Owners}
+use lib.Dec.{eqb, leb}
+use borrow.Author.Tests.{eq-eqb, eqb-true, leb-true, leb-false}
+use Rattle.machine.specs.Lists.{pick, Mem}
+use Rattle.machine.specs.State.{State, sending, Debt, nothing, works, noted, Abort, Status, missing, live, closing}
+use Rattle.machine.specs.State.{Endpoint, setEndpoint}
+use Rattle.machine.specs.Endpoints.{isAborting, worksAt, dropDebt, informed, noteAll, note, endAbort}
+use Rattle.machine.specs.Sound.{DebtInRange, Stretch}
 use Rattle.machine.proofs.Preserved.Ready.{none-some, some-one}
-use Rattle.machine.proofs.Lists.{put-all, put-same}
+use Rattle.machine.proofs.Lists.{Same, same, other, same?, clash, put-same}
 use Rattle.machine.specs.Mid.{Mid}
-use Rattle.machine.proofs.Preserved.Statuses.{Keeps, keeps-self, May, EntryFits, may-stay, fits-stay, bearing}
-use Rattle.machine.proofs.Preserved.Statuses.{owing, owing-same}
-use Rattle.machine.proofs.Preserved.Statuses.{owing-other, keeps-debt, keeps-both, mid-debt, mid-entry, mid-both}
+use Rattle.machine.proofs.Preserved.Statuses.{Keeps, keeps-self, EntryFits, may-stay, fits-stay, bearing}
+use Rattle.machine.proofs.Preserved.Statuses.{owing-same, owing-other, keeps-debt, mid-keeps, mid-debt}
+use Rattle.machine.proofs.Preserved.Statuses.{mid-entry}
 
 -- Constructors told apart.
 
-pub nothing-owns : {d : Debt} {e : ℕ} → d ≡ nothing → d ≡ owns e → ⊥
-nothing-owns {d} {e} p q = let z : _≡_ {A = ℕ} 0 1 = cc in omega arith
+pub nothing-works : {d : Debt} {e : ℕ} → d ≡ nothing → d ≡ works e → ⊥
+nothing-works {d} {e} p q = let z : _≡_ {A = ℕ} 0 1 = cc in omega arith
 
-pub noted-owns : {d : Debt} {f b e : ℕ} → d ≡ noted f b → d ≡ owns e → ⊥
-noted-owns {d} {f} {b} {e} p q = let z : _≡_ {A = ℕ} 0 1 = cc in omega arith
+noted-works : {d : Debt} {f b e : ℕ} → d ≡ noted f b → d ≡ works e → ⊥
+noted-works {d} {f} {b} {e} p q = let z : _≡_ {A = ℕ} 0 1 = cc in omega arith
 
-pub owns-one : {d : Debt} {e f : ℕ} → d ≡ owns e → d ≡ owns f → e ≡ f
-owns-one {d} {e} {f} p q = cc
+pub works-one : {d : Debt} {e f : ℕ} → d ≡ works e → d ≡ works f → e ≡ f
+works-one {d} {e} {f} p q = cc
 
--- The debt is no ownership.
-abbrev pub NoOwner : Debt → Type 0
-NoOwner d = (e : ℕ) → d ≡ owns e → ⊥
+pub works-at : (e : ℕ) (d : Debt) → worksAt e d ≡ true → d ≡ works e
+works-at e nothing h = absurd (clash h refl)
+works-at e (works f) h = ap works (eqb-true f e h)
+works-at e (noted f b) h = absurd (clash h refl)
 
--- Owners and owing threads.
-
-module _ {s : State} (O : Owners s) (t : ℕ) (d : Debt) where
-  -- A thread that owned nothing owns nothing.
-  owners-free : NoOwner (s .threads t .debt) → NoOwner d → Owners (setThread t (withDebt d (s .threads t)) s)
-  owners-free was is =
-      record {
-        each-other =
-            λ f.
-            put-all (λ u z. (ownerOf (s .endpoints f .abort) ≡ some u) ↔ (z .debt ≡ owns f)) (s .threads) t
-            (withDebt d (s .threads t))
-            ((λ h. absurd (was f (O .each-other f t .0 h))), λ h. absurd (is f h)) (λ u n. O .each-other f u);
-      }
-
-  module _ (e : ℕ) (x : Endpoint) where
-    -- t and e name each other or neither names the other, and neither had another partner, nor has one now.
-    owners-both :
-        ((u : ℕ) → (u ≡ t → ⊥) → ownerOf (s .endpoints e .abort) ≡ some u → ⊥)
-        → ((u : ℕ) → (u ≡ t → ⊥) → ownerOf (x .abort) ≡ some u → ⊥)
-        → ((f : ℕ) → (f ≡ e → ⊥) → s .threads t .debt ≡ owns f → ⊥) → ((f : ℕ) → (f ≡ e → ⊥) → d ≡ owns f → ⊥)
-        → (ownerOf (x .abort) ≡ some t) ↔ (d ≡ owns e)
-        → Owners (setThread t (withDebt d (s .threads t)) (setEndpoint e x s))
-    owners-both was-owner is-owner was-debt is-debt pair =
-        record {
-          each-other =
-              put-all (λ f y. (u : ℕ) → (ownerOf (y .abort) ≡ some u) ↔ (owing s t d u .debt ≡ owns f))
-              (s .endpoints) e x
-              (put-all (λ u z. (ownerOf (x .abort) ≡ some u) ↔ (z .debt ≡ owns e)) (s .threads) t
-              (withDebt d (s .threads t)) pair
-              (λ u n. ((λ h. absurd (is-owner u n h)), λ h. absurd (was-owner u n (O .each-other e u .1 h)))))
-              (λ f m.
-              put-all (λ u z. (ownerOf (s .endpoints f .abort) ≡ some u) ↔ (z .debt ≡ owns f)) (s .threads) t
-              (withDebt d (s .threads t))
-              ((λ h. absurd (was-debt f m (O .each-other f t .0 h))), λ h. absurd (is-debt f m h))
-              (λ u n. O .each-other f u));
-        }
-
-    -- t owned the abort at e; now neither names the other.
-    pub owners-release :
-        s .threads t .debt ≡ owns e → ownerOf (x .abort) ≡ none → NoOwner d
-        → Owners (setThread t (withDebt d (s .threads t)) (setEndpoint e x s))
-    owners-release was gone free =
-        owners-both (λ u n h. n (some-one h (O .each-other e t .1 was))) (λ u n. none-some gone)
-        (λ f n h. n (owns-one h was)) (λ f n. free f) ((λ h. absurd (none-some gone h)), λ h. absurd (free e h))
-
-    -- The abort at e had no owner and t owned nothing; now t owns it.
-    pub owners-claim :
-        ownerOf (s .endpoints e .abort) ≡ none → NoOwner (s .threads t .debt)
-        → ownerOf (x .abort) ≡ some t → d ≡ owns e
-        → Owners (setThread t (withDebt d (s .threads t)) (setEndpoint e x s))
-    owners-claim was free now owes =
-        owners-both (λ u n. none-some was) (λ u n h. n (some-one h now)) (λ f n. free f)
-        (λ f n h. n (owns-one h owes)) ((λ h. owes), λ h. now)
+-- Where no abort stands nobody works.
+pub nobody-works :
+    {s : State} → Mid s → (e : ℕ) → isAborting (s .endpoints e .abort) ≡ false
+    → (u : ℕ) → worksAt e (s .threads u .debt) ≡ false
+nobody-works {s} M e h u = go (worksAt e (s .threads u .debt)) refl
+  where
+    go : (b : Bool) → worksAt e (s .threads u .debt) ≡ b → b ≡ false
+    go true w = absurd (clash (M .members .stands e u (works-at e (s .threads u .debt) w)) h)
+    go false w = refl
 
 -- Entries of endpoints.
 
@@ -150,90 +106,85 @@ module _ {s : State} (M : Mid s) (e : ℕ) where
             subst (λ (k : Abort). s .threads t .badge ≡ k .badge → Mem t (k .pending)) (some-one refl h) (o t g) i;
       }
 
-  -- Another owner may stand.
-  pub fits-owner : (o : Option ℕ) → EntryFits s e (bearing (withOwner o (s .endpoints e .abort)) (s .endpoints e))
-  fits-owner o = go (s .endpoints e .abort) refl
-    where
-      go : (k : Option Abort) → s .endpoints e .abort ≡ k → EntryFits s e (bearing (withOwner o k) (s .endpoints e))
-      go none h = subst (λ (k : Option Abort). EntryFits s e (bearing k (s .endpoints e))) h (fits-stay M e)
-      go (some a) h =
-          fits-some (record { badge = a .badge; owner = o; pending = a .pending }) (abort-live a h)
-          (M .ranges .abort-badge e a h) (M .marks .part e a h) (λ t. M .marks .none-outside e t a h)
+-- Leaving a set or losing a note.
 
--- Dropping a debt.
-
-disowned : (k : Option Abort) → ownerOf (withOwner none k) ≡ none
-disowned none = refl
-disowned (some a) = refl
-
-may-nothing : (s : State) (t : ℕ) → May s t nothing
-may-nothing s t = record { in-range = λ h. tt; unused = λ h. refl }
-
-module _ {s : State} (t : ℕ) (M : Mid s) where
-  -- A note goes.
-  pub mid-forget : (e b : ℕ) → s .threads t .debt ≡ noted e b → Mid (setThread t (withDebt nothing (s .threads t)) s)
-  mid-forget e b h =
-      mid-debt s t nothing M (may-nothing s t)
-      (owners-free (M .owners) t nothing (λ f. noted-owns h) (λ f. nothing-owns refl))
-
-  mid-dropped : (d : Debt) → s .threads t .debt ≡ d → Mid (dropped d t s)
-  unfolding dropped
-  mid-dropped nothing h = M
-  mid-dropped (owns e) h =
-      mid-both s e (bearing (withOwner none (s .endpoints e .abort)) (s .endpoints e)) refl t nothing M
-      (may-nothing s t) (fits-owner M e none)
-      (owners-release (M .owners) t nothing e (bearing (withOwner none (s .endpoints e .abort)) (s .endpoints e)) h
-      (disowned (s .endpoints e .abort)) (λ f. nothing-owns refl))
-  mid-dropped (noted e b) h = mid-forget e b h
-
--- What dropping t's debt leaves: every abort has its badge and what is pending, present exactly where it was.
+-- What dropping t's debt leaves.
 pub record Drops (t : ℕ) (s s′ : State) : Type 0 where
   pub keeps : Keeps s s′
   pub debt : s′ .threads t .debt ≡ nothing
   pub other-debt : (u : ℕ) → (u ≡ t → ⊥) → s′ .threads u .debt ≡ s .threads u .debt
   pub status : (e : ℕ) → s′ .endpoints e .status ≡ s .endpoints e .status
-  pub abort : (e : ℕ) → s′ .endpoints e .abort ≡ withOwner (ownerOf (s′ .endpoints e .abort)) (s .endpoints e .abort)
-
-same-owner : (k : Option Abort) → k ≡ withOwner (ownerOf k) k
-same-owner none = refl
-same-owner (some a) = refl
-
-new-owner : (o : Option ℕ) (k : Option Abort) → withOwner o k ≡ withOwner (ownerOf (withOwner o k)) k
-new-owner o none = refl
-new-owner o (some a) = refl
+  pub abort : (e : ℕ) → s′ .endpoints e .abort ≡ s .endpoints e .abort
 
 module _ (s : State) (t : ℕ) where
-  drops : (d : Debt) → s .threads t .debt ≡ d → Drops t s (dropped d t s)
-  unfolding dropped
-  drops nothing h =
-      record {
-        keeps = keeps-self s;
-        debt = h;
-        other-debt = λ u n. refl;
-        status = λ e. refl;
-        abort = λ e. same-owner (s .endpoints e .abort);
-      }
-  drops (owns e) h =
-      record {
-        keeps = keeps-both s e (bearing (withOwner none (s .endpoints e .abort)) (s .endpoints e)) refl t nothing;
-        debt = owing-same s t nothing;
-        other-debt = owing-other s t nothing;
-        status =
-            put-all (λ f y. y .status ≡ s .endpoints f .status) (s .endpoints) e
-            (bearing (withOwner none (s .endpoints e .abort)) (s .endpoints e)) refl (λ f n. refl);
-        abort =
-            put-all (λ f y. y .abort ≡ withOwner (ownerOf (y .abort)) (s .endpoints f .abort)) (s .endpoints) e
-            (bearing (withOwner none (s .endpoints e .abort)) (s .endpoints e))
-            (new-owner none (s .endpoints e .abort)) (λ f n. same-owner (s .endpoints f .abort));
-      }
-  drops (noted e b) h =
+  pub dropDebt-drops : Drops t s (dropDebt t s)
+  unfolding dropDebt
+  dropDebt-drops =
       record {
         keeps = keeps-debt s t nothing;
         debt = owing-same s t nothing;
         other-debt = owing-other s t nothing;
         status = λ e. refl;
-        abort = λ e. same-owner (s .endpoints e .abort);
+        abort = λ e. refl;
       }
+
+  pub mid-dropDebt : Mid s → Mid (dropDebt t s)
+  unfolding dropDebt
+  mid-dropDebt M =
+      mid-debt s t nothing M (record { in-range = λ h. tt; unused = λ h. refl }) (λ e h. absurd (nothing-works refl h))
+
+-- Members get their notes.
+
+module _ (e b : ℕ) where
+  informed-nothing : {d : Debt} → d ≡ nothing → informed e b d ≡ nothing
+  informed-nothing h = ap (informed e b) h
+
+  -- Who is in no set at e keeps what it has.
+  pub informed-other : (d : Debt) → worksAt e d ≡ false → informed e b d ≡ d
+  informed-other nothing h = refl
+  informed-other (works f) h = rw h refl
+  informed-other (noted f c) h = refl
+
+  -- A member has its note.
+  pub informed-member : (d : Debt) → d ≡ works e → informed e b d ≡ noted e b
+  informed-member d h = ap (informed e b) h ∙ rw (eq-eqb e e refl) refl
+
+  -- Nobody works at e then, and who works elsewhere did.
+  informed-works : (d : Debt) (f : ℕ) → informed e b d ≡ works f → (d ≡ works f) × (f ≡ e → ⊥)
+  informed-works nothing f h = absurd (nothing-works refl h)
+  informed-works (works k) f h = go (same? k e)
+    where
+      go : Same k e → (works k ≡ works f) × (f ≡ e → ⊥)
+      go (same i q) = absurd (noted-works {f = e} {b = b} refl (rw q at h))
+      go (other n q) = let g : works k ≡ works f = rw q at h in (g, λ i. n (works-one refl g ∙ i))
+  informed-works (noted k c) f h = absurd (noted-works refl h)
+
+  informed-range : (d : Debt) → (e ≤ 63) × (b < 2 ^ 28) → DebtInRange d → DebtInRange (informed e b d)
+  informed-range nothing r h = tt
+  informed-range (works k) r h = go (eqb k e)
+    where
+      go : (q : Bool) → DebtInRange (pick q (noted e b) (works k))
+      go true = r
+      go false = tt
+  informed-range (noted k c) r h = h
+
+module _ (s : State) (e b : ℕ) where
+  pub keeps-noteAll : Keeps s (noteAll e b s)
+  unfolding noteAll
+  keeps-noteAll =
+      record { runs = refl; level = λ p. refl; line = λ l. refl; thread = λ t. refl; waiters = λ f. refl }
+
+  mid-noteAll : Mid s → (e ≤ 63) × (b < 2 ^ 28) → Mid (noteAll e b s)
+  unfolding noteAll
+  mid-noteAll M r =
+      mid-keeps keeps-noteAll M
+      (λ t.
+      record {
+        in-range = λ h. informed-range e b (s .threads t .debt) r (may-stay M t .in-range h);
+        unused = λ h. informed-nothing e b (may-stay M t .unused h);
+      })
+      (fits-stay M)
+      (record { stands = λ f t h. M .members .stands f t (informed-works e b (s .threads t .debt) f h .0) })
 
 -- Ending an abort.
 
@@ -243,53 +194,29 @@ module _ {s : State} (M : Mid s) (e : ℕ) (status : Status) where
   cleared = record { status = status; waiters = s .endpoints e .waiters; abort = none }
 
   module _ (now : status ≡ missing → ⊥) (was : s .endpoints e .status ≡ missing → ⊥) where
-    may-note : (u : ℕ) (a : Abort) → s .endpoints e .abort ≡ some a → a .owner ≡ some u → May s u (noted e (a .badge))
-    may-note u a h o =
-        record {
-          in-range = λ p. (low M e was, M .ranges .abort-badge e a h);
-          unused =
-              λ p.
-              absurd
-              (nothing-owns (may-stay M u .unused p) (M .owners .each-other e u .0 (ap ownerOf h ∙ o)));
-        }
-
-    unowned : ownerOf (s .endpoints e .abort) ≡ none → Mid (setEndpoint e cleared s)
-    unowned h = mid-entry s e cleared refl M (fits-none M e status now was) (sym h)
-
-    mid-noteTo : (o : Option ℕ) (a : Abort) → s .endpoints e .abort ≡ some a → a .owner ≡ o
-        → Mid (setEndpoint e cleared (noteTo o e (a .badge) s))
-    unfolding noteTo
-    mid-noteTo none a h o = unowned (ap ownerOf h ∙ o)
-    mid-noteTo (some u) a h o =
-        mid-both s e cleared refl u (noted e (a .badge)) M (may-note u a h o) (fits-none M e status now was)
-        (owners-release (M .owners) u (noted e (a .badge)) e cleared
-        (M .owners .each-other e u .0 (ap ownerOf h ∙ o)) refl (λ f. noted-owns refl))
-
     mid-note : (k : Option Abort) → s .endpoints e .abort ≡ k → Mid (setEndpoint e cleared (note k e s))
-    unfolding note
-    mid-note none h = unowned (ap ownerOf h)
-    mid-note (some a) h = mid-noteTo (a .owner) a h refl
+    unfolding note noteAll
+    mid-note none h =
+        mid-entry s e cleared refl M (fits-none M e status now was)
+        (λ u w. absurd (clash (M .members .stands e u w) (ap isAborting h)))
+    mid-note (some a) h =
+        let N = mid-noteAll s e (a .badge) M (low M e was, M .ranges .abort-badge e a h) in
+        mid-entry (noteAll e (a .badge) s) e cleared refl N (fits-none N e status now was)
+        (λ u w. absurd (informed-works e (a .badge) (s .threads u .debt) e w .1 refl))
 
--- What ending the abort leaves: a thread that did not own it has the debt it had.
+-- What ending the abort leaves: whoever did not work on it has the debt it had.
 module _ (s : State) (e : ℕ) where
   note-keeps : (k : Option Abort) → Keeps s (note k e s)
-  unfolding note noteTo
+  unfolding note
   note-keeps none = keeps-self s
-  note-keeps (some a) = go (a .owner)
-    where
-      go : (o : Option ℕ) → Keeps s (noteTo o e (a .badge) s)
-      go none = keeps-self s
-      go (some u) = keeps-debt s u (noted e (a .badge))
+  note-keeps (some a) = keeps-noteAll s e (a .badge)
 
   note-debt :
-      (k : Option Abort) (t : ℕ) → (ownerOf k ≡ some t → ⊥) → note k e s .threads t .debt ≡ s .threads t .debt
-  unfolding note noteTo
+      (k : Option Abort) (t : ℕ) → worksAt e (s .threads t .debt) ≡ false
+      → note k e s .threads t .debt ≡ s .threads t .debt
+  unfolding note noteAll
   note-debt none t n = refl
-  note-debt (some a) t n = go (a .owner) n
-    where
-      go : (o : Option ℕ) → (o ≡ some t → ⊥) → noteTo o e (a .badge) s .threads t .debt ≡ s .threads t .debt
-      go none n = refl
-      go (some u) n = owing-other s u (noted e (a .badge)) t (λ h. n (ap some (sym h)))
+  note-debt (some a) t n = informed-other e (a .badge) (s .threads t .debt) n
 
   pub endAbort-entry :
       (status : Status)
@@ -305,22 +232,12 @@ module _ (s : State) (e : ℕ) where
   endAbort-runs status = note-keeps (s .endpoints e .abort) .runs
 
   pub endAbort-debt :
-      (status : Status) (t : ℕ) → (ownerOf (s .endpoints e .abort) ≡ some t → ⊥)
+      (status : Status) (t : ℕ) → worksAt e (s .threads t .debt) ≡ false
       → endAbort status e s .threads t .debt ≡ s .threads t .debt
   unfolding endAbort
   endAbort-debt status t n = note-debt (s .endpoints e .abort) t n
 
--- "The owner's accepted other call 7 to 12, or its destruction, drops note and ownership."
-
-pub mid-dropDebt : (s : State) (t : ℕ) → Mid s → Mid (dropDebt t s)
-unfolding dropDebt
-mid-dropDebt s t M = mid-dropped t M (s .threads t .debt) refl
-
-pub dropDebt-drops : (s : State) (t : ℕ) → Drops t s (dropDebt t s)
-unfolding dropDebt
-dropDebt-drops s t = drops s t (s .threads t .debt) refl
-
--- "If an abort ends by another's call, its owner gets a note": the endpoint is present before and after.
+-- "When the abort ends, each member but the caller has a note": the endpoint is present before and after.
 
 pub mid-endAbort :
     (status : Status) (e : ℕ) (s : State) → (status ≡ missing → ⊥) → (s .endpoints e .status ≡ missing → ⊥)

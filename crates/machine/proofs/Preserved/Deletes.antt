@@ -6,7 +6,7 @@ use mathlib.Core.Option.{none, some}
 use mathlib.Core.List.{List, [], _∷_}
 use native.Mathlib.Omega.{arith}
 use Rattle.machine.specs.State.{State, Status, missing, live, closing, Endpoint, missingEndpoint, setEndpoint}
-use Rattle.machine.specs.Endpoints.{ownerOf, wakeFrom, dropDebt, endAbort}
+use Rattle.machine.specs.Endpoints.{isAborting, wakeFrom, dropDebt, endAbort}
 use Rattle.machine.specs.Aborts.{Removal, oneMore, removeUpTo, deleted, deleteFrom, deleteAt, delete}
 use Rattle.machine.specs.Sound.{Sound}
 use Rattle.machine.specs.Mid.{Mid}
@@ -16,6 +16,7 @@ use Rattle.machine.proofs.Preserved.Debts.{live-present, closing-presen
 use Rattle.machine.proofs.Preserved.Ready.{none-some}
 use Rattle.machine.proofs.Preserved.Debts.{dropDebt-drops, mid-endAbort, endAbort-entry}
 use Rattle.machine.proofs.Preserved.Waking.{mid-wakeFrom}
+use Rattle.machine.proofs.Lists.{clash}
 use Rattle.machine.proofs.Preserved.AbortSteps.{Steady, steady-self, steady-then, steady-wakeFrom}
 use Rattle.machine.proofs.Preserved.Choosing.{choose-sound}
 
@@ -31,7 +32,7 @@ mid-removes (suc n) (w ∷ l) e s h M =
     (mid-wakeFrom s e w 4 0 0 M (M .queues .queued w e .0 (rw h (inl refl))) (omega arith) (omega arith) (omega arith)
     (λ n. (refl, refl)))
 
-steady-removes : (n : ℕ) (l : List ℕ) (e : ℕ) (s : State) → Steady s (removeUpTo n l e s .state)
+pub steady-removes : (n : ℕ) (l : List ℕ) (e : ℕ) (s : State) → Steady s (removeUpTo n l e s .state)
 unfolding removeUpTo oneMore
 steady-removes zero l e s = steady-self s
 steady-removes (suc n) [] e s = steady-self s
@@ -40,7 +41,7 @@ steady-removes (suc n) (w ∷ l) e s =
     (steady-removes n (wakeFrom e w 4 0 0 s .endpoints e .waiters) e (wakeFrom e w 4 0 0 s))
 
 -- An empty endpoint without an abort may be absent.
-mid-missing :
+pub mid-missing :
     (e : ℕ) (s : State) → Mid s → s .endpoints e .waiters ≡ [] → s .endpoints e .abort ≡ none
     → Mid (setEndpoint e missingEndpoint s)
 mid-missing e s M w a =
@@ -53,7 +54,7 @@ mid-missing e s M w a =
       part = λ b h. absurd (none-some refl h);
       none-outside = λ t b h. absurd (none-some refl h);
     })
-    (sym (ap ownerOf a))
+    (λ u h. absurd (clash (M .members .stands e u h) (ap isAborting a)))
 
 deleted-sound :
     (l : List ℕ) (e : ℕ) (r : Removal) → r .state .endpoints e .waiters ≡ l → Mid (r .state)

@@ -36,7 +36,7 @@ mid-line s l x M low free free′ =
       lines =
           lines-set (s .threads) (put (s .lines) l x) l (P .lines) low free
           (λ u h. free′ u (sym (put-same (s .lines) l x) ∙ h)) (put-else (s .lines) l x);
-      owned = P .owned;
+      sets = P .sets;
     })
 
 -- "Interrupt: a waiter on the line is woken; otherwise the line is pending": interrupt.

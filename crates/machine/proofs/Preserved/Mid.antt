@@ -10,6 +10,6 @@ sound-mid S =
       queues = S .queues;
       statuses = S .statuses;
       marks = S .marks;
-      owners = S .owners;
+      members = S .members;
       outcomes = S .outcomes;
     }

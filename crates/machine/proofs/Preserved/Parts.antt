@@ -1,13 +1,14 @@
--- Mid taken apart: what it says of each thread, of each endpoint, of the ready queues, of the lines and of ownership.
+-- Mid taken apart: what it says of each thread, of each endpoint, of the ready queues, of the lines and of the sets.
 use Prim.Native.Nat.{ℕ, _<_, _^_}
 use mathlib.Core.Path.{_≡_, refl, subst}
 use mathlib.Core.Logic.{_⊎_, _↔_}
+use mathlib.Core.Bool.{true}
 use mathlib.Core.Option.{Option, none, some}
 use mathlib.Core.List.{List, [], _++_}
 use Rattle.machine.specs.Lists.{Mem, Distinct}
-use Rattle.machine.specs.State.{State, Thread, Place, absent, able, sending, receiving, waiting, owns, Abort}
+use Rattle.machine.specs.State.{State, Thread, Place, absent, able, sending, receiving, waiting, works, Abort}
 use Rattle.machine.specs.State.{Endpoint, missing, live, Line, quiet, awaited, absentThread, missingEndpoint}
-use Rattle.machine.specs.Endpoints.{ownerOf}
+use Rattle.machine.specs.Endpoints.{isAborting}
 use Rattle.machine.specs.Sound.{Stores, Numbers}
 use Rattle.machine.specs.Mid.{Mid}
 
@@ -60,16 +61,16 @@ pub record LinesFit (f : ℕ → Thread) (lines : ℕ → Line) : Type 0 where
   pub unused : (l : ℕ) → 31 < l → lines l ≡ quiet
   pub on-line : (t l : ℕ) → (lines l ≡ awaited t) ↔ (f t .place ≡ waiting l)
 
--- Of ownership.
-abbrev pub Owned : (ℕ → Thread) → (ℕ → Endpoint) → Type 0
-Owned f ends = (e t : ℕ) → (ownerOf (ends e .abort) ≡ some t) ↔ (f t .debt ≡ owns e)
+-- Of the sets.
+abbrev pub SetsFit : (ℕ → Thread) → (ℕ → Endpoint) → Type 0
+SetsFit f ends = (e t : ℕ) → f t .debt ≡ works e → isAborting (ends e .abort) ≡ true
 
 pub record Parts (s : State) : Type 0 where
   pub entry : (t : ℕ) → Entry t (s .threads t)
   pub site : (e : ℕ) → Site (s .threads) e (s .endpoints e)
   pub levels : Levels (s .threads) (s .runs) (s .levels)
   pub lines : LinesFit (s .threads) (s .lines)
-  pub owned : Owned (s .threads) (s .endpoints)
+  pub sets : SetsFit (s .threads) (s .endpoints)
 
 marked-of : (s : State) (e : ℕ) → Mid s → AbortFits (s .threads) e (s .endpoints e .waiters) (s .endpoints e .abort)
 marked-of s e M = go (s .endpoints e .abort) refl
@@ -120,7 +121,7 @@ parts {s} M =
             once = M .queues .ready-once;
           };
       lines = record { unused = M .ranges .unused-line; on-line = M .queues .on-line };
-      owned = M .owners .each-other;
+      sets = M .members .stands;
     }
 
 pub whole : {s : State} → Parts s → Mid s
@@ -151,6 +152,6 @@ whole {s} P =
                 record { before = p .before; behind = p .behind; within = p .within; sends = p .sends };
             none-outside = λ e t a h. standing-of s e a P h .none-outside t;
           };
-      owners = record { each-other = P .owned };
+      members = record { stands = P .sets };
       outcomes = record { blocked = λ t. P .entry t .blocked; stored = λ t. P .entry t .stored };
     }

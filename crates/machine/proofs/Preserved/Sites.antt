@@ -1,4 +1,4 @@
--- Endpoints, lines and ownership, when one thread t changes its entry and joins or leaves a queue or a line.
+-- Endpoints, lines and sets, when one thread t changes its entry and joins or leaves a queue or a line.
 use Prim.Native.Nat.{ℕ, _≤_, _<_}
 use mathlib.Core.Path.{_≡_, refl, sym, _∙_, ap, subst}
 use mathlib.Core.Logic.{inl, inr, _↔_, ⊎-elim}
@@ -10,12 +10,12 @@ use lib.Dec.{eqb}
 use borrow.Author.Tests.{eq-eqb}
 use Rattle.machine.specs.Lists.{without, Mem}
 use Rattle.machine.specs.State.{Thread, Place, absent, able, sending, receiving, waiting, Abort, missing, live}
-use Rattle.machine.specs.State.{Endpoint, Line, quiet, pending, awaited, missingEndpoint}
-use Rattle.machine.specs.Endpoints.{underAbort, ownerOf, passing}
+use Rattle.machine.specs.State.{Endpoint, Line, quiet, awaited, missingEndpoint}
+use Rattle.machine.specs.Endpoints.{underAbort, isAborting, passing}
 use Rattle.machine.proofs.Lists.{Same, same, other, same?, clash, mem-left, mem-without, mem-keep}
 use Rattle.machine.proofs.Lists.{at-tail, inserted-mem, inserted-only, inserted-once, distinct-without}
 use Rattle.machine.proofs.Lists.{without-append}
-use Rattle.machine.proofs.Preserved.Parts.{At, AbortFits, Site, LinesFit, Owned}
+use Rattle.machine.proofs.Preserved.Parts.{At, AbortFits, Site, LinesFit, SetsFit}
 use Rattle.machine.proofs.Preserved.Ready.{Else}
 
 -- Places of different kinds are different.
@@ -46,10 +46,10 @@ left t x = record { status = x .status; waiters = without t (x .waiters); abort 
 abbrev pub joined : ℕ → Endpoint → Endpoint
 joined t x = record { status = x .status; waiters = x .waiters ++ (t ∷ []); abort = x .abort }
 
-pub left-owner : (t : ℕ) (x : Endpoint) → ownerOf (left t x .abort) ≡ ownerOf (x .abort)
-left-owner t x = go (x .abort)
+pub left-aborting : (t : ℕ) (x : Endpoint) → isAborting (left t x .abort) ≡ isAborting (x .abort)
+left-aborting t x = go (x .abort)
   where
-    go : (a : Option Abort) → ownerOf (passing t a) ≡ ownerOf a
+    go : (a : Option Abort) → isAborting (passing t a) ≡ isAborting a
     go none = refl
     go (some a) = refl
 
@@ -327,9 +327,9 @@ lines-set f {lines} now l S low free free′ rest =
     on-line u k (same i _) = rw i (λ h. absurd (free′ u h), λ h. absurd (free u (S .on-line u l .1 h)))
     on-line u k (other n _) = rw (rest k n) (S .on-line u k)
 
--- Ownership
+-- Sets
 
-pub owned-same :
+pub sets-same :
     (f g : ℕ → Thread) (ends now : ℕ → Endpoint) → ((u : ℕ) → g u .debt ≡ f u .debt)
-    → ((e : ℕ) → ownerOf (now e .abort) ≡ ownerOf (ends e .abort)) → Owned f ends → Owned g now
-owned-same f g ends now debt owner S e t = rw (debt t, owner e) (S e t)
+    → ((e : ℕ) → isAborting (now e .abort) ≡ isAborting (ends e .abort)) → SetsFit f ends → SetsFit g now
+sets-same f g ends now debt aborting S e t = rw (debt t, aborting e) (S e t)

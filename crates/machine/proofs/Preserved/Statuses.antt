@@ -1,14 +1,14 @@
 -- Steps that change only debts, aborts and statuses, while every queue stands: they keep Mid where what is new fits.
 use Prim.Native.Nat.{ℕ, _<_, _^_}
 use mathlib.Core.Path.{_≡_, refl, sym, _∙_, ap}
-use mathlib.Core.Logic.{_↔_}
+use mathlib.Core.Bool.{true}
 use mathlib.Core.Option.{Option, none, some}
 use mathlib.Core.List.{List, []}
 use Rattle.machine.specs.Lists.{put, Mem}
-use Rattle.machine.specs.State.{State, Thread, absent, sending, Debt, nothing, owns, Abort, missing, live}
+use Rattle.machine.specs.State.{State, Thread, absent, sending, Debt, nothing, works, Abort, missing, live}
 use Rattle.machine.specs.State.{Endpoint, missingEndpoint, setThread, setEndpoint, withDebt}
-use Rattle.machine.specs.Endpoints.{ownerOf}
-use Rattle.machine.specs.Sound.{Present, DebtInRange, Numbers, Stretch, Ranges, Queues, Owners, Outcomes}
+use Rattle.machine.specs.Endpoints.{isAborting}
+use Rattle.machine.specs.Sound.{Present, DebtInRange, Numbers, Stretch, Ranges, Queues, Members, Outcomes}
 use Rattle.machine.proofs.Lists.{put-all, put-same, put-other}
 use Rattle.machine.specs.Mid.{Mid}
 
@@ -23,6 +23,16 @@ pub record Keeps (s s′ : State) : Type 0 where
 pub keeps-self : (s : State) → Keeps s s
 keeps-self s =
     record { runs = refl; level = λ p. refl; line = λ l. refl; thread = λ t. refl; waiters = λ e. refl }
+
+pub keeps-then : {s s′ s″ : State} → Keeps s s′ → Keeps s′ s″ → Keeps s s″
+keeps-then {s} {s′} {s″} K L =
+    record {
+      runs = L .runs ∙ K .runs;
+      level = λ p. L .level p ∙ K .level p;
+      line = λ l. L .line l ∙ K .line l;
+      thread = λ t. L .thread t ∙ ap (withDebt (s″ .threads t .debt)) (K .thread t);
+      waiters = λ e. L .waiters e ∙ K .waiters e;
+    }
 
 -- The debt d is one that thread t may have.
 pub record May (s : State) (t : ℕ) (d : Debt) : Type 0 where
@@ -137,8 +147,8 @@ module _ {s s′ : State} (K : Keeps s s′) where
           abort-badge = λ e. fits e .badge;
         }
 
-    -- Mid is kept where the new debts and entries fit, and owners and owing threads name each other.
-    pub mid-keeps : Owners s′ → Mid s′
+    -- Mid is kept where the new debts and entries fit, and an abort stands wherever a thread works.
+    pub mid-keeps : Members s′ → Mid s′
     mid-keeps O =
         record {
           ranges = keeps-ranges;
@@ -150,7 +160,7 @@ module _ {s s′ : State} (K : Keeps s s′) where
                 none-outside =
                     λ e t a h g b. fits e .none-outside t a h (sym (keeps-place t) ∙ g) (sym (keeps-badge t) ∙ b);
               };
-          owners = O;
+          members = O;
           outcomes = keeps-outcomes (M .outcomes);
         }
 
@@ -187,9 +197,16 @@ module _ (s : State) (t : ℕ) (d : Debt) where
 
   -- The debt alone changes.
   pub mid-debt :
-      Mid s → May s t d → Owners (setThread t (withDebt d (s .threads t)) s)
+      Mid s → May s t d → ((e : ℕ) → d ≡ works e → isAborting (s .endpoints e .abort) ≡ true)
       → Mid (setThread t (withDebt d (s .threads t)) s)
-  mid-debt M m O = mid-keeps keeps-debt M (may-owe M m) (fits-stay M) O
+  mid-debt M m h =
+      mid-keeps keeps-debt M (may-owe M m) (fits-stay M)
+      (record {
+        stands =
+            λ e.
+            put-all (λ u y. y .debt ≡ works e → isAborting (s .endpoints e .abort) ≡ true) (s .threads) t
+            (withDebt d (s .threads t)) (h e) (λ u n. M .members .stands e u);
+      })
 
 module _ (s : State) (e : ℕ) (x : Endpoint) (w : x .waiters ≡ s .endpoints e .waiters) where
   keeps-waiters : (f : ℕ) → put (s .endpoints) e x f .waiters ≡ s .endpoints f .waiters
@@ -208,31 +225,14 @@ module _ (s : State) (e : ℕ) (x : Endpoint) (w : x .waiters ≡ s .endpoints e
         waiters = keeps-waiters;
       }
 
-  pub keeps-both : (t : ℕ) (d : Debt) → Keeps s (setThread t (withDebt d (s .threads t)) (setEndpoint e x s))
-  keeps-both t d =
-      record {
-        runs = refl;
-        level = λ p. refl;
-        line = λ l. refl;
-        thread = keeps-thread s t d;
-        waiters = keeps-waiters;
-      }
-
-  -- The entry alone changes, and its owner does not.
+  -- The entry alone changes, and an abort stands in it if a thread works there.
   pub mid-entry :
-      Mid s → EntryFits s e x → ownerOf (x .abort) ≡ ownerOf (s .endpoints e .abort) → Mid (setEndpoint e x s)
+      Mid s → EntryFits s e x → ((u : ℕ) → s .threads u .debt ≡ works e → isAborting (x .abort) ≡ true)
+      → Mid (setEndpoint e x s)
   mid-entry M h o =
       mid-keeps keeps-entry M (may-stay M) (fits-all M h)
       (record {
-        each-other =
-            put-all (λ f y. (u : ℕ) → (ownerOf (y .abort) ≡ some u) ↔ (s .threads u .debt ≡ owns f))
-            (s .endpoints) e x
-            (λ u. rw o (M .owners .each-other e u)) (λ f n. M .owners .each-other f);
+        stands =
+            put-all (λ f y. (u : ℕ) → s .threads u .debt ≡ works f → isAborting (y .abort) ≡ true) (s .endpoints) e x o
+            (λ f n. M .members .stands f);
       })
-
-  -- Both change.
-  pub mid-both :
-      (t : ℕ) (d : Debt) → Mid s → May s t d → EntryFits s e x
-      → Owners (setThread t (withDebt d (s .threads t)) (setEndpoint e x s))
-      → Mid (setThread t (withDebt d (s .threads t)) (setEndpoint e x s))
-  mid-both t d M m h O = mid-keeps (keeps-both t d) M (may-owe s t d M m) (fits-all M h) O

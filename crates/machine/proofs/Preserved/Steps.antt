@@ -23,7 +23,7 @@ use Rattle.machine.proofs.Preserved.Threads.{create-sound, destroy-soun
 use Rattle.machine.proofs.Preserved.Threads.{yield-sound}
 use Rattle.machine.proofs.Preserved.Transfers.{endpoint-sound, send-sound, receive-sound}
 use Rattle.machine.proofs.Preserved.Interrupts.{interrupt-sound, wait-sound}
-use Rattle.machine.proofs.Preserved.Debts.{nothing-owns}
+use Rattle.machine.proofs.Preserved.Debts.{nothing-works}
 use Rattle.machine.proofs.Preserved.Deletes.{delete-sound}
 use Rattle.machine.proofs.Preserved.Aborts.{abort-sound}
 
@@ -98,7 +98,7 @@ fresh-sound =
           record { none-above = λ t u h. absurd (none-some refl h); none-ready = λ h u r. differ (r .0) refl refl };
       statuses = record { empty = λ e h. refl; no-abort = λ e h. refl };
       marks = record { part = λ e a h. absurd (none-some refl h); none-outside = λ e t a h. absurd (none-some refl h) };
-      owners = record { each-other = λ e t. (λ h. absurd (none-some refl h), λ h. absurd (nothing-owns refl h)) };
+      members = record { stands = λ e t h. absurd (nothing-works refl h) };
       outcomes = record { blocked = λ t h. refl; stored = λ t h. (refl, refl) };
     }
 

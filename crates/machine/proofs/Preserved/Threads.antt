@@ -13,7 +13,7 @@ use Rattle.machine.specs.State.{State, Thread, Place, absent, able, send
 use Rattle.machine.specs.State.{Endpoint, Line, quiet, absentThread, setThread, setLine, withPriority}
 use Rattle.machine.specs.State.{withTicks}
 use Rattle.machine.specs.Scheduling.{enqueue, unqueue, standDown}
-use Rattle.machine.specs.Endpoints.{ownerOf, leaveEndpoint, dropDebt}
+use Rattle.machine.specs.Endpoints.{isAborting, leaveEndpoint, dropDebt}
 use Rattle.machine.specs.Machine.{isAbsent, isAble, isRunning, createIf, createThread, leaveReady, leave}
 use Rattle.machine.specs.Machine.{destroyIf, destroyThread, moveReady, changeUnless, priorityIf, setPriority}
 use Rattle.machine.specs.Machine.{leaveTicks, tickFor, tick, yield}
@@ -25,9 +25,9 @@ use Rattle.machine.proofs.Preserved.Parts.{At, Entry, Levels, Site, Lin
 use Rattle.machine.proofs.Preserved.Ready.{Else, put-else, put-keeps, put-place, none-some, some-one}
 use Rattle.machine.proofs.Preserved.Ready.{levels-aside}
 use Rattle.machine.proofs.Preserved.Ready.{levels-runs, levels-stop, levels-join, levels-leave}
-use Rattle.machine.proofs.Preserved.Sites.{differ, not-at, at-one, left, left-owner, site-aside, site-leave}
+use Rattle.machine.proofs.Preserved.Sites.{differ, not-at, at-one, left, left-aborting, site-aside, site-leave}
 use Rattle.machine.proofs.Preserved.Sites.{site-same}
-use Rattle.machine.proofs.Preserved.Sites.{lines-aside, lines-leave, lines-same, owned-same}
+use Rattle.machine.proofs.Preserved.Sites.{lines-aside, lines-leave, lines-same, sets-same}
 use Rattle.machine.proofs.Preserved.Waking.{mid-standDown}
 use Rattle.machine.proofs.Preserved.Choosing.{choose-sound}
 use Rattle.machine.proofs.Preserved.Statuses.{keeps-place}
@@ -86,10 +86,10 @@ mid-new s t p M gone ht hp =
           (λ h. differ gone h refl) now
           refl (at-tail t (s .levels q)) (put-same (s .levels) q _) (put-else (s .levels) q _);
       lines = lines-aside t f g away (P .lines) (λ l h. differ gone h refl) (λ l h. differ now h refl);
-      owned =
-          owned-same f g (s .endpoints) (s .endpoints)
+      sets =
+          sets-same f g (s .endpoints) (s .endpoints)
           (put-keeps (λ y. y .debt) f t (newThread p) (sym (ap (λ (y : Thread). y .debt) (P .entry t .unused gone))))
-          (λ e. refl) (P .owned);
+          (λ e. refl) (P .sets);
     })
 
 -- "A thread starts with 5 ticks and outcome 0": create thread.
@@ -131,9 +131,9 @@ module _ (s : State) (t : ℕ) (M : Mid s) (free : s .threads t .debt ≡ nothin
   mid-gone :
       (runs : Option ℕ) (levels : ℕ → List ℕ) (ends : ℕ → Endpoint) (lines : ℕ → Line)
       → Levels (gone (s .threads) t) runs levels → ((e : ℕ) → Site (gone (s .threads) t) e (ends e))
-      → ((e : ℕ) → ownerOf (ends e .abort) ≡ ownerOf (s .endpoints e .abort)) → LinesFit (gone (s .threads) t) lines
+      → ((e : ℕ) → isAborting (ends e .abort) ≡ isAborting (s .endpoints e .abort)) → LinesFit (gone (s .threads) t) lines
       → Mid (record { threads = gone (s .threads) t; runs = runs; levels = levels; endpoints = ends; lines = lines })
-  mid-gone runs levels ends lines L S owner K =
+  mid-gone runs levels ends lines L S aborting K =
       let P = parts M in
       let f = s .threads in
       whole
@@ -142,9 +142,9 @@ module _ (s : State) (t : ℕ) (M : Mid s) (free : s .threads t .debt ≡ nothin
         site = S;
         levels = L;
         lines = K;
-        owned =
-            owned-same f (gone f t) (s .endpoints) ends (put-keeps (λ y. y .debt) f t absentThread (sym free)) owner
-            (P .owned);
+        sets =
+            sets-same f (gone f t) (s .endpoints) ends (put-keeps (λ y. y .debt) f t absentThread (sym free)) aborting
+            (P .sets);
       })
 
   site-away : (e : ℕ) → (At (s .threads t .place) e → ⊥) → Site (gone (s .threads) t) e (s .endpoints e)
@@ -184,7 +184,7 @@ module _ (s : State) (t : ℕ) (M : Mid s) (free : s .threads t .debt ≡ nothin
       (put-all (λ k y. Site g k y) (s .endpoints) e x
       (site-leave t (s .threads) g away e (parts M .site e) (not-at now refl refl))
       (λ k n. site-away k (λ h. n (at-one Q h))))
-      (put-keeps (λ y. ownerOf (y .abort)) (s .endpoints) e x (left-owner t (s .endpoints e)))
+      (put-keeps (λ y. isAborting (y .abort)) (s .endpoints) e x (left-aborting t (s .endpoints e)))
       (lines-away (λ l h. not-at h refl refl Q))
 
   mid-leaveLine : (l : ℕ) → s .threads t .place ≡ waiting l → Mid (setThread t absentThread (setLine l quiet s))
@@ -244,8 +244,8 @@ module _ (s : State) (t : ℕ) (x : Thread) (M : Mid s) where
             (P .site e);
         levels = L;
         lines = lines-same f (put f t x) places (P .lines);
-        owned = owned-same f (put f t x) (s .endpoints) (s .endpoints) (put-keeps (λ y. y .debt) f t x debt) (λ e. refl)
-            (P .owned);
+        sets = sets-same f (put f t x) (s .endpoints) (s .endpoints) (put-keeps (λ y. y .debt) f t x debt) (λ e. refl)
+            (P .sets);
       })
 
 -- Another priority and other ticks.

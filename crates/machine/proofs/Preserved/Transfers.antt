@@ -7,10 +7,10 @@ use mathlib.Core.Option.{Option, none, some}
 use mathlib.Core.List.{List, [], _∷_}
 use native.Mathlib.Omega.{arith}
 use Rattle.machine.specs.Lists.{put, only, first, Mem}
-use Rattle.machine.specs.State.{State, Place, sending, receiving, Abort, Status, missing, live, closing}
+use Rattle.machine.specs.State.{State, Place, sending, receiving, Status, missing, live, closing}
 use Rattle.machine.specs.State.{Endpoint, setEndpoint}
 use Rattle.machine.specs.Scheduling.{block}
-use Rattle.machine.specs.Endpoints.{isSending, isReceiving, senders, receivers, underAbort, ownerOf, withOwner}
+use Rattle.machine.specs.Endpoints.{isSending, isReceiving, senders, receivers, underAbort, isAborting}
 use Rattle.machine.specs.Endpoints.{joinEndpoint, wakeFrom, dropDebt}
 use Rattle.machine.specs.Machine.{createAt, createEndpoint, sendTo, sendUnless, sendAt, send, receiveFrom}
 use Rattle.machine.specs.Machine.{receiveAt, receive}
@@ -20,7 +20,7 @@ use Rattle.machine.specs.Mid.{Mid}
 use Rattle.machine.proofs.Preserved.Mid.{sound-mid}
 use Rattle.machine.proofs.Preserved.Parts.{At, Site, parts, whole}
 use Rattle.machine.proofs.Preserved.Ready.{none-some, some-one, put-keeps}
-use Rattle.machine.proofs.Preserved.Sites.{owned-same}
+use Rattle.machine.proofs.Preserved.Sites.{sets-same}
 use Rattle.machine.proofs.Preserved.Waking.{mid-wakeFrom, mid-blockSend, mid-blockReceive}
 use Rattle.machine.proofs.Preserved.Choosing.{choose-sound}
 use Rattle.machine.proofs.Preserved.Statuses.{keeps-place}
@@ -52,11 +52,11 @@ mid-newEndpoint s e M gone low =
           }) (λ k n. P .site k);
       levels = P .levels;
       lines = P .lines;
-      owned =
-          owned-same (s .threads) (s .threads) (s .endpoints) (put (s .endpoints) e newEndpoint) (λ u. refl)
-          (put-keeps (λ y. ownerOf (y .abort)) (s .endpoints) e newEndpoint
-          (sym (ap ownerOf (S .no-abort (λ h. live-present h gone)))))
-          (P .owned);
+      sets =
+          sets-same (s .threads) (s .threads) (s .endpoints) (put (s .endpoints) e newEndpoint) (λ u. refl)
+          (put-keeps (λ y. isAborting (y .abort)) (s .endpoints) e newEndpoint
+          (sym (ap isAborting (S .no-abort (λ h. live-present h gone)))))
+          (P .sets);
     })
 
 -- Create endpoint.
@@ -78,11 +78,6 @@ first-mem (x ∷ l) h = inl (some-one h refl)
 first-none : (l : List ℕ) (t : ℕ) → first l ≡ none → Mem t l → ⊥
 first-none [] t h m = m
 first-none (x ∷ l) t h m = none-some h refl
-
--- Dropping a debt changes no abort's badge.
-under-owner : (b : ℕ) (o : Option ℕ) (a : Option Abort) → underAbort b (withOwner o a) ≡ underAbort b a
-under-owner b o none = refl
-under-owner b o (some a) = refl
 
 module _ (s : State) (t e : ℕ) (S : Sound s) where
   D : Drops t s (dropDebt t s)
@@ -118,7 +113,7 @@ module _ (s : State) (t e : ℕ) (S : Sound s) where
         choose-sound (block t (sending e) b m (joinEndpoint t e (dropDebt t s)))
         (mid-blockSend (dropDebt t s) t e M (D .keeps .runs ∙ r) (D .status e ∙ up) b m hb hm
         (λ u. nobody (λ v. isReceiving (s .threads v .place)) u (receiving e) h (inr refl) (λ k. ap isReceiving k))
-        (ap (underAbort b) (D .abort e) ∙ under-owner b _ (s .endpoints e .abort) ∙ clear))
+        (ap (underAbort b) (D .abort e) ∙ clear))
     send-done b m hb hm up clear (some u) h =
         choose-sound (wakeFrom e u 2 b m (dropDebt t s))
         (mid-wakeFrom (dropDebt t s) e u 2 b m M

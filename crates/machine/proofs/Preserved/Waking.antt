@@ -10,16 +10,16 @@ use Rattle.machine.specs.Lists.{put}
 use Rattle.machine.specs.State.{State, Thread, Place, absent, able, sending, receiving, waiting, live, quiet}
 use Rattle.machine.specs.State.{awaited, absentThread, withPlace, setRuns, setLevel, setLine}
 use Rattle.machine.specs.Scheduling.{enqueue, enqueueFirst, standDown, standBack, wake, block}
-use Rattle.machine.specs.Endpoints.{underAbort, ownerOf, joinEndpoint, leaveEndpoint, wakeFrom}
+use Rattle.machine.specs.Endpoints.{underAbort, isAborting, joinEndpoint, leaveEndpoint, wakeFrom}
 use Rattle.machine.specs.Sound.{Queued, Numbers, Stores}
 use Rattle.machine.proofs.Lists.{put-same, put-other, put-all, Inserted, at-head, at-tail}
 use Rattle.machine.specs.Mid.{Mid}
 use Rattle.machine.proofs.Preserved.Parts.{At, Entry, Levels, Site, parts, whole}
 use Rattle.machine.proofs.Preserved.Ready.{Else, put-else, put-keeps, put-place, levels-stop, levels-join}
-use Rattle.machine.proofs.Preserved.Sites.{differ, not-at, at-one, left, left-owner, joined, not-awaited}
+use Rattle.machine.proofs.Preserved.Sites.{differ, not-at, at-one, left, left-aborting, joined, not-awaited}
 use Rattle.machine.proofs.Preserved.Sites.{site-aside}
 use Rattle.machine.proofs.Preserved.Sites.{site-leave, site-join, lines-aside, lines-leave, lines-join}
-use Rattle.machine.proofs.Preserved.Sites.{owned-same}
+use Rattle.machine.proofs.Preserved.Sites.{sets-same}
 
 -- The threads with t at another place, with another outcome, badge and message.
 abbrev moved : (ℕ → Thread) → ℕ → Place → ℕ → ℕ → ℕ → ℕ → Thread
@@ -112,9 +112,9 @@ mid-wakeFrom s e t o b m M Q ho hb hm bare =
           (λ k n. site-aside t f g away k (P .site k) (λ h. n (at-one Q h)) (not-at now refl refl));
       levels = levels-wake f t o b m (s .levels) (P .levels) (λ h. not-at h refl refl Q);
       lines = lines-aside t f g away (P .lines) (λ l h. not-at h refl refl Q) (λ l h. differ now h refl);
-      owned =
-          owned-same f g (s .endpoints) (put (s .endpoints) e x) (moved-debt f t able o b m)
-          (put-keeps (λ y. ownerOf (y .abort)) (s .endpoints) e x (left-owner t (s .endpoints e))) (P .owned);
+      sets =
+          sets-same f g (s .endpoints) (put (s .endpoints) e x) (moved-debt f t able o b m)
+          (put-keeps (λ y. isAborting (y .abort)) (s .endpoints) e x (left-aborting t (s .endpoints e))) (P .sets);
     })
 
 -- The waiter t on line l is woken.
@@ -138,7 +138,7 @@ mid-wakeLine s l t M waits =
       lines =
           lines-leave t f g away (P .lines) (put (s .lines) l quiet) l on (λ k h. differ now h refl)
           (put-same (s .lines) l quiet) (put-else (s .lines) l quiet);
-      owned = owned-same f g (s .endpoints) (s .endpoints) (moved-debt f t able 5 0 0) (λ e. refl) (P .owned);
+      sets = sets-same f g (s .endpoints) (s .endpoints) (moved-debt f t able 5 0 0) (λ e. refl) (P .sets);
     })
 
 -- The running thread t joins its level's queue, which becomes l, and nobody runs.
@@ -161,7 +161,7 @@ mid-stand s t {l} M r I =
           (levels-stop t f g (put-else f t absentThread) (P .levels) r gone) gone (P .levels .running t r) refl I
           (put-same (s .levels) p l) (put-else (s .levels) p l);
       lines = P .lines;
-      owned = P .owned;
+      sets = P .sets;
     })
 
 -- It goes to its tail where it stands down, and to its head where it is displaced.
@@ -200,9 +200,9 @@ module _ (s : State) (t e : ℕ) (M : Mid s) (r : s .runs ≡ some t) (up : s .e
             (λ k n. site-aside t f g away k (P .site k) (not-at was refl refl) (λ h. n (at-one at (rw now at h))));
         levels = levels-stop t f g away (P .levels) r (λ h. not-at (sym now ∙ h) refl refl at);
         lines = lines-aside t f g away (P .lines) (λ l h. differ was h refl) (λ l h. not-at (sym now ∙ h) refl refl at);
-        owned =
-            owned-same f g (s .endpoints) (put (s .endpoints) e x) (moved-debt f t p 0 b m)
-            (put-keeps (λ y. ownerOf (y .abort)) (s .endpoints) e x refl) (P .owned);
+        sets =
+            sets-same f g (s .endpoints) (put (s .endpoints) e x) (moved-debt f t p 0 b m)
+            (put-keeps (λ y. isAborting (y .abort)) (s .endpoints) e x refl) (P .sets);
       })
 
   pub mid-blockSend :
@@ -263,5 +263,5 @@ mid-blockLine s t l M r low free =
       lines =
           lines-join t f g away (P .lines) (put (s .lines) l (awaited t)) l low (λ k h. differ was h refl) now
           (λ u h. not-awaited free h) (put-same (s .lines) l (awaited t)) (put-else (s .lines) l (awaited t));
-      owned = owned-same f g (s .endpoints) (s .endpoints) (moved-debt f t (waiting l) 0 0 0) (λ e. refl) (P .owned);
+      sets = sets-same f g (s .endpoints) (s .endpoints) (moved-debt f t (waiting l) 0 0 0) (λ e. refl) (P .sets);
     })

@@ -1,4 +1,4 @@
--- The five stores set the abort.
+-- The four stores set the abort.
 use borrow.Author.Needs.{needs}
 use Rattle.store.proofs.Sites.{abort-does}
 use Rattle.store.proofs.set_abort.Statement.{statement}
@@ -16,23 +16,18 @@ put-requires-3 c κs = search needs
 put-requires-4 : tie.Need-put-requires-4
 put-requires-4 c κs = search needs
 
-put-requires-5 : tie.Need-put-requires-5
-put-requires-5 c κs = search needs
-
 same-length : tie.Need-same-length
 same-length c = search needs
 
 returns : tie.Need-returns
 returns c =
-    let at-put5 = c .before .before in
-    let at-put4 = at-put5 .before .before .before .before in
+    let at-put4 = c .before .before in
     let at-put3 = at-put4 .before .before .before .before in
     let at-put2 = at-put3 .before .before .before .before in
     let at-put = at-put2 .before .before .before .before in
-    abort-does _ _ _ _ _ _ (at-put .put .ensures) (at-put2 .put2 .ensures) (at-put3 .put3 .ensures)
-    (at-put4 .put4 .ensures) (at-put5 .put5 .ensures)
+    abort-does _ _ _ _ _ (at-put .put .ensures) (at-put2 .put2 .ensures) (at-put3 .put3 .ensures)
+    (at-put4 .put4 .ensures)
 
 pub set-abort-spec : {M : Type 1} → statement M
 set-abort-spec =
-    tie.close
-    (tie.spec put-requires put-requires-2 put-requires-3 put-requires-4 put-requires-5 same-length returns)
+    tie.close (tie.spec put-requires put-requires-2 put-requires-3 put-requires-4 same-length returns)

@@ -1,5 +1,5 @@
 -- Refused by the status; else the debt goes and a message is taken or waited for.
-use Rattle.transfers.proofs.Callers.{debtor-asked, dropped-asked}
+use Rattle.transfers.proofs.Callers.{thread-asked, dropped-asked}
 use Rattle.transfers.proofs.Taking.{receive-missing, receive-closing, receive-live}
 use borrow.Author.Needs.{needs}
 use Rattle.transfers.proofs.receive.Statement.{statement}
@@ -27,7 +27,7 @@ returns-2 : tie.Need-returns-2
 returns-2 c = search receive-closing depth 9
 
 drop-debt-requires : tie.Need-drop-debt-requires
-drop-debt-requires c κs = search debtor-asked depth 9
+drop-debt-requires c κs = search thread-asked depth 9
 
 take-requires : tie.Need-take-requires
 take-requires c κs =

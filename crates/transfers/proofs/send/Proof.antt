@@ -1,5 +1,5 @@
 -- Refused by the status and by the abort, in that order; else the debt goes and the message is handed over.
-use Rattle.transfers.proofs.Callers.{debtor-asked, dropped-asked}
+use Rattle.transfers.proofs.Callers.{thread-asked, dropped-asked}
 use Rattle.transfers.proofs.Handing.{send-missing, send-closing, send-under, sent}
 use borrow.Author.Needs.{needs}
 use Rattle.transfers.proofs.send.Statement.{statement}
@@ -46,7 +46,7 @@ returns-3 c =
     (at-under-abort .under-abort .ensures) (at-if3 .if3 .taken) (c .plain3 .ensures)
 
 drop-debt-requires : tie.Need-drop-debt-requires
-drop-debt-requires c κs = search debtor-asked depth 9
+drop-debt-requires c κs = search thread-asked depth 9
 
 hand-requires : tie.Need-hand-requires
 hand-requires c κs =

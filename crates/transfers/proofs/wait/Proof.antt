@@ -1,6 +1,6 @@
 -- Refused where another waits; else the debt goes, and the interrupt is taken or waited for.
 use native.Mathlib.Omega.{arith}
-use Rattle.transfers.proofs.Callers.{calling-thread, debtor-asked, dropped-asked}
+use Rattle.transfers.proofs.Callers.{calling-thread, thread-asked, dropped-asked}
 use Rattle.transfers.proofs.Awaiting.{awaited-refused, line-asked, taken-asked, waiter-asked}
 use Rattle.transfers.proofs.Awaiting.{waited-pending, waited-quiet}
 use borrow.Author.Needs.{needs}
@@ -20,7 +20,7 @@ returns : tie.Need-returns
 returns c = search awaited-refused depth 9
 
 drop-debt-requires : tie.Need-drop-debt-requires
-drop-debt-requires c κs = search debtor-asked depth 9
+drop-debt-requires c κs = search thread-asked depth 9
 
 set-line-requires : tie.Need-set-line-requires
 set-line-requires c κs =

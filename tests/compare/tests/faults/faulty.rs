@@ -1,9 +1,10 @@
 //! A core made of the second machine, with one fault.
 
+use crate::members::Made;
 use comparison::{Core, Memory};
 use second::{
-    memory, read, shown, sound_grants, sound_words, word_name, write, Answer, Bond, Call, Machine,
-    Phase, Read, Situation, Written,
+    aborting_at, memory, owes_at, read, shown, sound_grants, sound_words, word_name, write, Answer,
+    Bond, Call, Machine, Phase, Read, Situation, Written,
 };
 
 macro_rules! faults {
@@ -20,7 +21,26 @@ macro_rules! faults {
 faults! {
     CursorKept,
     EndMarkKept,
-    OwnerKept,
+    MemberKept,
+    JoinerKeepsNothing,
+    OneMemberNoted,
+    LastMemberNotNoted,
+    LastThreadNotNoted,
+    BrokenDeleteNotesNobody,
+    NotedUnderTheCallsBadge,
+    AllSetsNoted,
+    CallerNotedToo,
+    LeaverNoted,
+    OtherWorkerJoins,
+    MemberStays,
+    RefusalLeaves,
+    TickLeaves,
+    DisplacedLeaves,
+    NoteHolderJoins,
+    EmptySetEnds,
+    EmptySetUnsound,
+    BlockedMemberUnsound,
+    LooseMemberTaken,
     NoteLost,
     NoteKept,
     TicksNotRefilled,
@@ -80,7 +100,7 @@ impl Faulty {
         let destroys = call.number() == 2;
         let kept = match (self.fault, part) {
             (Fault::CursorKept, "cursor") | (Fault::EndMarkKept, "end") => destroys,
-            (Fault::OwnerKept, "owner") => destroys,
+            (Fault::MemberKept, "owes") => destroys && old <= 64,
             (Fault::NoteKept, "owes") => old > 64 && new == 0,
             (Fault::NoteLost, "owes") if new > 64 => return 0,
             (Fault::NoteLost, "note") => return 0,
@@ -124,7 +144,34 @@ impl Faulty {
             }
             _ => (),
         }
+        let seen = &self.machine.log().seen;
+        let made = Made { call, answer, ran, seen, before: &self.tables };
+        made.spoil(self.fault, &mut tables);
         tables
+    }
+
+    /// The check's answer, as the fault gives it on these tables.
+    fn passes(&self, tables: &[u32]) -> bool {
+        let member = |t: u8| (1..=64).contains(&tables[owes_at(t)]);
+        let aborting = |e: u8| tables[aborting_at(e)] == 1;
+        let works = |t: u8, e: u8| tables[owes_at(t)] == 1 + e as u32;
+        let sound = sound_words(tables);
+        match self.fault {
+            Fault::EmptySetUnsound => {
+                sound && (0..64).all(|e| !aborting(e) || (0..=255).any(|t| works(t, e)))
+            }
+            Fault::BlockedMemberUnsound => {
+                sound && (0..=255).all(|t| !member(t) || tables[10 * t as usize] == 1)
+            }
+            Fault::LooseMemberTaken => {
+                let mut without = tables.to_vec();
+                let loose = |t: &u8| member(*t) && !(0..64).any(|e| works(*t, e) && aborting(e));
+                (0..=255).filter(loose).for_each(|t| without[owes_at(t)] = 0);
+                sound_words(&without)
+            }
+            Fault::UnsoundTaken => true,
+            _ => sound,
+        }
     }
 
     fn answer(&self, call: &Call, answer: &Answer) -> [u32; 4] {
@@ -230,6 +277,7 @@ impl Core for Faulty {
         let sound = match self.fault {
             Fault::ScratchReadByTheCheck => self.sound && !spoilt,
             Fault::SoundRefused => self.sound && self.machine.left(63) < 4,
+            Fault::EmptySetUnsound => self.sound && self.passes(&self.tables),
             Fault::BadgeZeroUnsound => self.sound && !self.grants.contains(&(1 << 28)),
             _ => self.sound,
         };
@@ -270,7 +318,7 @@ impl Core for Faulty {
     fn load(&mut self, memory: Memory) {
         self.tables.copy_from_slice(memory.tables);
         self.grants.copy_from_slice(memory.grants);
-        self.sound = (sound_words(memory.tables) || self.fault == Fault::UnsoundTaken)
+        self.sound = self.passes(memory.tables)
             && (sound_grants(memory.grants) || self.fault == Fault::UnsoundGrantsTaken);
         if let Some(machine) = shown(memory.tables) {
             self.machine = machine.with_grants(memory.grants);

@@ -2,6 +2,7 @@
 //! fault at a time.
 
 mod faulty;
+mod members;
 
 use comparison::{compare, report};
 use faulty::{Fault, Faulty, FAULTS};

@@ -131,6 +131,39 @@ fn incident() -> Words {
     .concat()
 }
 
+/// T-05's further case: 1, 2 and 3 hold badge 7, then 4; 11 begins its abort, 12
+/// and 13 join.
+fn joiners() -> Words {
+    let old = |thread| [holder(thread, 5, 0, SEND, 7), send(0, 7, thread)].concat();
+    [
+        endpoint(0),
+        old(1),
+        old(2),
+        old(3),
+        create(11, 10),
+        create(12, 5),
+        create(13, 5),
+        grant(11, 0, ABORT, 0),
+        grant(12, 0, RECEIVE | ABORT, 0),
+        grant(13, 0, ABORT, 0),
+        abort(0, 1, 7), // removes 1, broken off
+        priority(12, 11),
+        abort(0, 1, 7), // removes 2, broken off
+        priority(13, 12),
+        abort(0, 1, 7), // removes 3: 11 and 12 have a note
+        create(4, 20),
+        grant(1, 0, 0, 0),
+        grant(4, 0, SEND, 7), // the badge has a new holder
+        send(0, 7, 500),
+        priority(11, 13),
+        abort(0, 5, 7), // from the note
+        priority(12, 14),
+        abort(0, 5, 7), // from the note
+        receive(0),     // the new holder's message
+    ]
+    .concat()
+}
+
 fn endpoints() -> Words {
     [
         create(1, 10),
@@ -315,7 +348,7 @@ fn destroyed() -> Words {
         holder(5, 30, 0, SEND, 8),
         send(0, 8, 205), // 5 is queued again, behind the end mark
         send(0, 7, 1),   // refused: the abort stands
-        destroy(1),      // the owner
+        destroy(1),      // its only member
         grant(2, 0, ABORT, 0),
         abort(0, 1, 7), // 2 joins: removes 4, and nothing is left
         abort(0, 1, 8), // removes 5
@@ -328,6 +361,188 @@ fn destroyed() -> Words {
         destroy(6),
         destroy(6),
         endpoint(1),
+    ]
+    .concat()
+}
+
+/// At a new endpoint 2, 3 and 5 are queued under badge 7, 4 under 8. 11 begins
+/// the abort of 7, 12 joins; 13 runs, and has these rights.
+fn at_work(at: u32, rights: u32) -> Words {
+    [
+        queued(at, &[7, 7, 8, 7]),
+        holder(11, 20, at, ANY, 7),
+        abort(at, 1, 7), // removes 2
+        holder(12, 21, at, ANY, 7),
+        abort(at, 1, 7), // removes 3
+        holder(13, 22, at, rights, 8),
+    ]
+    .concat()
+}
+
+/// 12 and 11 call again, and 11 once more; then all threads are gone.
+fn called_again(at: u32) -> Words {
+    [
+        destroy(13),
+        abort(at, ALL, 7), // 12, from its note
+        destroy(12),
+        abort(at, ALL, 7), // 11, from its note
+        abort(at, ALL, 7),
+        [2, 3, 4, 5, 11].map(destroy).concat(),
+    ]
+    .concat()
+}
+
+/// An abort of two joiners is ended by each call that can end it.
+fn ended() -> Words {
+    let new_holder = |at| [holder(6, 30, at, SEND, 7), send(at, 7, 106)].concat();
+    [
+        at_work(0, ABORT),
+        abort(0, ALL, 7), // 13 joins and ends it: keeps 4, removes 5
+        new_holder(0),
+        called_again(0), // the last one removes 6
+        destroy(6),
+        at_work(1, ABORT),
+        abort(1, 2, 8), // 13 ends it: keeps 4, removes 5, its own not begun
+        new_holder(1),
+        called_again(1), // the last one keeps 4 and removes 6
+        destroy(6),
+        at_work(2, ABORT),
+        abort(2, ALL, 8), // 13 ends it, then its own: removes 4
+        called_again(2),
+        at_work(3, DELETE),
+        delete(3, ALL), // 13 removes 4 and 5: the endpoint is gone
+        called_again(3),
+        at_work(4, DELETE),
+        delete(4, 1), // 13 removes 4, broken off
+        called_again(4),
+        at_work(5, ABORT),
+        abort(5, 1, 7), // 13 joins: keeps 4
+        wait(0),        // and leaves: no note
+        abort(5, 1, 7), // 12 goes on and ends it: removes 5
+        interrupt(0),
+        abort(5, 1, 7), // 13 begins anew: keeps 4
+        destroy(13),
+        destroy(12),
+        abort(5, 1, 7), // 11, from its note
+    ]
+    .concat()
+}
+
+fn leaving() -> Words {
+    [left(), left_by_all(), kept(), ended_by_leavers()].concat()
+}
+
+/// Of three members 11 yields and 12 aborts elsewhere, then 13 is destroyed.
+fn left() -> Words {
+    [
+        queued(0, &[7, 7, 7, 7, 7, 7, 7]),
+        endpoint(1),
+        holder(11, 20, 0, ANY, 7),
+        abort(0, 1, 7), // removes 2
+        holder(12, 21, 0, ANY, 7),
+        grant(12, 1, ABORT, 0),
+        abort(0, 1, 7), // removes 3
+        holder(13, 22, 0, ANY, 7),
+        abort(0, 1, 7), // removes 4
+        priority(11, 23),
+        yields(), // 11 leaves
+        priority(12, 24),
+        abort(1, 1, 7), // 12 leaves: nobody is queued there
+        destroy(13),
+    ]
+    .concat()
+}
+
+/// Nobody is left in the set, and the abort stands. 14 joins, then 11; 12 ends
+/// it by another badge's abort.
+fn left_by_all() -> Words {
+    [
+        send(0, 7, 1), // 12 is refused
+        holder(14, 25, 0, ANY, 0),
+        abort(0, 1, 7), // 14 is the only member: removes 5
+        priority(11, 26),
+        abort(0, 1, 7), // 11 joins again: removes 6
+        priority(12, 27),
+        abort(0, 2, 9), // removes 7 and 8: 14 and 11 have a note
+        wait(3),
+        abort(0, 1, 7), // 11, from its note
+        destroy(11),
+        abort(0, 1, 7), // 14, from its note
+        interrupt(3),
+        [14, 12, 2, 3, 4, 5, 6, 7, 8].map(destroy).concat(),
+    ]
+    .concat()
+}
+
+/// What does not lead out of the set: refusals, ticks, displacement, calls of the
+/// host.
+fn kept() -> Words {
+    [
+        at_work(2, ABORT),
+        wait(4),          // 13 blocks, 12 runs
+        send(2, 7, 1),    // 26
+        send(2, 8, 1),    // 29
+        receive(3),       // 29
+        wait(4),          // 27
+        ticks(5),         // its ticks are spent
+        priority(11, 22), // 12 is displaced
+        grant(11, 2, 0, 0),
+        abort(2, 1, 7), // 11 is refused by 29
+        grant(11, 2, ANY, 7),
+        interrupt(4),
+        priority(13, 30),
+        abort(2, 2, 7), // 13 keeps 4, removes 5 and ends it: both have a note
+        priority(12, 23),
+        called_again(2),
+    ]
+    .concat()
+}
+
+/// A member's own other call ends the abort: it has no note, the other has.
+fn ended_by_leavers() -> Words {
+    [
+        at_work(3, SEND),
+        wait(5),
+        abort(3, 2, 8), // 12 keeps 4, removes 5
+        abort(3, 1, 7), // 12 begins anew: keeps 4
+        destroy(12),
+        abort(3, 1, 7), // 11, from its note
+        [13, 11, 2, 3, 4, 5].map(destroy).concat(),
+        at_work(4, SEND),
+        wait(5),
+        delete(4, 1),   // 12 removes 4, broken off
+        abort(4, 1, 7), // 12 is refused by 25
+        destroy(12),
+        abort(4, 1, 7), // 11, from its note
+    ]
+    .concat()
+}
+
+/// A note is answered although a new abort of its badge stands.
+fn renewed() -> Words {
+    [
+        at_work(0, ABORT),
+        abort(0, ALL, 7), // 11 and 12 have a note
+        holder(6, 30, 0, SEND, 7),
+        send(0, 7, 106),
+        holder(7, 30, 0, SEND, 7),
+        send(0, 7, 107),
+        holder(8, 30, 0, SEND, 7),
+        send(0, 7, 108),
+        abort(0, 2, 7), // 13 begins anew: keeps 4, removes 6, which runs
+        send(0, 7, 1),  // refused: it stands
+        priority(12, 40),
+        abort(0, ALL, 7), // 12, from its note: it does not join
+        abort(0, 1, 7),   // now it joins: removes 7
+        priority(11, 41),
+        send(0, 7, 1),    // 11 is refused, and keeps its note
+        abort(0, ALL, 7), // from its note
+        priority(13, 42),
+        abort(0, ALL, 7), // 13 ends it: removes 8, and 12 has a note
+        priority(11, 43),
+        abort(0, ALL, 7), // 11 has none: a new one, which looks at 4
+        priority(12, 44),
+        abort(0, 1, 7), // from its note
     ]
     .concat()
 }
@@ -590,6 +805,7 @@ fn journals() -> Vec<(&'static str, Words, &'static [u8])> {
     vec![
         ("example", example(), &[]),
         ("incident", incident(), &[]),
+        ("joiners", joiners(), &[]),
         ("endpoints", endpoints(), &[]),
         ("lines", lines(), &[]),
         ("priorities", priorities(), &[]),
@@ -599,6 +815,9 @@ fn journals() -> Vec<(&'static str, Words, &'static [u8])> {
         ("ticks", ticking(), &[]),
         ("destroyed", destroyed(), &[]),
         ("deletes", deletes(), &[]),
+        ("ended", ended(), &[]),
+        ("leaving", leaving(), &[]),
+        ("renewed", renewed(), &[]),
         ("refusals", refusals(), &[]),
         ("grants", grants(), &[]),
         ("empty", vec![], &[]),

@@ -16,37 +16,31 @@ endpoint-requires-3 c κs = search needs
 endpoint-requires-4 : tie.Need-endpoint-requires-4
 endpoint-requires-4 c κs = search needs
 
-endpoint-requires-5 : tie.Need-endpoint-requires-5
-endpoint-requires-5 c κs = search needs
-
 returns : tie.Need-returns
 returns c =
-    let at-endpoint3 = c .before .before .before in
-    let at-endpoint2 = c .before .before .before .before in
-    let at-endpoint = c .before .before .before .before .before in
+    let at-endpoint3 = c .before .before in
+    let at-endpoint2 = c .before .before .before in
+    let at-endpoint = c .before .before .before .before in
     rw (← at-endpoint .endpoint .ensures)
     (abort-none _ _ (at-endpoint2 .endpoint2 .ensures)
     (at-endpoint3 .endpoint3 .ensures)
-    (c .before .before .endpoint4 .ensures) _ (c .before .if1 .taken) (c .endpoint5 .ensures))
+    (c .before .endpoint4 .ensures) _ (c .if1 .taken))
 
 returns-2 : tie.Need-returns-2
 returns-2 c =
     let at-endpoint = c .before .before .before .before .before in
     rw (← at-endpoint .endpoint .ensures) (abort-odd _ _ _ (c .if2 .taken))
 
-owner-requires : tie.Need-owner-requires
-owner-requires c κs = search needs
-
 returns-3 : tie.Need-returns-3
 returns-3 c =
-    let at-endpoint4 = c .before .before .before in
-    let at-endpoint3 = c .before .before .before .before in
-    let at-endpoint2 = c .before .before .before .before .before in
-    let at-endpoint = c .before .before .before .before .before .before in
+    let at-endpoint4 = c .before .before in
+    let at-endpoint3 = c .before .before .before in
+    let at-endpoint2 = c .before .before .before .before in
+    let at-endpoint = c .before .before .before .before .before in
     rw (← at-endpoint .endpoint .ensures)
     (abort-stands _ _ (at-endpoint2 .endpoint2 .ensures)
     (at-endpoint3 .endpoint3 .ensures) (at-endpoint4 .endpoint4 .ensures) _
-    (c .before .before .if1 .left) (c .before .if2 .left) (c .owner .ensures))
+    (c .before .if1 .left) (c .if2 .left))
 
 pub abort-spec : {M : Type 1} → statement M
 abort-spec =
@@ -56,8 +50,6 @@ abort-spec =
     endpoint-requires-2
     endpoint-requires-3
     endpoint-requires-4
-    endpoint-requires-5
     returns
     returns-2
-    owner-requires
     returns-3)

@@ -13,10 +13,10 @@ use Rattle.sound_words.proofs.rest.unused.Tie as tie
 
 abbrev Inv-loop : tie.InvT-loop
 Inv-loop tables i₀ i =
-    (i ≤ 470) × ((k : ℕ) → k < i → unusedTest tables k ≡ true)
+    (i ≤ 534) × ((k : ℕ) → k < i → unusedTest tables k ≡ true)
 
 abbrev μ-loop : tie.MeasureT-loop
-μ-loop tables i₀ i = 470 - i
+μ-loop tables i₀ i = 534 - i
 
 loop-holds : tie.Need-loop-holds Inv-loop μ-loop
 loop-holds c = (search needs, below-none _)
@@ -27,7 +27,7 @@ wide-requires c κs = search needs
 returns : tie.Need-returns Inv-loop μ-loop
 unfolding unusedTest
 returns c =
-    one-fails (unusedTest _) 470 _ (search needs) (ne-eqb _ 0 (λ z. c .if1 .taken (c .before .wide .ensures ∙ z)))
+    one-fails (unusedTest _) 534 _ (search needs) (ne-eqb _ 0 (λ z. c .if1 .taken (c .before .wide .ensures ∙ z)))
 
 add-i : tie.Need-add-i Inv-loop μ-loop
 add-i c = search needs
@@ -45,7 +45,7 @@ loop-again c =
     )
 
 returns-2 : tie.Need-returns-2 Inv-loop μ-loop
-returns-2 c = all-hold (unusedTest _) 470 (λ k l. c .before .loop .inv .1 k (omega arith))
+returns-2 c = all-hold (unusedTest _) 534 (λ k l. c .before .loop .inv .1 k (omega arith))
 
 pub unused-spec : {M : Type 1} → statement M
 unused-spec =

@@ -1,6 +1,6 @@
 -- What a thread owes, by the three cases of its word.
 use borrow.Author.Needs.{needs}
-use Rattle.sound_words.proofs.Numbers.{owing-nothing, owing-abort, owing-note}
+use Rattle.sound_words.proofs.Numbers.{owing-nothing, owing-work, owing-note}
 use Rattle.sound_words.proofs.threads.owing.Statement.{statement}
 use Rattle.sound_words.proofs.threads.owing.Tie as tie
 
@@ -20,14 +20,11 @@ sub-endpoint c = search needs
 endpoint-requires : tie.Need-endpoint-requires
 endpoint-requires c κs = search needs
 
-add-result : tie.Need-add-result
-add-result c = search needs
-
 returns-2 : tie.Need-returns-2
 returns-2 c =
     let at-thread2 = c .before .before .before in
     let at-thread = c .before .before .before .before in
-    owing-abort _ _ (at-thread2 .thread2 .ensures) (at-thread .thread .ensures)
+    owing-work _ _ (at-thread2 .thread2 .ensures) (at-thread .thread .ensures)
     (c .before .before .if1 .left) (c .before .if2 .taken) (c .endpoint .ensures)
 
 returns-3 : tie.Need-returns-3
@@ -45,6 +42,5 @@ owing-spec =
     returns
     sub-endpoint
     endpoint-requires
-    add-result
     returns-2
     returns-3)

@@ -2,7 +2,7 @@
 
 use crate::figures::{Figures, Step};
 use crate::measure::Work;
-use crate::scenes::{ALL, AT_QUEUE, CALLS, FILLS, SENDERS};
+use crate::scenes::{ALL, AT_QUEUE, CALLS, ENDINGS, FILLS, MEMBERS, SENDERS};
 use core_c::GRANTS;
 use std::iter::once;
 
@@ -57,6 +57,12 @@ impl Report<'_> {
     /// What is done at the queue of each length.
     pub fn queue(&self, length: usize, what: usize) -> &Figures {
         &self.0[CALLS.len() * FILLS.len() + AT_QUEUE.len() * length + what]
+    }
+
+    /// How an abort with so many members ends.
+    fn ending(&self, members: usize, what: usize) -> &Figures {
+        let queues = CALLS.len() * FILLS.len() + AT_QUEUE.len() * SENDERS.len();
+        &self.0[queues + ENDINGS.len() * members + what]
     }
 
     /// The calls on tables of one fill.
@@ -171,6 +177,21 @@ impl Report<'_> {
         text
     }
 
+    /// Steps that end an abort, by its members, beside the second machine's.
+    fn endings(&self, unit: Unit) -> String {
+        let names = ENDINGS.map(|name| [name, "second machine"]).concat();
+        let mut text = head(&[&["Members noted", "check"], &names[..]].concat());
+        for (n, members) in MEMBERS.iter().enumerate() {
+            let name = members.map_or(String::from("no abort stands"), |m| m.to_string());
+            let check = whole((unit.work)(self.ending(n, 0), Work::Check));
+            let steps = (0..ENDINGS.len()).flat_map(|what| {
+                [Step::Core, Step::Second].map(|whose| (unit.step)(self.ending(n, what), whose))
+            });
+            text += &row([name, check].into_iter().chain(steps.map(whole)));
+        }
+        text
+    }
+
     /// All tables, each under a line that says what it shows.
     pub fn text(&self, counted: bool) -> String {
         let units = &UNITS[..1 + counted as usize];
@@ -192,6 +213,10 @@ impl Report<'_> {
         for &unit in units {
             text += &format!("\n## Steps at a queue of senders, {}\n\n", unit.name);
             text += &self.queues(unit);
+        }
+        for &unit in units {
+            text += &format!("\n## Steps that end an abort, {}\n\n", unit.name);
+            text += &self.endings(unit);
         }
         if counted {
             text += "\n## Reading a call, instructions\n\n";

@@ -23,7 +23,8 @@ struct Line {
     colour: &'static str,
     /// How far its name stands below its end.
     lower: f64,
-    /// Instructions, for each number of senders.
+    /// Instructions, for each number of senders, from one of these on.
+    from: usize,
     counts: Vec<f64>,
 }
 
@@ -55,22 +56,24 @@ fn counts(report: &Report, what: usize, count: fn(&Figures) -> Option<f64>) -> O
 
 fn check(report: &Report) -> Option<Panel> {
     let counts = counts(report, 0, |figures| figures.count(Work::Check))?;
-    let lines = vec![Line { name: "check", colour: "#1b6ca8", lower: 4.0, counts }];
+    let lines = vec![Line { name: "check", colour: "#1b6ca8", lower: 4.0, from: 0, counts }];
     let title = "The check, which every call begins with: instructions";
     Some(Panel { title, top: 40.0, most: 80_000.0, every: 20_000, lines })
 }
 
+/// With a single sender nothing is left to do after one look or removal, and the
+/// call ends the abort or the deletion too.
 fn steps(report: &Report) -> Option<Panel> {
     let line = |what, name, colour, lower| {
         let counts = counts(report, what, |figures| figures.step_count(Step::Core))?;
-        Some(Line { name, colour, lower, counts })
+        Some(Line { name, colour, lower, from: 1, counts })
     };
     let lines = vec![
         line(1, "abort, one look, removed", "#c0392b", 4.0)?,
         line(0, "abort, one look, kept", "#2e8b57", -2.0)?,
         line(2, "delete, one removal", "#8e44ad", 12.0)?,
     ];
-    let title = "A call after its check: instructions";
+    let title = "A call after its check, broken off: instructions";
     Some(Panel { title, top: 300.0, most: 400.0, every: 100, lines })
 }
 
@@ -97,10 +100,11 @@ impl Panel {
     }
 
     fn line(&self, line: &Line) -> String {
-        let Line { name, colour, lower, counts } = line;
+        let Line { name, colour, lower, from, counts } = line;
         let places: Vec<(f64, f64)> = SENDERS
             .iter()
             .zip(counts)
+            .skip(*from)
             .map(|(&senders, &count)| (x(senders), self.y(count)))
             .collect();
         let joined: Vec<String> = places.iter().map(|(x, y)| format!("{x:.1},{y:.1}")).collect();

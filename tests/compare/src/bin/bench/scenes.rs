@@ -216,12 +216,47 @@ pub fn queue(senders: u32, what: usize) -> Scene {
     })
 }
 
+/// The calls that end an abort: its last look, the same for another badge, whose
+/// own abort is not yet begun, and a delete.
+pub const ENDINGS: [&str; 3] =
+    ["abort: last look", "abort of another badge: last look", "delete: one removal"];
+
+/// How many members the abort has beside the caller; before them, no abort
+/// stands.
+pub const MEMBERS: [Option<u32>; 7] =
+    [None, Some(0), Some(1), Some(2), Some(16), Some(128), Some(254)];
+
+/// A call that ends an abort, with one sender left. Each member has removed one,
+/// and then made room for it.
+pub fn ending(members: Option<u32>, what: usize) -> Scene {
+    let mut s = Stage(Machine::fresh());
+    let (endpoint, badge) = (ENDPOINT, BADGE);
+    let workers = members.map_or(0, |members| members.max(1));
+    s.endpoint(endpoint);
+    (1..=workers + 1).for_each(|t| s.sender(t, endpoint, badge));
+    s.thread(ACTOR, 200);
+    s.grant(ACTOR, endpoint, badge);
+    for thread in ACTOR..workers {
+        s.make(Call::Abort { endpoint, allowance: 1, badge });
+        if members == Some(0) {
+            s.make(Call::Yield);
+        }
+        s.make(Call::SetPriority { thread, priority: 10 });
+    }
+    s.scene(match what {
+        0 => Call::Abort { endpoint, allowance: 1, badge },
+        1 => Call::Abort { endpoint, allowance: 1, badge: OTHER },
+        _ => Call::Delete { endpoint, allowance: 1 },
+    })
+}
+
 /// All that is measured: the calls for each fill, then what is done at
-/// queues of each length.
+/// queues of each length, then how aborts end.
 pub fn scenes() -> Vec<Scene> {
     let numbers = 1..=CALLS.len() as u32;
     let filled = |&(_, threads)| numbers.clone().map(move |n| scene(n, threads));
     let calls = FILLS.iter().flat_map(filled);
     let queues = SENDERS.iter().flat_map(|&n| (0..AT_QUEUE.len()).map(move |what| queue(n, what)));
-    calls.chain(queues).collect()
+    let endings = MEMBERS.iter().flat_map(|&n| (0..ENDINGS.len()).map(move |what| ending(n, what)));
+    calls.chain(queues).chain(endings).collect()
 }
