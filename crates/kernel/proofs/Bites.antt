@@ -13,7 +13,7 @@ use Rattle.machine.specs.State.{State, Status, missing, live, closing, Endpoint
 use Rattle.machine.specs.Results.{plain}
 use Rattle.machine.specs.Grants.{Grants, lacks, regranted, grantsAfter, freshGrants, SoundGrants}
 use Rattle.machine.specs.Machine.{createIf, createThread, createAt, createEndpoint, perform, performUnless, performIf}
-use Rattle.machine.specs.Machine.{step, tick}
+use Rattle.machine.specs.Machine.{step, grantsBy, tick}
 use Rattle.machine.specs.Sound.{Sound}
 use Rattle.machine.proofs.Lists.{put-all}
 use Rattle.machine.proofs.Running.{choose-keeps}
@@ -149,7 +149,7 @@ pub ungranter-fails : Keeps ungranter → ⊥
 unfolding step performIf performUnless perform createThread createIf grantsAfter regranted put
 ungranter-fails K =
     let c = CreateThread 0 0 in
-    let after : Grants = grantsAfter (step one-grant freshState c .answer) c one-grant in
+    let after : Grants = grantsBy one-grant freshState c in
     let d = does ungranter K one-grant freshState zeros c one-grant-sound fresh-sound zeros-length in
     let e : one-grant ≡ after =
     sym (of-image one-grant one-grant-sound)

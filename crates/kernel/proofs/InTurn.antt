@@ -12,8 +12,8 @@ use Rattle.machine.specs.declared.Answer.{Answer}
 use Rattle.machine.specs.declared.Call.{Call}
 use Rattle.machine.specs.State.{State}
 use Rattle.machine.specs.Results.{plain}
-use Rattle.machine.specs.Grants.{Grants, grantsAfter, SoundGrants}
-use Rattle.machine.specs.Machine.{step}
+use Rattle.machine.specs.Grants.{Grants, SoundGrants}
+use Rattle.machine.specs.Machine.{step, grantsBy}
 use Rattle.machine.specs.Sound.{Sound}
 use Rattle.machine.specs.Recorded.{Run, freshRun, runFrom, recorded, told}
 use Rattle.machine.proofs.Granted.{fresh-grants-sound, grants-sound}
@@ -73,7 +73,7 @@ next : Run → Call → Run
 next x c =
     record {
       state = step (x .grants) (x .state) c .state;
-      grants = grantsAfter (step (x .grants) (x .state) c .answer) c (x .grants);
+      grants = grantsBy (x .grants) (x .state) c;
       history = told c (x .state) (step (x .grants) (x .state) c) (x .history);
     }
 

@@ -7,8 +7,8 @@ use mathlib.Core.Option.{none, some}
 use Rattle.machine.specs.declared.Call.{Call}
 use Rattle.machine.specs.State.{State}
 use Rattle.machine.specs.Results.{plain}
-use Rattle.machine.specs.Grants.{Grants, grantsAfter, SoundGrants}
-use Rattle.machine.specs.Machine.{step}
+use Rattle.machine.specs.Grants.{Grants, SoundGrants}
+use Rattle.machine.specs.Machine.{step, grantsBy}
 use Rattle.machine.specs.Refusals.{refusalOf}
 use Rattle.machine.specs.Sound.{Sound}
 use Rattle.layout.specs.Words.{image}
@@ -44,9 +44,9 @@ pub data Kept (l : Lent) (c : Call) : Called → Type 0 where
   -- hold the sound state and grants that the machine comes to, and the scratch is all zero
   holds :
       (g : Grants) (s : State) → Holds l g s → refusalOf g c s ≡ none
-      → step g s c .answer .code ≤ 2 → Sound (step g s c .state) → SoundGrants (grantsAfter (step g s c .answer) c g)
+      → step g s c .answer .code ≤ 2 → Sound (step g s c .state) → SoundGrants (grantsBy g s c)
       → Kept l c
       (record {
         answer = step g s c .answer;
-        left = lent (image (step g s c .state)) (grantImage (grantsAfter (step g s c .answer) c g)) zeros;
+        left = lent (image (step g s c .state)) (grantImage (grantsBy g s c)) zeros;
       })

@@ -13,8 +13,8 @@ use Rattle.machine.specs.declared.Runner.the-variants.{Nobody, Thread}
 use Rattle.machine.specs.Lists.{pick}
 use Rattle.machine.specs.State.{State, freshState}
 use Rattle.machine.specs.Results.{plain}
-use Rattle.machine.specs.Grants.{Grants, grantsAfter, freshGrants}
-use Rattle.machine.specs.Machine.{step}
+use Rattle.machine.specs.Grants.{Grants, freshGrants}
+use Rattle.machine.specs.Machine.{step, grantsBy}
 use Rattle.layout.specs.declared.Slot.{Slot}
 use Rattle.layout.specs.Addresses.{tableWords, scratchWords, word, at}
 use Rattle.layout.specs.Words.{image}
@@ -90,7 +90,7 @@ abbrev pub stepped : Grants → State → Call → Called
 stepped g s c =
     record {
       answer = step g s c .answer;
-      left = lent (image (step g s c .state)) (grantImage (grantsAfter (step g s c .answer) c g)) zeros;
+      left = lent (image (step g s c .state)) (grantImage (grantsBy g s c)) zeros;
     }
 
 -- Tables that show no sound state, or unsound grants: 17. Else the machine's step.

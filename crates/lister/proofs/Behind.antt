@@ -13,7 +13,7 @@ use lib.Seq.{drop-append-seam}
 use Rattle.machine.specs.declared.Call.{Call}
 use Rattle.machine.specs.State.{State}
 use Rattle.machine.specs.Grants.{Grants}
-use Rattle.machine.specs.Machine.{step}
+use Rattle.machine.specs.Machine.{step, grantsBy}
 use Rattle.journal.specs.declared.types.Read.{Read}
 use Rattle.journal.specs.declared.types.Read.the-variants.{Found, Refused, Ended}
 use Rattle.journal.specs.Words.{readAt, readFrom}
@@ -24,7 +24,7 @@ use Rattle.lister.specs.declared.Form.{Form}
 use Rattle.lister.specs.Forms.{stopText}
 use Rattle.lister.specs.Feeding.{ready}
 use Rattle.lister.proofs.Enough.{Whole, whole-words, read-same, read-all, read-missing}
-use Rattle.lister.proofs.Texts.{Text, before, stopsWith, oddText, grantsBy, textFor, textFrom}
+use Rattle.lister.proofs.Texts.{Text, before, stopsWith, oddText, textFor, textFrom}
 
 -- The text of these bytes, from an index and a state on.
 abbrev pub textOn : Form → ℕ → ℕ → List ℕ → Grants → State → Text

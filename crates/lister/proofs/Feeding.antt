@@ -12,7 +12,7 @@ use Rattle.machine.specs.Lists.{pick}
 use Rattle.machine.specs.Results.{threadOf}
 use Rattle.machine.specs.State.{State}
 use Rattle.machine.specs.Grants.{Grants, SoundGrants}
-use Rattle.machine.specs.Machine.{step}
+use Rattle.machine.specs.Machine.{step, grantsBy}
 use Rattle.machine.specs.Sound.{Sound}
 use Rattle.journal.specs.declared.types.Read.{Read}
 use Rattle.journal.specs.declared.types.Read.the-variants.{Found, Refused}
@@ -30,7 +30,7 @@ use Rattle.lister.specs.declared.Form.{Form}
 use Rattle.lister.specs.Forms.{callText, stopText}
 use Rattle.lister.specs.Feeding.{Progress, Told, ready, holding, toldBy, offered, byteTo, fed, ending, endingWith}
 use Rattle.lister.specs.Feeding.{fedParts, joined}
-use Rattle.lister.proofs.Texts.{grantsBy, textFor}
+use Rattle.lister.proofs.Texts.{textFor}
 
 -- What is told where u is told behind t.
 abbrev pub following : Told → Told → Told

@@ -9,7 +9,7 @@ use lib.Seq.{append-snoc}
 use Rattle.machine.specs.declared.Call.{Call}
 use Rattle.machine.specs.State.{State}
 use Rattle.machine.specs.Grants.{Grants, SoundGrants}
-use Rattle.machine.specs.Machine.{step}
+use Rattle.machine.specs.Machine.{step, grantsBy}
 use Rattle.machine.specs.Sound.{Sound}
 use Rattle.machine.proofs.Granted.{grants-sound}
 use Rattle.machine.proofs.Preserved.Steps.{step-sound}
@@ -25,7 +25,7 @@ use Rattle.lister.specs.Listing.{Prefix}
 use Rattle.lister.specs.Forms.{stopText}
 use Rattle.lister.specs.Feeding.{Told, ready, holding, fed, ending}
 use Rattle.lister.proofs.Enough.{Whole, whole-now, how-many, whole-words, not-over}
-use Rattle.lister.proofs.Texts.{Text, wholeOf, before, stopsWith, grantsBy, textFor, textFrom}
+use Rattle.lister.proofs.Texts.{Text, wholeOf, before, stopsWith, textFor, textFrom}
 use Rattle.lister.proofs.Behind.{textOn, text-taken, text-refused, text-lacking}
 use Rattle.lister.proofs.Feeding.{following, fed-first, fed-stopped, ending-stopped, on, byte-held, byte-taken}
 use Rattle.lister.proofs.Feeding.{takenTold, call-told, stopped, stopTold, refused-told, ending-held}

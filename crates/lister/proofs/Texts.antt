@@ -12,8 +12,8 @@ use Rattle.machine.specs.declared.Call.the-variants.{Interrupt, Tick, Send, Rec
 use Rattle.machine.specs.Calls.{numberOf}
 use Rattle.machine.specs.Lists.{pick}
 use Rattle.machine.specs.State.{State}
-use Rattle.machine.specs.Grants.{Grants, grantsAfter}
-use Rattle.machine.specs.Machine.{step}
+use Rattle.machine.specs.Grants.{Grants}
+use Rattle.machine.specs.Machine.{step, grantsBy}
 use Rattle.journal.specs.declared.types.Read.{Read}
 use Rattle.journal.specs.declared.types.Read.the-variants.{Found, Refused, Ended}
 use Rattle.journal.specs.Words.{readAt}
@@ -46,10 +46,6 @@ stopsWith text = record { calls = []; stop = text }
 abbrev pub oddText : Form → ℕ → ℕ → Option ℕ → List ℕ
 oddText f zero i running = []
 oddText f (suc k) i running = stopText f i 18 running
-
--- The grants after a call made in a state.
-abbrev pub grantsBy : Grants → State → Call → Grants
-grantsBy g s c = grantsAfter (step g s c .answer) c g
 
 -- The text of a call made in a state.
 abbrev pub textFor : Form → ℕ → Call → Grants → State → List ℕ

@@ -3,8 +3,8 @@ use Prim.Native.Nat.{ℕ, zero, suc, _%_}
 use mathlib.Core.List.{List, [], _++_}
 use lib.ListN.{length}
 use Rattle.machine.specs.State.{State, freshState}
-use Rattle.machine.specs.Grants.{Grants, grantsAfter, freshGrants}
-use Rattle.machine.specs.Machine.{step}
+use Rattle.machine.specs.Grants.{Grants, freshGrants}
+use Rattle.machine.specs.Machine.{step, grantsBy}
 use Rattle.journal.specs.declared.types.Read.{Read}
 use Rattle.journal.specs.declared.types.Read.the-variants.{Found, Refused, Ended}
 use Rattle.journal.specs.Words.{readAt}
@@ -17,7 +17,7 @@ unfoldable pub sentencesFrom : ℕ → Read → List ℕ → Grants → State �
 sentencesFrom zero r journal g s = []
 sentencesFrom (suc n) (Found c next) journal g s =
     sentence c (step g s c .answer)
-    ++ sentencesFrom n (readAt journal next) journal (grantsAfter (step g s c .answer) c g) (step g s c .state)
+    ++ sentencesFrom n (readAt journal next) journal (grantsBy g s c) (step g s c .state)
 sentencesFrom (suc n) (Refused code at) journal g s = []
 sentencesFrom (suc n) Ended journal g s = []
 

@@ -15,7 +15,7 @@ use Rattle.machine.specs.Lists.{pick, put}
 use Rattle.machine.specs.State.{State}
 use Rattle.machine.specs.Results.{isAccepted}
 use Rattle.machine.specs.Grants.{Grants, grantWord, regranted, grantsAfter, freshGrants, SoundGrants}
-use Rattle.machine.specs.Machine.{performIf, step}
+use Rattle.machine.specs.Machine.{performIf, step, grantsBy}
 use Rattle.machine.proofs.Lists.{Same, same, other, same?, put-same, put-other, put-all}
 use Rattle.machine.proofs.Ranges.{bounds}
 
@@ -144,7 +144,7 @@ regranted-sound g S (Grant t e r b) range =
 
 -- Every call leaves sound grants sound.
 pub grants-sound :
-    (g : Grants) (s : State) (c : Call) → SoundGrants g → SoundGrants (grantsAfter (step g s c .answer) c g)
+    (g : Grants) (s : State) (c : Call) → SoundGrants g → SoundGrants (grantsBy g s c)
 unfolding step performIf grantsAfter
 grants-sound g s c S = go (inRange c) refl
   where

@@ -18,7 +18,7 @@ use Rattle.machine.specs.Scheduling.{enqueue, unqueue, standDown, wake, 
 use Rattle.machine.specs.Endpoints.{senders, receivers, underAbort, joinEndpoint, leaveEndpoint, wakeFrom}
 use Rattle.machine.specs.Endpoints.{dropDebt}
 use Rattle.machine.specs.Results.{Result, accept, done, blocked, refuse, receipt}
-use Rattle.machine.specs.Grants.{Grants, barred}
+use Rattle.machine.specs.Grants.{Grants, barred, grantsAfter}
 use Rattle.machine.specs.Aborts.{delete, abort}
 
 abbrev pub isAbsent : Place → Bool
@@ -207,3 +207,7 @@ performIf false g c s = refuse 19 s
 -- The machine's step, under the grants.
 unfoldable pub step : Grants → State → Call → Result
 step g s c = performIf (inRange c) g c s
+
+-- The grants that it leaves.
+abbrev pub grantsBy : Grants → State → Call → Grants
+grantsBy g s c = grantsAfter (step g s c .answer) c g

@@ -11,9 +11,9 @@ use Rattle.machine.specs.declared.Call.the-variants.{Interrupt, Tick, Se
 use Rattle.machine.specs.declared.Call.the-variants.{Grant}
 use Rattle.machine.specs.State.{State, freshState}
 use Rattle.machine.specs.Results.{Result}
-use Rattle.machine.specs.Grants.{Grants, grantsAfter}
+use Rattle.machine.specs.Grants.{Grants}
 use Rattle.machine.specs.Aborts.{abortUnless, abort}
-use Rattle.machine.specs.Machine.{byCaller, perform, step}
+use Rattle.machine.specs.Machine.{byCaller, perform, step, grantsBy}
 use Rattle.machine.specs.History.{Reported, History}
 use Rattle.machine.specs.Recorded.{Run, told, runFrom, freshHistory, freshRun, historyOf}
 use Rattle.machine.specs.Claim.{Claim}
@@ -85,7 +85,7 @@ along (c ∷ l) past x I =
     (along l (past ++ (c ∷ []))
     (record {
       state = step (x .grants) (x .state) c .state;
-      grants = grantsAfter (step (x .grants) (x .state) c .answer) c (x .grants);
+      grants = grantsBy (x .grants) (x .state) c;
       history = told c (x .state) (step (x .grants) (x .state) c) (x .history);
     })
     (onward past (x .grants) (x .state) (x .history) c I))
