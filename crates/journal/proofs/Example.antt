@@ -6,7 +6,8 @@ use mathlib.Core.Option.{Option, none, some}
 use mathlib.Core.List.{List, [], _∷_}
 use Rattle.machine.proofs.Examples.Computed.{computed}
 use Rattle.journal.specs.Words.{callOf, callAt, wordsTaken, readFrom, readAt}
-use Rattle.journal.specs.Rows.{Row, rowsFrom, rowsOf}
+use Rattle.journal.specs.Rows.{Row, rowsOf}
+use Rattle.journal.specs.Course.{courseFrom, courseOf}
 
 example : List ℕ
 example =
@@ -52,5 +53,5 @@ lines =
 
 -- Thread 2 holds badge 0 and aborts badge 7: an abort needs its right alone.
 fifteen-lines : rowsOf example ≡ lines
-unfolding rowsOf rowsFrom readAt readFrom callAt callOf wordsTaken example lines computed
+unfolding rowsOf courseOf courseFrom readAt readFrom callAt callOf wordsTaken example lines computed
 fifteen-lines = refl

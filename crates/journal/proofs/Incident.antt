@@ -4,7 +4,8 @@ use mathlib.Core.Path.{_≡_, refl}
 use mathlib.Core.List.{List, [], _∷_}
 use Rattle.machine.proofs.Examples.Computed.{computed}
 use Rattle.journal.specs.Words.{callOf, callAt, wordsTaken, readFrom, readAt}
-use Rattle.journal.specs.Rows.{Row, rowsFrom, rowsOf}
+use Rattle.journal.specs.Rows.{Row, rowsOf}
+use Rattle.journal.specs.Course.{courseFrom, courseOf}
 use Rattle.journal.proofs.Example.{line, idle}
 
 incident : List ℕ
@@ -43,5 +44,5 @@ told =
 
 -- The new holder's message is the one received: 300 in the last line.
 incident-lines : rowsOf incident ≡ told
-unfolding rowsOf rowsFrom readAt readFrom callAt callOf wordsTaken incident told computed
+unfolding rowsOf courseOf courseFrom readAt readFrom callAt callOf wordsTaken incident told computed
 incident-lines = refl

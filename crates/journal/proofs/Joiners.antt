@@ -4,7 +4,8 @@ use mathlib.Core.Path.{_≡_, refl}
 use mathlib.Core.List.{List, [], _∷_}
 use Rattle.machine.proofs.Examples.Computed.{computed}
 use Rattle.journal.specs.Words.{callOf, callAt, wordsTaken, readFrom, readAt}
-use Rattle.journal.specs.Rows.{Row, rowsFrom, rowsOf}
+use Rattle.journal.specs.Rows.{Row, rowsOf}
+use Rattle.journal.specs.Course.{courseFrom, courseOf}
 use Rattle.journal.proofs.Example.{line, idle}
 
 joiners : List ℕ
@@ -54,5 +55,5 @@ told =
 -- The two who were broken off are answered 0, count 0 in lines 26 and 28, and the new holder's message is received: 500
 -- in the last line.
 joiners-lines : rowsOf joiners ≡ told
-unfolding rowsOf rowsFrom readAt readFrom callAt callOf wordsTaken joiners told computed
+unfolding rowsOf courseOf courseFrom readAt readFrom callAt callOf wordsTaken joiners told computed
 joiners-lines = refl

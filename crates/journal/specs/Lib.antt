@@ -1,3 +1,4 @@
 pub mod Words
+pub mod Course
 pub mod Rows
 pub mod Steps

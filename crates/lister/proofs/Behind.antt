@@ -24,7 +24,9 @@ use Rattle.lister.specs.declared.Form.{Form}
 use Rattle.lister.specs.Forms.{stopText}
 use Rattle.lister.specs.Feeding.{ready}
 use Rattle.lister.proofs.Enough.{Whole, whole-words, read-same, read-all, read-missing}
-use Rattle.lister.proofs.Texts.{Text, before, stopsWith, oddText, textFor, textFrom}
+use Rattle.journal.specs.Course.{courseFrom}
+use Rattle.lister.specs.Listing.{Text, oddText}
+use Rattle.lister.proofs.Texts.{before, stopsWith, textFor, textFrom}
 
 -- The text of these bytes, from an index and a state on.
 abbrev pub textOn : Form → ℕ → ℕ → List ℕ → Grants → State → Text
@@ -33,7 +35,7 @@ textOn f n i bytes g s = textFrom f (length bytes % 4) n (readAt (wordsIn bytes)
 text-moved :
     (f : Form) (k n : ℕ) (r : Read) (p i : ℕ) (journal : List ℕ) (g : Grants) (s : State)
     → textFrom f k n (moved p r) i journal g s ≡ textFrom f k n r i (drop p journal) g s
-unfolding textFrom
+unfolding courseFrom
 text-moved f k zero r p i journal g s = refl
 text-moved f k (suc n) (Found c next) p i journal g s =
     let s′ = step g s c .state in
@@ -76,7 +78,7 @@ module _ (f : Form) (bytes more : List ℕ) (v : Whole bytes) (n i : ℕ) (g : G
   pub text-taken :
       (c : Call) (next : ℕ) → readAt (wordsIn bytes) 0 ≡ Found c next
       → textOn f (suc n) i (bytes ++ more) g s ≡ before (textFor f i c g s) (textOn f n (suc i) more (grantsBy g s c) (step g s c .state))
-  unfolding textFrom
+  unfolding courseFrom
   text-taken c next e =
       let k = length more % 4 in
       let journal = wordsIn bytes ++ wordsIn more in
@@ -92,7 +94,7 @@ module _ (f : Form) (bytes more : List ℕ) (v : Whole bytes) (n i : ℕ) (g : G
   pub text-refused :
       (code at : ℕ) → readAt (wordsIn bytes) 0 ≡ Refused code at
       → textOn f (suc n) i (bytes ++ more) g s ≡ stopsWith (stopText f i code (s .runs))
-  unfolding textFrom
+  unfolding courseFrom
   text-refused code at e =
       same-words
       ∙ ap (λ (r : Read). textFrom f (length more % 4) (suc n) r i (wordsIn bytes ++ wordsIn more) g s) e
@@ -107,14 +109,14 @@ module _ (f : Form) (bytes : List ℕ) (n i : ℕ) (g : Grants) (s : State) wher
   Lacking = textOn f (suc n) i bytes g s ≡ stopsWith (stopText f i 18 (s .runs))
 
   few : length bytes < 4 → 1 ≤ length bytes → Lacking
-  unfolding textFrom readAt readFrom
+  unfolding courseFrom readAt readFrom
   few h some =
       let k = length bytes % 4 in
       ap (λ (l : List ℕ). textFrom f k (suc n) (readAt l 0) i l g s) (no-words bytes h)
       ∙ ap stopsWith (odd-some f k i (s .runs) (omega (arith, h, some)))
 
   many : ready bytes ≡ false → 4 ≤ length bytes → Lacking
-  unfolding textFrom
+  unfolding courseFrom
   many r h =
       ap (λ (r : Read). textFrom f (length bytes % 4) (suc n) r i (wordsIn bytes) g s) (read-missing bytes r h)
 

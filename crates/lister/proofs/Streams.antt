@@ -21,11 +21,12 @@ use Rattle.lent_tables.specs.Entries.{zeros}
 use Rattle.lent_tables.proofs.Verdict.{zeros-length}
 use Rattle.input.specs.Words.{wordsIn}
 use Rattle.lister.specs.declared.Form.{Form}
-use Rattle.lister.specs.Listing.{Prefix}
+use Rattle.journal.specs.Course.{courseFrom}
+use Rattle.lister.specs.Listing.{Text, wholeOf, Prefix}
 use Rattle.lister.specs.Forms.{stopText}
 use Rattle.lister.specs.Feeding.{Told, ready, holding, fed, ending}
 use Rattle.lister.proofs.Enough.{Whole, whole-now, how-many, whole-words, not-over}
-use Rattle.lister.proofs.Texts.{Text, wholeOf, before, stopsWith, textFor, textFrom}
+use Rattle.lister.proofs.Texts.{before, stopsWith, textFor}
 use Rattle.lister.proofs.Behind.{textOn, text-taken, text-refused, text-lacking}
 use Rattle.lister.proofs.Feeding.{following, fed-first, fed-stopped, ending-stopped, on, byte-held, byte-taken}
 use Rattle.lister.proofs.Feeding.{takenTold, call-told, stopped, stopTold, refused-told, ending-held}
@@ -45,7 +46,7 @@ module _ (f : Form) where
   at-end :
       (held : List ℕ) (n i : ℕ) (g : Grants) (s : State) (x : List ℕ) → Sound s → ready held ≡ false
       → Streams f (fed f [] (on held i g s x)) (textOn f (suc n) i held g s)
-  unfolding fed ending textFrom readAt readFrom wordsIn
+  unfolding fed ending courseFrom readAt readFrom wordsIn
   at-end [] n i g s x S e = record { whole = refl; begun = record { more = []; whole = refl } }
   at-end (b ∷ held) n i g s x S e =
       alike refl (text-lacking f (b ∷ held) n i g s e (omega arith))

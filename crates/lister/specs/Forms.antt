@@ -1,15 +1,15 @@
--- The text of a call taken, and of what stops a journal, in each form.
+-- The text of a call made, and of what stops a journal, in each form.
 use Prim.Native.Nat.{ℕ}
 use mathlib.Core.Option.{Option}
 use mathlib.Core.List.{List}
 use Rattle.machine.specs.declared.Answer.{Answer}
 use Rattle.machine.specs.declared.Call.{Call}
 use Rattle.machine.specs.Calls.{numberOf}
+use Rattle.journal.specs.Rows.{lastRow}
 use Rattle.listing.specs.Line.{lineOf}
 use Rattle.sentences.specs.Sentence.{sentence, stopLine}
 use Rattle.lister.specs.declared.Form.{Form}
 use Rattle.lister.specs.declared.Form.the-variants.{Lines, Sentences}
-use Rattle.lister.specs.Listing.{lastRow}
 
 -- Of a call with this index and answer, after which this thread runs. A sentence tells neither index nor thread.
 abbrev pub callText : Form → ℕ → Call → Answer → Option ℕ → List ℕ

@@ -1,47 +1,53 @@
--- The listing of a journal: from all its bytes to all bytes of its listing.
+-- The listing of a journal, and its telling: from all its bytes to all bytes of its text.
 use Prim.Native.Nat.{ℕ, zero, suc, _%_}
 use mathlib.Core.Path.{_≡_}
-use mathlib.Core.Option.{Option, none}
+use mathlib.Core.Option.{Option, none, some}
 use mathlib.Core.List.{List, [], _∷_, _++_}
-use lib.Dec.{eqb}
 use lib.ListN.{length}
-use Rattle.machine.specs.Lists.{pick}
-use Rattle.machine.specs.Results.{plain}
-use Rattle.journal.specs.Rows.{Row, rowsOf}
-use Rattle.listing.specs.Line.{lineOf, header}
+use Rattle.listing.specs.Line.{header}
 use Rattle.input.specs.Words.{wordsIn}
+use Rattle.lister.specs.declared.Form.{Form}
+use Rattle.lister.specs.declared.Form.the-variants.{Lines, Sentences}
+use Rattle.journal.specs.Course.{Made, Course, courseOf}
+use Rattle.lister.specs.Forms.{callText, stopText}
 
--- The lines of rows, one behind the other.
-abbrev pub linesOf : List Row → List ℕ
-linesOf [] = []
-linesOf (r ∷ rows) = lineOf r ++ linesOf rows
+-- The texts of calls made, one behind the other.
+abbrev pub callTexts : Form → List Made → List ℕ
+callTexts f [] = []
+callTexts f (x ∷ l) = callText f (x .index) (x .call) (x .answer) (x .runs) ++ callTexts f l
 
--- "the next index, call 0, the reader's 18 or 19, three zeros, running thread"
-abbrev pub lastRow : ℕ → ℕ → Option ℕ → Row
-lastRow i code running = record { index = i; call = 0; answer = plain code; running = running }
+-- "1 to 3 odd bytes after calls that all read, with 18": of so many odd bytes
+abbrev pub oddText : Form → ℕ → ℕ → Option ℕ → List ℕ
+oddText f zero i running = []
+oddText f (suc k) i running = stopText f i 18 running
 
--- The row of odd bytes behind these rows: none where one of them is a last row already. Index and running thread are
--- those given or, where there are rows, those after the last of them.
-unfoldable pub oddRow : ℕ → Option ℕ → List Row → List Row
-oddRow i running [] = lastRow i 18 running ∷ []
-oddRow i running (r ∷ rows) = pick (eqb (r .call) 0) [] (oddRow (suc (r .index)) (r .running) rows)
+-- What stands behind the calls: the text of a word that does not read as a call, or that of odd bytes.
+abbrev pub stopWith : Form → ℕ → Option ℕ → ℕ → Option ℕ → List ℕ
+stopWith f k none i running = oddText f k i running
+stopWith f k (some code) i running = stopText f i code running
 
--- "1 to 3 odd bytes after calls that all read, with 18"
-abbrev pub oddRows : ℕ → ℕ → Option ℕ → List Row → List Row
-oddRows zero i running rows = []
-oddRows (suc n) i running rows = oddRow i running rows
+-- The text of the calls, and of what stops them.
+pub record Text : Type 0 where
+  pub calls : List ℕ
+  pub stop : List ℕ
 
-unfoldable pub rowsIn : List ℕ → List Row
-rowsIn bytes = rowsOf (wordsIn bytes) ++ oddRows (length bytes % 4) 0 none (rowsOf (wordsIn bytes))
+abbrev pub wholeOf : Text → List ℕ
+wholeOf t = t .calls ++ t .stop
+
+-- Of a journal behind whose words k odd bytes stand.
+abbrev pub textIn : Form → ℕ → Course → Text
+textIn f k x = record { calls = callTexts f (x .made); stop = stopWith f k (x .stop) (x .index) (x .runs) }
+
+abbrev pub textOf : Form → List ℕ → Text
+textOf f bytes = textIn f (length bytes % 4) (courseOf (wordsIn bytes))
 
 -- "Empty input gives the header alone."
 unfoldable pub listingOf : List ℕ → List ℕ
-listingOf bytes = header ++ linesOf (rowsIn bytes)
+listingOf bytes = header ++ wholeOf (textOf Lines bytes)
 
--- The rows of calls, without a last row.
-abbrev pub callRows : List Row → List Row
-callRows [] = []
-callRows (r ∷ rows) = pick (eqb (r .call) 0) [] (r ∷ callRows rows)
+-- Sentences have no header: empty input gives nothing.
+unfoldable pub tellingOf : List ℕ → List ℕ
+tellingOf bytes = wholeOf (textOf Sentences bytes)
 
 -- The bytes b begin with the bytes a.
 pub record Prefix (a b : List ℕ) : Type 0 where
