@@ -5,10 +5,11 @@ use mathlib.Core.Bool.{Bool, true, false}
 use mathlib.Core.Option.{Option, none, some}
 use mathlib.Core.List.{List, []}
 use native.Mathlib.Omega.{arith}
-use Rattle.machine.specs.declared.Answer.{Answer}
+use Rattle.calls.specs.declared.Answer.{Answer}
 use Rattle.machine.specs.State.{State, Abort, Status, missing, live, closing}
 use Rattle.machine.specs.Endpoints.{underAbort, isAborting, dropDebt}
-use Rattle.machine.specs.Results.{plain, accept}
+use Rattle.machine.specs.Results.{accept}
+use Rattle.calls.specs.Answers.{plain}
 use Rattle.machine.specs.Aborts.{join, workOwn, workOther, underBadge, abortFrom, abortOpen, abortAt, abortUnless}
 use Rattle.machine.specs.Aborts.{abort}
 use Rattle.machine.specs.Sound.{Sound}

@@ -4,10 +4,11 @@ use mathlib.Core.Path.{_≡_, refl, sym, _∙_, ap, subst}
 use mathlib.Core.List.{List, [], _++_}
 use native.Mathlib.Omega.{arith}
 use lib.ListN.{length, length-append}
-use Rattle.machine.specs.declared.Answer.{Answer}
+use Rattle.calls.specs.declared.Answer.{Answer}
 use Rattle.machine.specs.State.{State, Endpoint, live}
 use Rattle.machine.specs.Endpoints.{dropDebt, endAbort}
-use Rattle.machine.specs.Results.{Result, Look, counted, accept}
+use Rattle.machine.specs.Results.{Result, Look, accept}
+use Rattle.calls.specs.Answers.{counted}
 use Rattle.machine.specs.Aborts.{Looked, pendingAt, join, begin, ended, lookedOwn, workOwn, beginAfter, finished}
 use Rattle.machine.specs.Aborts.{lookedOther, workOther}
 use Rattle.machine.specs.Mid.{Mid}

@@ -8,13 +8,13 @@ ghost use Rattle.store.specs.Steps.{Shown, Does};
 ghost use Rattle.endings.specs.Results.{Calling, Performs};
 ghost use Rattle.aborts.specs.Aborts.{Cursor, InMid, Open, Joining, LooksOn};
 ghost use Rattle.aborts.specs.Aborts.{Continues, ownEnded, ownBegun, joinedOn, unnoted};
+use calls::Answer;
+use calls::codes::BROKEN_OFF;
 use layout::Field;
 use layout::Part;
 use layout::codes;
 use layout::codes::LINK;
 use layout::codes::NOBODY;
-use machine::Answer;
-use machine::codes::BROKEN_OFF;
 
 // A look takes the cursor's waiter w: under the abort's badge it is removed, else it is kept and the cursor moves on.
 fn look(tables: &mut [u32], e: usize, w: usize)
@@ -24,7 +24,7 @@ fn look(tables: &mut [u32], e: usize, w: usize)
     let badge = store::thread(tables, Field::Badge, w);
     let hit = debts::under_abort(tables, e, badge);
     if hit {
-        queues::wake_from(tables, e, w, machine::codes::MESSAGE_ABORTED, 0, 0);
+        queues::wake_from(tables, e, w, calls::codes::MESSAGE_ABORTED, 0, 0);
         return;
     }
     queues::pass_marks(tables, w, e);
@@ -55,11 +55,11 @@ fn end_own(tables: &mut [u32], t: usize, e: usize, count: u32) -> Answer
 {
     let cursor = store::endpoint(tables, Part::Cursor, e);
     if cursor != NOBODY {
-        return endings::accept(tables, machine::counted(BROKEN_OFF, count));
+        return endings::accept(tables, calls::counted(BROKEN_OFF, count));
     }
     debts::drop_debt(tables, t); // the note is for the others
     debts::end_abort(tables, e, codes::LIVE);
-    endings::accept(tables, machine::counted(machine::codes::DONE, count))
+    endings::accept(tables, calls::counted(calls::codes::DONE, count))
 }
 
 // The call's own abort works; the call's earlier looks are counted with its own.
@@ -103,7 +103,7 @@ fn begin_after(
         (beginAfter left t e badge) (now (tables .exit)) ⌝ }
 {
     if left == 0 {
-        return endings::accept(tables, machine::counted(BROKEN_OFF, earlier));
+        return endings::accept(tables, calls::counted(BROKEN_OFF, earlier));
     }
     begin_own(tables, t, e, left, badge, earlier)
 }
@@ -117,7 +117,7 @@ fn work_other(tables: &mut [u32], t: usize, e: usize, allowance: u32, badge: u32
     let n = look_up_to(tables, e, allowance);
     let pending = store::endpoint(tables, Part::Cursor, e);
     if pending != NOBODY {
-        return endings::accept(tables, machine::counted(BROKEN_OFF, n));
+        return endings::accept(tables, calls::counted(BROKEN_OFF, n));
     }
     debts::end_abort(tables, e, codes::LIVE);
     let rest = allowance - n;
@@ -158,10 +158,10 @@ fn abort_at(tables: &mut [u32], t: usize, e: usize, allowance: u32, badge: u32) 
 {
     let status = store::endpoint(tables, Part::Status, e);
     if status == codes::MISSING {
-        return machine::plain(machine::codes::ENDPOINT_ABSENT);
+        return calls::plain(calls::codes::ENDPOINT_ABSENT);
     }
     if status == codes::CLOSING {
-        return machine::plain(machine::codes::ENDPOINT_CLOSING);
+        return calls::plain(calls::codes::ENDPOINT_CLOSING);
     }
     debts::drop_debt(tables, t);
     abort_open(tables, t, e, allowance, badge)
@@ -176,7 +176,7 @@ pub fn abort(tables: &mut [u32], t: usize, e: usize, allowance: u32, badge: u32)
     let noted = debts::has_note(tables, t, e, badge);
     if noted {
         debts::drop_debt(tables, t); // the note goes, and nothing else changes
-        return endings::accept(tables, machine::plain(machine::codes::DONE));
+        return endings::accept(tables, calls::plain(calls::codes::DONE));
     }
     abort_at(tables, t, e, allowance, badge)
 }

@@ -4,8 +4,8 @@ ghost use mathlib.Core.Path.{_≡_};
 ghost use Rattle.store.specs.Steps.{Shown};
 ghost use Rattle.store.specs.Store.{IsThread};
 ghost use Rattle.blocks.specs.Blocks.{tickedBlock, LoadsBlock, IsBlock, SetsBlock};
+use calls::codes::TICKS;
 use layout::Field;
-use machine::codes::TICKS;
 
 pub struct Block {
     pub place: u32,

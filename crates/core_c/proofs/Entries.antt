@@ -3,9 +3,9 @@ use Prim.Native.Nat.{ℕ, zero, suc}
 use mathlib.Core.Path.{_≡_, refl, sym, ap, _∙_}
 use mathlib.Core.List.{List}
 use mathlib.Core.Option.{Option, none}
-use Rattle.machine.specs.declared.Answer.{Answer}
-use Rattle.machine.specs.declared.Call.{Call}
-use Rattle.machine.specs.Results.{plain}
+use Rattle.calls.specs.declared.Answer.{Answer}
+use Rattle.calls.specs.declared.Call.{Call}
+use Rattle.calls.specs.Answers.{plain}
 use Rattle.lent_tables.specs.Entries.{Lent, lent, Checked, checked, Called}
 use Rattle.journal.specs.declared.types.Written.{Written}
 use Rattle.journal.specs.declared.types.Named.{Named}

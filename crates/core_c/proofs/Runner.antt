@@ -4,11 +4,11 @@ use mathlib.Core.Path.{_≡_, refl, sym, ap, _∙_}
 use mathlib.Core.List.{List}
 use mathlib.Core.Option.{some}
 use native.Mathlib.Omega.{arith}
-use Rattle.machine.specs.declared.Runner.{Runner}
-use Rattle.machine.specs.declared.Runner.the-variants.{Nobody, Thread}
-use Rattle.machine.specs.Results.{threadOf}
+use Rattle.calls.specs.declared.Runner.{Runner}
+use Rattle.calls.specs.declared.Runner.the-variants.{Nobody, Thread}
+use Rattle.calls.specs.Answers.{threadOf}
 use Rattle.lent_tables.specs.Entries.{runnerIn}
-use Rattle.kernel.proofs.Runner.{running-within}
+use Rattle.lent_tables.proofs.Runner.{running-within}
 use Rattle.core_c.specs.Entries.{runnerNumber}
 
 pub numbered : (m : List ℕ) (r k : Runner) → r ≡ runnerIn m → r ≡ k → runnerNumber k ≡ runnerNumber (runnerIn m)

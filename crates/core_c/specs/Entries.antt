@@ -2,11 +2,11 @@
 use Prim.Native.Nat.{ℕ, zero, suc}
 use mathlib.Core.List.{List, [], _∷_}
 use mathlib.Core.Option.{Option, none, some}
-use Rattle.machine.specs.declared.Answer.{Answer}
-use Rattle.machine.specs.declared.Call.{Call}
-use Rattle.machine.specs.declared.Runner.{Runner}
-use Rattle.machine.specs.declared.Runner.the-variants.{Nobody, Thread}
-use Rattle.machine.specs.Results.{plain}
+use Rattle.calls.specs.declared.Answer.{Answer}
+use Rattle.calls.specs.declared.Call.{Call}
+use Rattle.calls.specs.declared.Runner.{Runner}
+use Rattle.calls.specs.declared.Runner.the-variants.{Nobody, Thread}
+use Rattle.calls.specs.Answers.{plain}
 use Rattle.lent_tables.specs.Entries.{Lent, lent, checked, Called, called}
 use Rattle.journal.specs.declared.types.Read.{Read}
 use Rattle.journal.specs.declared.types.Read.the-variants.{Found, Refused, Ended}

@@ -14,11 +14,11 @@ ghost use Rattle.core_c.specs.Entries.{Answered, calledFor, answered, re
 mod types;
 
 use crate::types::Reading;
+use calls::Answer;
+use calls::Runner;
 use journal::types::Named;
 use journal::types::Read;
 use journal::types::Written;
-use machine::Answer;
-use machine::Runner;
 
 // That the journal has ended: no code of an answer.
 const ENDED: u32 = 255;
@@ -53,9 +53,9 @@ fn refuse(tables: &[u32], grants: &[u32], scratch: &mut [u32]) -> Answer
 {
     let code = lent_tables::check(tables, grants, scratch);
     if code != 0 {
-        return machine::plain(code);
+        return calls::plain(code);
     }
-    machine::plain(machine::codes::NO_CALL)
+    calls::plain(calls::codes::NO_CALL)
 }
 
 // Takes the call that the numbers name, if they name one.
@@ -137,7 +137,7 @@ fn write(named: Named) -> Written
 {
     let Named::One(call) = named else {
         return Written {
-            code: machine::codes::NO_CALL,
+            code: calls::codes::NO_CALL,
             count: 0,
             words: [0, 0, 0],
         };
@@ -164,7 +164,7 @@ pub extern "C" fn nazsombet_write(call: &[u32; 6], words: &mut [u32; 3], count: 
 pub extern "C" fn nazsombet_running(tables: &[u32]) -> u32
     ensures { λ r. ⌜ r ≡ runnerNumber (runnerIn (now (tables .entry))) ⌝ }
 {
-    match kernel::running(tables) {
+    match lent_tables::who::running(tables) {
         Runner::Nobody => NOBODY,
         Runner::Thread(thread) => thread,
     }

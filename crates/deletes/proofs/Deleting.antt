@@ -3,10 +3,11 @@ use Prim.Native.Nat.{ℕ, _≤_}
 use mathlib.Core.Path.{_≡_, refl, sym, _∙_, ap, subst}
 use mathlib.Core.List.{List, []}
 use native.Mathlib.Omega.{arith}
-use Rattle.machine.specs.declared.Answer.{Answer}
+use Rattle.calls.specs.declared.Answer.{Answer}
 use Rattle.machine.specs.State.{State, Status, missing, live, closing, missingEndpoint, setEndpoint}
 use Rattle.machine.specs.Endpoints.{dropDebt, endAbort}
-use Rattle.machine.specs.Results.{Result, plain, counted, accept, refuse}
+use Rattle.machine.specs.Results.{Result, accept, refuse}
+use Rattle.calls.specs.Answers.{plain, counted}
 use Rattle.machine.specs.Aborts.{deleted, deleteFrom, deleteAt, delete}
 use Rattle.machine.proofs.Preserved.Mid.{sound-mid}
 use Rattle.layout.specs.Addresses.{endpointQueue}

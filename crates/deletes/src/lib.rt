@@ -6,13 +6,13 @@ ghost use Rattle.machine.specs.Aborts.{deleteFrom, delete};
 ghost use Rattle.store.specs.Steps.{Shown};
 ghost use Rattle.endings.specs.Results.{Calling, Performs};
 ghost use Rattle.deletes.specs.Deletes.{Closes, Removes};
+use calls::Answer;
+use calls::codes::BROKEN_OFF;
+use calls::codes::ENDPOINT_GONE;
 use layout::Part;
 use layout::codes;
 use layout::codes::LINK;
 use layout::codes::NOBODY;
-use machine::Answer;
-use machine::codes::BROKEN_OFF;
-use machine::codes::ENDPOINT_GONE;
 
 // Waiters leave the head of endpoint e's queue with outcome 4, until nobody is left or the allowance is used up; how
 // many went.
@@ -40,10 +40,10 @@ fn delete_from(tables: &mut [u32], e: usize, allowance: u32) -> Answer
     let count = remove(tables, e, allowance);
     let first = links::first(tables, codes::ENDPOINT_QUEUES + e);
     if first != NOBODY {
-        return endings::accept(tables, machine::counted(BROKEN_OFF, count));
+        return endings::accept(tables, calls::counted(BROKEN_OFF, count));
     }
     store::set_status(tables, e, codes::MISSING);
-    endings::accept(tables, machine::counted(machine::codes::DONE, count))
+    endings::accept(tables, calls::counted(calls::codes::DONE, count))
 }
 
 // 11: thread t deletes endpoint e, removing at most as many waiters as the allowance lets.
@@ -54,7 +54,7 @@ pub fn delete(tables: &mut [u32], t: usize, e: usize, allowance: u32) -> Answer
 {
     let status = store::endpoint(tables, Part::Status, e);
     if status == codes::MISSING {
-        return machine::plain(machine::codes::ENDPOINT_ABSENT);
+        return calls::plain(calls::codes::ENDPOINT_ABSENT);
     }
     debts::drop_debt(tables, t);
     debts::end_abort(tables, e, codes::CLOSING);

@@ -2,10 +2,11 @@
 use Prim.Native.Nat.{ℕ}
 use mathlib.Core.Path.{_≡_, refl, _∙_, ap, subst}
 use mathlib.Core.List.{List, []}
-use Rattle.machine.specs.declared.Answer.{Answer}
+use Rattle.calls.specs.declared.Answer.{Answer}
 use Rattle.machine.specs.State.{State}
 use Rattle.machine.specs.Scheduling.{choose}
-use Rattle.machine.specs.Results.{Result, plain, accept, refuse, done}
+use Rattle.machine.specs.Results.{Result, accept, refuse, done}
+use Rattle.calls.specs.Answers.{plain}
 use Rattle.layout.specs.Shows.{Shows}
 use Rattle.store.specs.Steps.{Shown, Does}
 use Rattle.queues.specs.Queues.{Chooses}

@@ -4,7 +4,7 @@ use Prim.Native.Nat.{ℕ}
 use mathlib.Core.Path.{_≡_}
 use mathlib.Core.Option.{some}
 use mathlib.Core.List.{List}
-use Rattle.machine.specs.declared.Answer.{Answer}
+use Rattle.calls.specs.declared.Answer.{Answer}
 use Rattle.machine.specs.State.{State}
 use Rattle.machine.specs.Results.{Result, Look, accept}
 use Rattle.machine.specs.Sound.{Sound}

@@ -4,7 +4,7 @@ ghost use Rattle.machine.specs.Results.{done};
 ghost use Rattle.store.specs.Steps.{Shown};
 ghost use Rattle.queues.specs.Queues.{Chooses};
 ghost use Rattle.endings.specs.Results.{Performs, Accepts};
-use machine::Answer;
+use calls::Answer;
 
 // An accepted call is answered after somebody is chosen.
 pub fn accept(tables: &mut [u32], answer: Answer) -> Answer
@@ -21,5 +21,5 @@ pub fn done(tables: &mut [u32]) -> Answer
     ensures { λ r. ⌜ Performs (now (tables .entry)) (now (tables .exit)) r Chooses done ⌝ }
 {
     queues::choose(tables);
-    machine::plain(machine::codes::DONE)
+    calls::plain(calls::codes::DONE)
 }

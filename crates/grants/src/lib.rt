@@ -4,12 +4,12 @@ ghost use mathlib.Core.Path.{_≡_};
 ghost use mathlib.Core.Bool.{true};
 ghost use Prim.Native.Nat.{_^_, _≤_, _<_};
 ghost use lib.ListN.{length};
-ghost use Rattle.machine.specs.declared.Call.the-variants.{Grant};
-ghost use Rattle.machine.specs.Calls.{endpointOf, inRange};
+ghost use Rattle.calls.specs.declared.Call.the-variants.{Grant};
+ghost use Rattle.calls.specs.Calls.{endpointOf, inRange};
 ghost use Rattle.machine.specs.Lists.{put};
 ghost use Rattle.machine.specs.Grants.{grants?, grantWord, lacks, regranted};
 ghost use Rattle.grants.specs.Memory.{grantWords, grantsOf, grantImage, grantsTest};
-use machine::Call;
+use calls::Call;
 
 // How many words are lent for the grants.
 pub const GRANT_WORDS: usize = 16384;

@@ -9,9 +9,9 @@ use native.Mathlib.Omega.{arith}
 use native.Mathlib.Numerals.{add-one}
 use lib.ListN.{length, getD, take, drop, length-drop}
 use lib.Seq.{drop-cons, take-all}
-use Rattle.machine.specs.declared.Call.{Call}
-use Rattle.machine.specs.declared.Call.the-variants.{Send, Abort, Grant}
-use Rattle.machine.specs.Calls.{inRange}
+use Rattle.calls.specs.declared.Call.{Call}
+use Rattle.calls.specs.declared.Call.the-variants.{Send, Abort, Grant}
+use Rattle.calls.specs.Calls.{inRange}
 use Rattle.journal.specs.declared.types.Named.{Named}
 use Rattle.journal.specs.declared.types.Named.the-variants.{One, Nothing}
 use Rattle.journal.specs.declared.Number.the-variants.{Is, Wrong}

@@ -9,7 +9,7 @@ use native.Mathlib.Omega.{arith}
 use borrow.Author.Tests.{eqb-true, eq-eqb, ne-eqb}
 use lib.Dec.{eqb}
 use lib.ListN.{length, getD, drop}
-use Rattle.machine.specs.declared.Call.{Call}
+use Rattle.calls.specs.declared.Call.{Call}
 use Rattle.machine.specs.Lists.{pick}
 use Rattle.journal.specs.Words.{topBits, unused, numberIn, given}
 use Rattle.journal.proofs.Parts.{number-top, number-below, number-word}

@@ -6,8 +6,8 @@ use mathlib.Core.Option.{Option, none, some}
 use Prim.Native.Nat.{ℕ, _+_, _≤_}
 use native.Mathlib.Omega.{arith}
 use lib.ListN.{length, drop, length-drop}
-use Rattle.machine.specs.declared.Call.{Call}
-use Rattle.machine.specs.Calls.{inRange}
+use Rattle.calls.specs.declared.Call.{Call}
+use Rattle.calls.specs.Calls.{inRange}
 use Rattle.journal.specs.declared.types.Read.{Read}
 use Rattle.journal.specs.declared.types.Read.the-variants.{Found, Refused, Ended}
 use Rattle.machine.specs.Lists.{pick}

@@ -10,12 +10,12 @@ use native.Mathlib.Nat.{add-zero}
 use borrow.Author.Tests.{eq-eqb, le-leb, lt-ltb}
 use lib.ListN.{length, getD, take, drop, take-append-drop, drop-of-length-le}
 use lib.Seq.{getD-drop}
-use Rattle.machine.specs.declared.Call.{Call}
-use Rattle.machine.specs.declared.Call.the-variants.{Grant}
-use Rattle.machine.specs.Calls.{inRange}
+use Rattle.calls.specs.declared.Call.{Call}
+use Rattle.calls.specs.declared.Call.the-variants.{Grant}
+use Rattle.calls.specs.Calls.{inRange}
 use Rattle.journal.specs.declared.types.Read.{Read}
 use Rattle.journal.specs.declared.types.Read.the-variants.{Refused, Ended}
-use Rattle.machine.specs.Results.{plain}
+use Rattle.calls.specs.Answers.{plain}
 use Rattle.journal.specs.Words.{topBits, topByte, callNumber, subject, argument, callOf, callAt}
 use Rattle.journal.specs.Words.{readFrom, readAt, answerToRead, wordsOf}
 use Rattle.journal.proofs.Naming.{NumbersFit, call-read, Granted, granted, spelled}

@@ -4,14 +4,14 @@ pub mod types;
 use crate::types::Named;
 use crate::types::Read;
 use crate::types::Written;
-use machine::Call;
-use machine::codes::NO_CALL;
-use machine::codes::RANGE;
+use calls::Call;
+use calls::codes::NO_CALL;
+use calls::codes::RANGE;
 ghost use mathlib.Core.Path.{_≡_};
 ghost use mathlib.Core.Bool.{true};
 ghost use mathlib.Core.List.{_∷_, []};
 ghost use Prim.Native.Nat.{_<_};
-ghost use Rattle.machine.specs.Calls.{inRange};
+ghost use Rattle.calls.specs.Calls.{inRange};
 ghost use Rattle.journal.specs.Words.{numberIn, unused, sendOf, abortOf, grantOf, callOf, callAt};
 ghost use Rattle.journal.specs.Words.{wordsTaken, judged, readAt};
 ghost use Rattle.journal.specs.Words.{callWord, badgeWord, messageWord, asWritten, wordsOf, written};
@@ -160,7 +160,7 @@ fn answer(words: Named, at: usize, next: usize) -> Read
     let Named::One(call) = words else {
         return Read::Refused { code: NO_CALL, at };
     };
-    if machine::in_range(call) {
+    if calls::in_range(call) {
         Read::Found { call, next }
     } else {
         Read::Refused { code: RANGE, at }
@@ -279,7 +279,7 @@ fn words_of(call: Call) -> Written
 pub fn write(call: Call) -> Written
     ensures { λ r. ⌜ r ≡ written call ⌝ }
 {
-    if machine::in_range(call) {
+    if calls::in_range(call) {
         words_of(call)
     } else {
         Written {

@@ -1,6 +1,6 @@
 // What naming, reading and writing a call answer. A module of its own: `Read` and the function `read` could not stand
 // in one.
-use machine::Call;
+use calls::Call;
 
 // The call that words or numbers name, if they name one.
 pub enum Named {

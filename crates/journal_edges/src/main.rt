@@ -1,7 +1,7 @@
 // Reads and writes the journal's edge cases and prints what comes back; stdout was worked out from document 01
 // and T-04.
+use calls::Call;
 use journal::types::Read;
-use machine::Call;
 ghost use Prim.Native.Nat.{_<_};
 
 // Every word stands where a call may be looked for, so each is read as one.
@@ -154,7 +154,7 @@ fn show_number(n: u32) {
 }
 
 fn show_call(call: Call) {
-    show_number(machine::number(call));
+    show_number(calls::number(call));
     let n = numbers(call);
     show_number(n.first);
     show_number(n.second);

@@ -6,11 +6,11 @@ use mathlib.Core.List.{List, [], _∷_}
 use native.Mathlib.Omega.{arith}
 use lib.Dec.{leb}
 use lib.ListN.{length, replicate, length-replicate}
-use Rattle.machine.specs.declared.Call.{Call}
-use Rattle.machine.specs.declared.Call.the-variants.{CreateThread, CreateEndpoint, Tick, Yield}
+use Rattle.calls.specs.declared.Call.{Call}
+use Rattle.calls.specs.declared.Call.the-variants.{CreateThread, CreateEndpoint, Tick, Yield}
 use Rattle.machine.specs.Lists.{put, pick}
 use Rattle.machine.specs.State.{State, Status, missing, live, closing, Endpoint, freshState}
-use Rattle.machine.specs.Results.{plain}
+use Rattle.calls.specs.Answers.{plain}
 use Rattle.machine.specs.Grants.{Grants, lacks, regranted, grantsAfter, freshGrants, SoundGrants}
 use Rattle.machine.specs.Machine.{createIf, createThread, createAt, createEndpoint, perform, performUnless, performIf}
 use Rattle.machine.specs.Machine.{step, grantsBy, tick}

@@ -7,11 +7,11 @@ use mathlib.Core.Option.{Option, none, some}
 use mathlib.Core.List.{List}
 use native.Mathlib.Omega.{arith}
 use lib.ListN.{length}
-use Rattle.machine.specs.declared.Answer.{Answer}
-use Rattle.machine.specs.declared.Call.{Call}
+use Rattle.calls.specs.declared.Answer.{Answer}
+use Rattle.calls.specs.declared.Call.{Call}
 use Rattle.machine.specs.Lists.{pick}
 use Rattle.machine.specs.State.{State}
-use Rattle.machine.specs.Results.{plain}
+use Rattle.calls.specs.Answers.{plain}
 use Rattle.machine.specs.Grants.{grantsAfter}
 use Rattle.machine.specs.Machine.{step}
 use Rattle.machine.specs.Sound.{Sound}
@@ -27,7 +27,7 @@ use Rattle.lent_tables.specs.Entries.{Lent, lent, Sized, sized, zeros, Checked,
 use Rattle.lent_tables.specs.Entries.{called}
 use Rattle.store.specs.Steps.{Shown}
 use Rattle.endings.specs.Results.{Performs}
-use Rattle.kernel.specs.Steps.{stepping, Regrants}
+use Rattle.dispatch.specs.Steps.{stepping, Regrants}
 
 abbrev pub calledOf : Answer → Lent → Called
 calledOf a l = record { answer = a; left = l }

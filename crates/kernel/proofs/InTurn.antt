@@ -8,16 +8,16 @@ use lib.Dec.{eqb}
 use lib.ListN.{length}
 use lib.Seq.{append-snoc}
 use borrow.Author.Tests.{eq-eqb, eqb-true}
-use Rattle.machine.specs.declared.Answer.{Answer}
-use Rattle.machine.specs.declared.Call.{Call}
+use Rattle.calls.specs.declared.Answer.{Answer}
+use Rattle.calls.specs.declared.Call.{Call}
 use Rattle.machine.specs.State.{State}
-use Rattle.machine.specs.Results.{plain}
+use Rattle.calls.specs.Answers.{plain}
 use Rattle.machine.specs.Grants.{Grants, SoundGrants}
 use Rattle.machine.specs.Machine.{step, grantsBy}
 use Rattle.machine.specs.Sound.{Sound}
-use Rattle.machine.specs.Recorded.{Run, freshRun, runFrom, recorded, told}
+use Rattle.history.specs.Recorded.{Run, freshRun, runFrom, recorded, told}
 use Rattle.machine.proofs.Granted.{fresh-grants-sound, grants-sound}
-use Rattle.machine.proofs.Demand3.Demand.{demand}
+use Rattle.history.proofs.Demand3.Demand.{demand}
 use Rattle.machine.proofs.Preserved.Steps.{step-sound, fresh-sound}
 use Rattle.layout.specs.Addresses.{tableWords, scratchWords}
 use Rattle.layout.specs.Words.{image}

@@ -5,10 +5,11 @@ use mathlib.Core.Logic.{_⊎_, inl, inr}
 use mathlib.Core.Bool.{Bool, true, false}
 use mathlib.Core.Option.{Option, none, some}
 use mathlib.Core.List.{List}
-use Rattle.machine.specs.declared.Call.{Call}
+use Rattle.calls.specs.declared.Call.{Call}
 use Rattle.machine.specs.Lists.{pick}
 use Rattle.machine.specs.State.{State}
-use Rattle.machine.specs.Results.{Result, plain}
+use Rattle.machine.specs.Results.{Result}
+use Rattle.calls.specs.Answers.{plain}
 use Rattle.machine.specs.Grants.{Grants, grantsAfter, SoundGrants}
 use Rattle.machine.specs.Refusals.{refusalOf}
 use Rattle.machine.specs.Sound.{Sound}

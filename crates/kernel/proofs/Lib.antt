@@ -1,9 +1,6 @@
 -- The lemmas of the core, in the order to read them. Demand 1 stands in Kept, demand 3 of calls made in turn in InTurn,
 -- what the lent memory says of rights in Rights; Bites has wrong cores, of which demand 1 is false.
-pub mod Granting
-pub mod Cases
 pub mod Entry
-pub mod Runner
 pub mod Kept
 pub mod Rights
 pub mod InTurn

@@ -6,15 +6,15 @@ use mathlib.Core.Bool.{Bool, true, false}
 use mathlib.Core.Option.{Option, none, some}
 use mathlib.Core.List.{List}
 use native.Mathlib.Omega.{arith}
-use Rattle.machine.specs.declared.Call.{Call}
-use Rattle.machine.specs.declared.Call.the-variants.{CreateThread, DestroyThread, SetPriority, CreateEndpoint}
-use Rattle.machine.specs.declared.Call.the-variants.{Interrupt, Tick, Send, Receive, Yield, Wait, Delete, Abort, Grant}
-use Rattle.machine.specs.Calls.{endpointOf, inRange}
+use Rattle.calls.specs.declared.Call.{Call}
+use Rattle.calls.specs.declared.Call.the-variants.{CreateThread, DestroyThread, SetPriority, CreateEndpoint}
+use Rattle.calls.specs.declared.Call.the-variants.{Interrupt, Tick, Send, Receive, Yield, Wait, Delete, Abort, Grant}
+use Rattle.calls.specs.Calls.{endpointOf, inRange}
 use Rattle.machine.specs.Lists.{pick}
 use Rattle.machine.specs.State.{State}
-use Rattle.machine.specs.Results.{plain}
+use Rattle.calls.specs.Answers.{plain}
 use Rattle.machine.specs.Machine.{step}
-use Rattle.machine.proofs.Ranges.{bounds}
+use Rattle.calls.proofs.Ranges.{bounds}
 use Rattle.machine.proofs.Granted.{refused-leave}
 use Rattle.machine.proofs.Calls.Answers.{refused-same}
 use Rattle.machine.proofs.Calls.Rights as Machine

@@ -6,13 +6,13 @@ use mathlib.Core.Bool.{Bool, true, false}
 use mathlib.Core.List.{List, [], _∷_}
 use lib.Dec.{eqb}
 use lib.ListN.{length}
-use Rattle.machine.specs.declared.Answer.{Answer}
-use Rattle.machine.specs.declared.Call.{Call}
+use Rattle.calls.specs.declared.Answer.{Answer}
+use Rattle.calls.specs.declared.Call.{Call}
 use Rattle.machine.specs.Lists.{pick}
-use Rattle.machine.specs.Results.{plain}
+use Rattle.calls.specs.Answers.{plain}
 use Rattle.machine.specs.Machine.{step}
-use Rattle.machine.specs.Recorded.{freshRun, runFrom, historyOf}
-use Rattle.machine.specs.Claim.{Claim}
+use Rattle.history.specs.Recorded.{freshRun, runFrom, historyOf}
+use Rattle.history.specs.Claim.{Claim}
 use Rattle.layout.specs.Addresses.{scratchWords}
 use Rattle.layout.specs.Words.{image}
 use Rattle.grants.specs.Memory.{grantImage}

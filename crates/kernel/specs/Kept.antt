@@ -4,9 +4,9 @@ use Prim.Native.Nat.{ℕ, _≤_}
 use mathlib.Core.Path.{_≡_}
 use mathlib.Core.Logic.{_⊎_}
 use mathlib.Core.Option.{none, some}
-use Rattle.machine.specs.declared.Call.{Call}
+use Rattle.calls.specs.declared.Call.{Call}
 use Rattle.machine.specs.State.{State}
-use Rattle.machine.specs.Results.{plain}
+use Rattle.calls.specs.Answers.{plain}
 use Rattle.machine.specs.Grants.{Grants, SoundGrants}
 use Rattle.machine.specs.Machine.{step, grantsBy}
 use Rattle.machine.specs.Refusals.{refusalOf}

@@ -2,4 +2,3 @@
 pub mod Kept
 pub mod Rights
 pub mod InTurn
-pub mod Steps

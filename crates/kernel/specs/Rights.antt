@@ -3,8 +3,8 @@ use Prim.Native.Nat.{ℕ}
 use mathlib.Core.Path.{_≡_}
 use mathlib.Core.Bool.{true}
 use mathlib.Core.Option.{some}
-use Rattle.machine.specs.declared.Call.{Call}
-use Rattle.machine.specs.Calls.{inRange}
+use Rattle.calls.specs.declared.Call.{Call}
+use Rattle.calls.specs.Calls.{inRange}
 use Rattle.machine.specs.State.{State}
 use Rattle.machine.specs.Grants.{Grants}
 use Rattle.lent_tables.specs.Entries.{Lent}

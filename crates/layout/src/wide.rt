@@ -42,12 +42,12 @@ pub const LINK: usize = codes::LINK as usize;
 
 pub const LAST_LINK: usize = LINK + 255;
 
-pub const NO_OUTCOME: usize = machine::codes::NO_OUTCOME as usize;
+pub const NO_OUTCOME: usize = calls::codes::NO_OUTCOME as usize;
 
-pub const MESSAGE_RECEIVED: usize = machine::codes::MESSAGE_RECEIVED as usize;
+pub const MESSAGE_RECEIVED: usize = calls::codes::MESSAGE_RECEIVED as usize;
 
-pub const LAST_OUTCOME: usize = machine::codes::LINE_FIRED as usize;
+pub const LAST_OUTCOME: usize = calls::codes::LINE_FIRED as usize;
 
-pub const TICKS: usize = machine::codes::TICKS as usize;
+pub const TICKS: usize = calls::codes::TICKS as usize;
 
-pub const NO_BADGE: usize = machine::codes::NO_BADGE as usize;
+pub const NO_BADGE: usize = calls::codes::NO_BADGE as usize;

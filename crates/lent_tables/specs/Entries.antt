@@ -6,13 +6,13 @@ use mathlib.Core.Option.{Option, none, some}
 use mathlib.Core.List.{List}
 use lib.Dec.{eqb, leb}
 use lib.ListN.{length, replicate}
-use Rattle.machine.specs.declared.Answer.{Answer}
-use Rattle.machine.specs.declared.Call.{Call}
-use Rattle.machine.specs.declared.Runner.{Runner}
-use Rattle.machine.specs.declared.Runner.the-variants.{Nobody, Thread}
+use Rattle.calls.specs.declared.Answer.{Answer}
+use Rattle.calls.specs.declared.Call.{Call}
+use Rattle.calls.specs.declared.Runner.{Runner}
+use Rattle.calls.specs.declared.Runner.the-variants.{Nobody, Thread}
 use Rattle.machine.specs.Lists.{pick}
 use Rattle.machine.specs.State.{State, freshState}
-use Rattle.machine.specs.Results.{plain}
+use Rattle.calls.specs.Answers.{plain}
 use Rattle.machine.specs.Grants.{Grants, freshGrants}
 use Rattle.machine.specs.Machine.{step, grantsBy}
 use Rattle.layout.specs.declared.Slot.{Slot}

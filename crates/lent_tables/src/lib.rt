@@ -6,6 +6,8 @@ ghost use Rattle.layout.specs.Addresses.{tableWords};
 ghost use Rattle.soundness.specs.Checks.{goodTest};
 ghost use Rattle.lent_tables.specs.Entries.{lent, zeros, Freshened, Checked, freshened, checked};
 
+pub mod who;
+
 // How many words are lent for the tables.
 pub const TABLE_WORDS: usize = 4096;
 
@@ -40,14 +42,14 @@ pub fn fresh(tables: &mut [u32], grants: &mut [u32]) -> u32
         (freshened (now (tables .entry)) (now (grants .entry))) ⌝ }
 {
     if tables.len() != TABLE_WORDS {
-        return machine::codes::LENGTH;
+        return calls::codes::LENGTH;
     }
     if grants.len() != grants::GRANT_WORDS {
-        return machine::codes::LENGTH;
+        return calls::codes::LENGTH;
     }
     words::clear(tables);
     words::clear(grants);
-    machine::codes::DONE
+    calls::codes::DONE
 }
 
 // Whether the tables show a sound state and the grants are sound; neither is changed.
@@ -56,22 +58,22 @@ pub fn check(tables: &[u32], grants: &[u32], scratch: &mut [u32]) -> u32
         (checked (lent (now (tables .entry)) (now (grants .entry)) (now (scratch .entry)))) ⌝ }
 {
     if tables.len() != TABLE_WORDS {
-        return machine::codes::LENGTH;
+        return calls::codes::LENGTH;
     }
     if grants.len() != grants::GRANT_WORDS {
-        return machine::codes::LENGTH;
+        return calls::codes::LENGTH;
     }
     if scratch.len() != SCRATCH_WORDS {
-        return machine::codes::LENGTH;
+        return calls::codes::LENGTH;
     }
     words::clear(scratch);
     if !grants::sound(grants) {
-        return machine::codes::UNSOUND;
+        return calls::codes::UNSOUND;
     }
     let passed = passes(tables, scratch);
     words::clear(scratch);
     if passed {
-        return machine::codes::DONE;
+        return calls::codes::DONE;
     }
-    machine::codes::UNSOUND
+    calls::codes::UNSOUND
 }

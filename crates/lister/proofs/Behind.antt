@@ -10,7 +10,7 @@ use borrow.Author.Tests.{leb-true, leb-false}
 use lib.Dec.{leb}
 use lib.ListN.{length, drop, length-append}
 use lib.Seq.{drop-append-seam}
-use Rattle.machine.specs.declared.Call.{Call}
+use Rattle.calls.specs.declared.Call.{Call}
 use Rattle.machine.specs.State.{State}
 use Rattle.machine.specs.Grants.{Grants}
 use Rattle.machine.specs.Machine.{step, grantsBy}

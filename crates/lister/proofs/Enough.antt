@@ -7,7 +7,7 @@ use native.Mathlib.Omega.{arith}
 use borrow.Author.Tests.{leb-true, leb-false}
 use lib.Dec.{leb}
 use lib.ListN.{length, drop, length-append}
-use Rattle.machine.specs.declared.Call.{Call}
+use Rattle.calls.specs.declared.Call.{Call}
 use Rattle.journal.specs.declared.types.Read.the-variants.{Found, Refused, Ended}
 use Rattle.journal.specs.Words.{topByte, wordsTaken, readAt}
 use Rattle.journal.proofs.Appended.{whole-appended, words-missing, found-behind}

@@ -7,9 +7,9 @@ use mathlib.Core.Option.{Option}
 use mathlib.Core.List.{List, [], _∷_, _++_, append-assoc}
 use native.Mathlib.Omega.{arith}
 use lib.ListN.{length}
-use Rattle.machine.specs.declared.Call.{Call}
+use Rattle.calls.specs.declared.Call.{Call}
 use Rattle.machine.specs.Lists.{pick}
-use Rattle.machine.specs.Results.{threadOf}
+use Rattle.calls.specs.Answers.{threadOf}
 use Rattle.machine.specs.State.{State}
 use Rattle.machine.specs.Grants.{Grants, SoundGrants}
 use Rattle.machine.specs.Machine.{step, grantsBy}
@@ -22,7 +22,7 @@ use Rattle.layout.specs.Words.{image}
 use Rattle.grants.specs.Memory.{grantImage}
 use Rattle.lent_tables.specs.Entries.{lent, zeros, Called, stepped, runnerIn}
 use Rattle.machine.proofs.Preserved.Steps.{step-sound}
-use Rattle.kernel.proofs.Runner.{running-image}
+use Rattle.lent_tables.proofs.Runner.{running-image}
 use Rattle.kernel.proofs.InTurn.{called-image}
 use Rattle.input.specs.Words.{wordsIn}
 use Rattle.rows.specs.Taking.{turned}

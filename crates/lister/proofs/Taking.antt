@@ -9,12 +9,12 @@ use native.Mathlib.Omega.{arith}
 use denote.Enum.Declared.{tagOf}
 use types.Run.{OneOf}
 use lib.ListN.{length, take}
-use Rattle.machine.specs.declared.Answer.{Answer}
-use Rattle.machine.specs.declared.Call.{Call}
-use Rattle.machine.specs.declared.Runner.{Runner}
-use Rattle.machine.specs.Calls.{inRange}
+use Rattle.calls.specs.declared.Answer.{Answer}
+use Rattle.calls.specs.declared.Call.{Call}
+use Rattle.calls.specs.declared.Runner.{Runner}
+use Rattle.calls.specs.Calls.{inRange}
 use Rattle.machine.specs.Lists.{pick}
-use Rattle.machine.specs.Results.{threadOf}
+use Rattle.calls.specs.Answers.{threadOf}
 use Rattle.journal.specs.declared.types.Read.{Read}
 use Rattle.journal.specs.declared.types.Read.the-variants.{Found, Refused, Ended}
 use Rattle.journal.specs.Words.{readAt}

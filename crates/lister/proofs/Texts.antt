@@ -1,7 +1,7 @@
 -- The text of a journal from a reading on.
 use Prim.Native.Nat.{ℕ}
 use mathlib.Core.List.{List, [], _++_}
-use Rattle.machine.specs.declared.Call.{Call}
+use Rattle.calls.specs.declared.Call.{Call}
 use Rattle.machine.specs.State.{State}
 use Rattle.machine.specs.Grants.{Grants}
 use Rattle.machine.specs.Machine.{step}

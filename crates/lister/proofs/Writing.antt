@@ -11,10 +11,10 @@ use denote.Enum.Declared.{tagOf}
 use types.Run.{OneOf}
 use lib.ListN.{length, take, drop, length-drop}
 use lib.Seq.{length-take-le}
-use Rattle.machine.specs.declared.Answer.{Answer}
-use Rattle.machine.specs.declared.Call.{Call}
-use Rattle.machine.specs.Calls.{numberOf, inRange}
-use Rattle.machine.specs.Results.{plain}
+use Rattle.calls.specs.declared.Answer.{Answer}
+use Rattle.calls.specs.declared.Call.{Call}
+use Rattle.calls.specs.Calls.{numberOf, inRange}
+use Rattle.calls.specs.Answers.{plain}
 use Rattle.journal.specs.Rows.{Row}
 use Rattle.texts.specs.declared.Output.{Output}
 use Rattle.texts.specs.Buffer.{pasted, Wrote}
@@ -24,9 +24,9 @@ use Rattle.texts.proofs.Filing.{filing}
 use Rattle.listing.specs.Line.{lineOf}
 use Rattle.listing.specs.Buffer.{lineRoom, lineLength, afterLine}
 use Rattle.listing.proofs.Fronts.{front-wrote}
-use Rattle.sentences.specs.Sentence.{sentence, stopLine}
-use Rattle.sentences.specs.Entry.{sentenceRoom, sentenceFor, stopFor}
-use Rattle.sentences.proofs.Entry.{line-for, stop-line-for}
+use Rattle.wording.specs.Sentence.{sentence, stopLine}
+use Rattle.wording.specs.Entry.{sentenceRoom, sentenceFor, stopFor}
+use Rattle.wording.proofs.Entry.{line-for, stop-line-for}
 use Rattle.lister.specs.declared.Form.{Form}
 use Rattle.lister.specs.declared.Form.the-variants.{Lines, Sentences}
 use Rattle.lister.specs.Forms.{callText, stopText}

@@ -7,7 +7,7 @@ use mathlib.Core.List.{List, [], _∷_, _++_}
 use lib.Dec.{leb}
 use lib.ListN.{length}
 use Rattle.machine.specs.Lists.{pick}
-use Rattle.machine.specs.Results.{threadOf}
+use Rattle.calls.specs.Answers.{threadOf}
 use Rattle.journal.specs.Words.{topByte, wordsTaken, readAt}
 use Rattle.lent_tables.specs.Entries.{Lent, lent, freshened, runnerIn}
 use Rattle.input.specs.Words.{littleEndian, wordsIn}

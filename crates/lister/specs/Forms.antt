@@ -2,12 +2,12 @@
 use Prim.Native.Nat.{ℕ}
 use mathlib.Core.Option.{Option}
 use mathlib.Core.List.{List}
-use Rattle.machine.specs.declared.Answer.{Answer}
-use Rattle.machine.specs.declared.Call.{Call}
-use Rattle.machine.specs.Calls.{numberOf}
+use Rattle.calls.specs.declared.Answer.{Answer}
+use Rattle.calls.specs.declared.Call.{Call}
+use Rattle.calls.specs.Calls.{numberOf}
 use Rattle.journal.specs.Rows.{lastRow}
 use Rattle.listing.specs.Line.{lineOf}
-use Rattle.sentences.specs.Sentence.{sentence, stopLine}
+use Rattle.wording.specs.Sentence.{sentence, stopLine}
 use Rattle.lister.specs.declared.Form.{Form}
 use Rattle.lister.specs.declared.Form.the-variants.{Lines, Sentences}
 

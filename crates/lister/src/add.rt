@@ -3,19 +3,19 @@ ghost use Prim.Native.Nat.{_+_, _≤_};
 ghost use mathlib.Core.Path.{_≡_};
 ghost use mathlib.Core.Bool.{true};
 ghost use lib.ListN.{length};
-ghost use Rattle.machine.specs.Calls.{inRange};
-ghost use Rattle.machine.specs.Results.{threadOf};
+ghost use Rattle.calls.specs.Calls.{inRange};
+ghost use Rattle.calls.specs.Answers.{threadOf};
 ghost use Rattle.texts.specs.Buffer.{Wrote};
 ghost use Rattle.listing.specs.Line.{lineOf};
 ghost use Rattle.listing.specs.Buffer.{lineRoom};
-ghost use Rattle.sentences.specs.Sentence.{sentence, stopLine};
-ghost use Rattle.sentences.specs.Entry.{sentenceRoom};
+ghost use Rattle.wording.specs.Sentence.{sentence, stopLine};
+ghost use Rattle.wording.specs.Entry.{sentenceRoom};
 ghost use Rattle.lister.specs.Forms.{callText, stopText};
 use crate::Form;
+use calls::Answer;
+use calls::Call;
+use calls::Runner;
 use listing::Listed;
-use machine::Answer;
-use machine::Call;
-use machine::Runner;
 
 // A line of numbers.
 fn line(
@@ -81,7 +81,7 @@ pub fn call(
 {
     match form {
         Form::Lines => {
-            let number = machine::number(call);
+            let number = calls::number(call);
             line(out, used, index, number, answer, running)
         }
         Form::Sentences => sentence(out, used, call, answer),
@@ -103,7 +103,7 @@ pub fn stop(
         (now (out .exit)) ⌝ }
 {
     match form {
-        Form::Lines => line(out, used, index, 0, machine::plain(code), running),
+        Form::Lines => line(out, used, index, 0, calls::plain(code), running),
         Form::Sentences => stop_line(out, used, code),
     }
 }

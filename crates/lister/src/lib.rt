@@ -7,7 +7,7 @@ ghost use mathlib.Core.List.{[]};
 ghost use lib.ListN.{length, replicate, take};
 ghost use Rattle.lent_tables.specs.Entries.{Lent, lent};
 ghost use Rattle.texts.specs.Buffer.{Counts, Wrote};
-ghost use Rattle.sentences.specs.Entry.{sentenceRoom};
+ghost use Rattle.wording.specs.Entry.{sentenceRoom};
 ghost use Rattle.journal.specs.Words.{readAt};
 ghost use Rattle.input.specs.Words.{wordsIn};
 ghost use Rattle.rows.specs.Taking.{Turned, turned};
@@ -249,7 +249,7 @@ pub fn finish(form: Form, l: Lister, tables: &[u32], out: &mut [u8]) -> usize
         out,
         0,
         l.index,
-        machine::codes::NO_CALL,
-        kernel::running(tables),
+        calls::codes::NO_CALL,
+        lent_tables::who::running(tables),
     )
 }

@@ -5,8 +5,8 @@ use mathlib.Core.Option.{Option, none, some}
 use mathlib.Core.List.{List, [], _∷_, _++_, append-assoc}
 use native.Mathlib.Omega.{arith}
 use lib.ListN.{length}
-use Rattle.machine.specs.declared.Answer.{Answer}
-use Rattle.machine.proofs.Answers.{same-answer}
+use Rattle.calls.specs.declared.Answer.{Answer}
+use Rattle.calls.proofs.Answers.{same-answer}
 use Rattle.journal.specs.Rows.{Row}
 use Rattle.texts.specs.Decimal.{decimal}
 use Rattle.texts.proofs.Digits.{length-some}

@@ -1,8 +1,8 @@
 -- Two lines of the listing, computed: an answer with a badge and a message, and a word that does not read.
 use mathlib.Core.Path.{_≡_, refl}
 use mathlib.Core.Option.{none, some}
-use Rattle.machine.specs.declared.Answer.{Answer}
-use Rattle.machine.specs.Results.{plain}
+use Rattle.calls.specs.declared.Answer.{Answer}
+use Rattle.calls.specs.Answers.{plain}
 use Rattle.texts.specs.Text.{bytes}
 use Rattle.texts.specs.Decimal.{lastDigits, decimal, spaced}
 use Rattle.listing.specs.Line.{answerText, runner, lineOf}

@@ -5,8 +5,8 @@ use mathlib.Core.Option.{Option, none, some}
 use mathlib.Core.List.{List, [], _∷_, _++_, append-assoc}
 use native.Mathlib.Omega.{arith}
 use lib.ListN.{length, length-append}
-use Rattle.machine.specs.declared.Answer.{Answer}
-use Rattle.machine.proofs.Answers.{Words}
+use Rattle.calls.specs.declared.Answer.{Answer}
+use Rattle.calls.proofs.Answers.{Words}
 use Rattle.journal.specs.Rows.{Row}
 use Rattle.texts.specs.Decimal.{spaced}
 use Rattle.texts.proofs.Digits.{length-below, length-spaced}

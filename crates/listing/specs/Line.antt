@@ -2,8 +2,8 @@
 use Prim.Native.Nat.{ℕ}
 use mathlib.Core.Option.{Option, none, some}
 use mathlib.Core.List.{List, [], _∷_, _++_}
-use Rattle.machine.specs.declared.Answer.{Answer}
-use Rattle.machine.specs.Results.{threadOf}
+use Rattle.calls.specs.declared.Answer.{Answer}
+use Rattle.calls.specs.Answers.{threadOf}
 use Rattle.journal.specs.Rows.{Row}
 use Rattle.texts.specs.Text.{bytes}
 use Rattle.texts.specs.Decimal.{decimal, spaced}

@@ -1,13 +1,13 @@
 // The listing's text: the line of a row, and the header, made into a lent buffer.
 // Which bytes they are stands in specs/Line.antt; that different lines are different bytes stands in proofs/Apart.antt.
 ghost use mathlib.Core.Path.{_≡_};
-ghost use Rattle.machine.specs.Results.{threadOf};
+ghost use Rattle.calls.specs.Answers.{threadOf};
 ghost use Rattle.texts.specs.Decimal.{spaced};
 ghost use Rattle.texts.specs.Buffer.{Room, Wrote, Counts};
 ghost use Rattle.listing.specs.Line.{answerText, runner, lineOf, header, rowOf};
 ghost use Rattle.listing.specs.Buffer.{lineLength, afterLine};
-use machine::Answer;
-use machine::Runner;
+use calls::Answer;
+use calls::Runner;
 
 // What a line lists: index, call number, answer, and who runs.
 pub struct Listed {

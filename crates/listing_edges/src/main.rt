@@ -1,9 +1,9 @@
 // Lines of the listing, printed: the header, small and large numbers, a running thread and nobody.
 // The bytes that they must be stand in stdout.
+use calls::Answer;
+use calls::Runner;
 use libc::STDOUT_FILENO;
 use listing::Listed;
-use machine::Answer;
-use machine::Runner;
 
 fn show_head() {
     let mut buffer = [0u8; listing::ROOM];

@@ -5,19 +5,19 @@ use mathlib.Core.Logic.{_⊎_, inl, inr}
 use mathlib.Core.Bool.{Bool, true, false}
 use native.Mathlib.Omega.{arith}
 use borrow.Author.Tests.{le-leb, lt-leb}
-use Rattle.machine.specs.declared.Answer.{Answer}
-use Rattle.machine.specs.declared.Call.{Call}
-use Rattle.machine.specs.declared.Call.the-variants.{CreateThread, DestroyThread, SetPriority, CreateEndpoint}
-use Rattle.machine.specs.declared.Call.the-variants.{Interrupt, Tick, Send, Receive, Yield, Wait, Delete, Abort}
-use Rattle.machine.specs.declared.Call.the-variants.{Grant}
-use Rattle.machine.specs.Calls.{numberOf, inRange}
+use Rattle.calls.specs.declared.Answer.{Answer}
+use Rattle.calls.specs.declared.Call.{Call}
+use Rattle.calls.specs.declared.Call.the-variants.{CreateThread, DestroyThread, SetPriority, CreateEndpoint}
+use Rattle.calls.specs.declared.Call.the-variants.{Interrupt, Tick, Send, Receive, Yield, Wait, Delete, Abort}
+use Rattle.calls.specs.declared.Call.the-variants.{Grant}
+use Rattle.calls.specs.Calls.{numberOf, inRange}
 use Rattle.machine.specs.Lists.{pick, put}
 use Rattle.machine.specs.State.{State}
-use Rattle.machine.specs.Results.{isAccepted}
+use Rattle.calls.specs.Answers.{isAccepted}
 use Rattle.machine.specs.Grants.{Grants, grantWord, regranted, grantsAfter, freshGrants, SoundGrants}
 use Rattle.machine.specs.Machine.{performIf, step, grantsBy}
 use Rattle.machine.proofs.Lists.{Same, same, other, same?, put-same, put-other, put-all}
-use Rattle.machine.proofs.Ranges.{bounds}
+use Rattle.calls.proofs.Ranges.{bounds}
 
 -- Exactly the word of call 13,
 module _ (g : Grants) (t e r b : ℕ) where

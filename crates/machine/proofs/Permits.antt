@@ -3,10 +3,10 @@ use Prim.Native.Nat.{ℕ}
 use mathlib.Core.Path.{_≡_, refl, _∙_, ap}
 use mathlib.Core.Bool.{Bool, true, false}
 use mathlib.Core.Option.{Option, none, some}
-use Rattle.machine.specs.declared.Call.{Call}
-use Rattle.machine.specs.Calls.{endpointOf, inRange}
+use Rattle.calls.specs.declared.Call.{Call}
+use Rattle.calls.specs.Calls.{endpointOf, inRange}
 use Rattle.machine.specs.State.{State}
-use Rattle.machine.specs.Results.{isAccepted}
+use Rattle.calls.specs.Answers.{isAccepted}
 use Rattle.machine.specs.Grants.{Grants, lacks, barred}
 use Rattle.machine.specs.Machine.{perform, performUnless, performIf, step}
 use Rattle.machine.proofs.Lists.{clash}

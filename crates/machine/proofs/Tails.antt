@@ -7,10 +7,10 @@ use mathlib.Core.Option.{Option, none, some}
 use mathlib.Core.List.{List, [], _∷_, _++_}
 use native.Mathlib.Omega.{arith}
 use borrow.Author.Tests.{ne-eqb}
-use Rattle.machine.specs.declared.Call.{Call}
-use Rattle.machine.specs.declared.Call.the-variants.{CreateThread, SetPriority, Interrupt, Tick, Send, Receive}
-use Rattle.machine.specs.declared.Call.the-variants.{Yield}
-use Rattle.machine.specs.Calls.{endpointOf, inRange}
+use Rattle.calls.specs.declared.Call.{Call}
+use Rattle.calls.specs.declared.Call.the-variants.{CreateThread, SetPriority, Interrupt, Tick, Send, Receive}
+use Rattle.calls.specs.declared.Call.the-variants.{Yield}
+use Rattle.calls.specs.Calls.{endpointOf, inRange}
 use Rattle.machine.specs.Lists.{first}
 use Rattle.machine.specs.State.{State, Thread, Place, absent, able, live, quiet, awaited, withPlace}
 use Rattle.machine.specs.State.{setThread, setLine, withTicks, withPriority, messageTaken, messageReceived}

@@ -9,7 +9,8 @@ use Rattle.machine.specs.State.{State, Debt, nothing, works, noted, Abor
 use Rattle.machine.specs.State.{missingEndpoint, setThread, setEndpoint, withDebt, messageAborted, endpointGone}
 use Rattle.machine.specs.Endpoints.{senders, underAbort, pendingOf, passing, setAbort}
 use Rattle.machine.specs.Endpoints.{wakeFrom, dropDebt, endAbort}
-use Rattle.machine.specs.Results.{Look, Result, counted, accept, done, refuse}
+use Rattle.machine.specs.Results.{Look, Result, accept, done, refuse}
+use Rattle.calls.specs.Answers.{counted}
 
 -- 11. Waiters are removed from the head with outcome 4, as many as the allowance lets: the first argument; the
 -- second is the queue as it is.

@@ -6,14 +6,14 @@ use mathlib.Core.Logic.{_⊎_}
 use mathlib.Core.Bool.{Bool, false, _&&_, not}
 use mathlib.Core.Option.{Option, none, some}
 use lib.Dec.{eqb}
-use Rattle.machine.specs.declared.Answer.{Answer}
-use Rattle.machine.specs.declared.Call.{Call}
-use Rattle.machine.specs.declared.Call.the-variants.{CreateThread, DestroyThread, SetPriority, CreateEndpoint}
-use Rattle.machine.specs.declared.Call.the-variants.{Interrupt, Tick, Send, Receive, Yield, Wait, Delete, Abort}
-use Rattle.machine.specs.declared.Call.the-variants.{Grant}
-use Rattle.machine.specs.Calls.{endpointOf}
+use Rattle.calls.specs.declared.Answer.{Answer}
+use Rattle.calls.specs.declared.Call.{Call}
+use Rattle.calls.specs.declared.Call.the-variants.{CreateThread, DestroyThread, SetPriority, CreateEndpoint}
+use Rattle.calls.specs.declared.Call.the-variants.{Interrupt, Tick, Send, Receive, Yield, Wait, Delete, Abort}
+use Rattle.calls.specs.declared.Call.the-variants.{Grant}
+use Rattle.calls.specs.Calls.{endpointOf}
 use Rattle.machine.specs.Lists.{pick, put}
-use Rattle.machine.specs.Results.{isAccepted}
+use Rattle.calls.specs.Answers.{isAccepted}
 
 -- One word for each thread and endpoint: "top four bits the rights (1 send, 2 receive, 4 delete, 8 abort), the low 28
 -- bits the badge, and 0 for no grant".

@@ -4,11 +4,11 @@ use mathlib.Core.Bool.{Bool, true, false, _&&_, not}
 use mathlib.Core.Option.{Option, none, some}
 use mathlib.Core.List.{[]}
 use lib.Dec.{eqb}
-use Rattle.machine.specs.declared.Call.{Call}
-use Rattle.machine.specs.declared.Call.the-variants.{CreateThread, DestroyThread, SetPriority, CreateEndpoint}
-use Rattle.machine.specs.declared.Call.the-variants.{Interrupt, Tick, Send, Receive, Yield, Wait, Delete, Abort}
-use Rattle.machine.specs.declared.Call.the-variants.{Grant}
-use Rattle.machine.specs.Calls.{inRange}
+use Rattle.calls.specs.declared.Call.{Call}
+use Rattle.calls.specs.declared.Call.the-variants.{CreateThread, DestroyThread, SetPriority, CreateEndpoint}
+use Rattle.calls.specs.declared.Call.the-variants.{Interrupt, Tick, Send, Receive, Yield, Wait, Delete, Abort}
+use Rattle.calls.specs.declared.Call.the-variants.{Grant}
+use Rattle.calls.specs.Calls.{inRange}
 use Rattle.machine.specs.Lists.{first}
 use Rattle.machine.specs.State.{State, Place, absent, able, sending, receiving, waiting, nothing, Status}
 use Rattle.machine.specs.State.{missing, live, closing, Line, quiet, pending, awaited, absentThread, setThread}
@@ -17,7 +17,8 @@ use Rattle.machine.specs.State.{messageReceived, lineFired}
 use Rattle.machine.specs.Scheduling.{enqueue, unqueue, standDown, wake, block}
 use Rattle.machine.specs.Endpoints.{senders, receivers, underAbort, joinEndpoint, leaveEndpoint, wakeFrom}
 use Rattle.machine.specs.Endpoints.{dropDebt}
-use Rattle.machine.specs.Results.{Result, accept, done, blocked, refuse, receipt}
+use Rattle.machine.specs.Results.{Result, accept, done, blocked, refuse}
+use Rattle.calls.specs.Answers.{receipt}
 use Rattle.machine.specs.Grants.{Grants, barred, grantsAfter}
 use Rattle.machine.specs.Aborts.{delete, abort}
 

@@ -5,7 +5,7 @@ use mathlib.Core.List.{List, []}
 use mathlib.Core.Logic.{_≢_}
 use mathlib.Core.Option.{none, some}
 use borrow.Author.Tests.{eq-eqb, ne-eqb}
-use Rattle.machine.specs.declared.Call.the-variants.{Send, Abort, Grant}
+use Rattle.calls.specs.declared.Call.the-variants.{Send, Abort, Grant}
 use Rattle.journal.specs.Words.{unused, callOf}
 use Rattle.journal.specs.declared.types.Named.{Named}
 use Rattle.journal.specs.Steps.{asNamed, callNamed}

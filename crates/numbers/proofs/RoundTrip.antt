@@ -1,10 +1,10 @@
 -- The six numbers of a call name that call: what the reader gives, a call takes, and the writer too.
 use mathlib.Core.Path.{_≡_, refl}
 use mathlib.Core.Option.{some}
-use Rattle.machine.specs.declared.Call.{Call}
-use Rattle.machine.specs.declared.Call.the-variants.{CreateThread, DestroyThread, SetPriority, CreateEndpoint}
-use Rattle.machine.specs.declared.Call.the-variants.{Interrupt, Tick, Send, Receive, Yield, Wait, Delete, Abort}
-use Rattle.machine.specs.declared.Call.the-variants.{Grant}
+use Rattle.calls.specs.declared.Call.{Call}
+use Rattle.calls.specs.declared.Call.the-variants.{CreateThread, DestroyThread, SetPriority, CreateEndpoint}
+use Rattle.calls.specs.declared.Call.the-variants.{Interrupt, Tick, Send, Receive, Yield, Wait, Delete, Abort}
+use Rattle.calls.specs.declared.Call.the-variants.{Grant}
 use Rattle.journal.specs.Words.{callOf}
 use Rattle.numbers.specs.Numbers.{short, withoutRights, callIn, numbersOf}
 

@@ -2,8 +2,8 @@
 ghost use mathlib.Core.Path.{_≡_};
 ghost use Rattle.journal.specs.Steps.{asNamed};
 ghost use Rattle.numbers.specs.Numbers.{withoutRights, callIn, numbersOf};
+use calls::Call;
 use journal::types::Named;
-use machine::Call;
 
 // The call without rights that the first five name.
 fn without_rights(numbers: [u32; 6]) -> Named

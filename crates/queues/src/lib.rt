@@ -101,7 +101,7 @@ pub fn block(tables: &mut [u32], t: usize, place: u32, badge: u32, message: u32)
     ensures { λ _. ⌜ BlocksAt (now (tables .entry)) t place badge message (now (tables .exit)) ⌝ }
 {
     store::set_running(tables, NOBODY);
-    store::set_place(tables, t, place, machine::codes::NO_OUTCOME, badge, message);
+    store::set_place(tables, t, place, calls::codes::NO_OUTCOME, badge, message);
 }
 
 // The highest occupied level, if there is one.

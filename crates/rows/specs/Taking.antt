@@ -1,5 +1,5 @@
 -- The next row of a journal's listing: what the reader's answer comes to on the lent memory.
-use Rattle.machine.specs.declared.Runner.{Runner}
+use Rattle.calls.specs.declared.Runner.{Runner}
 use Rattle.journal.specs.declared.types.Read.{Read}
 use Rattle.journal.specs.declared.types.Read.the-variants.{Found, Refused, Ended}
 use Rattle.lent_tables.specs.Entries.{Lent, called, runnerIn}

@@ -3,10 +3,10 @@ ghost use mathlib.Core.Path.{_≡_};
 ghost use Rattle.journal.specs.Words.{readAt};
 ghost use Rattle.lent_tables.specs.Entries.{lent};
 ghost use Rattle.rows.specs.Taking.{untaken, Turned, turned};
+use calls::Answer;
+use calls::Call;
+use calls::Runner;
 use journal::types::Read;
-use machine::Answer;
-use machine::Call;
-use machine::Runner;
 
 // A call was taken: its answer, who runs after it, and the word behind it; or no call was read, with the reader's
 // number and who runs; or the journal is over.
@@ -50,13 +50,13 @@ pub fn next(
 {
     let reading = reader::read(words, at);
     let Read::Found { call, next } = reading else {
-        return stop(reading, kernel::running(tables));
+        return stop(reading, lent_tables::who::running(tables));
     };
     let answer = kernel::call(tables, grants, scratch, call);
     Turn::Took {
         call,
         answer,
-        who: kernel::running(tables),
+        who: lent_tables::who::running(tables),
         next,
     }
 }

@@ -1,18 +1,13 @@
-// A call and its answer as one English line, made into a lent buffer. Which bytes it is stands in specs/Sentence.antt;
-// that no two pairs of call and answer have the same line stands in proofs/Apart.antt.
+// A call and its answer as one English line, made into a lent buffer. Which bytes it is stands in wording,
+// specs/Sentence.antt; that no two pairs of call and answer have the same line stands there in proofs/Apart.antt.
 ghost use mathlib.Core.Path.{_≡_};
 ghost use Rattle.texts.specs.Buffer.{Room, Wrote, Counts};
 ghost use Rattle.texts.specs.Filed.{Filed};
-ghost use Rattle.sentences.specs.Sentence.{sentence, stopLine};
-ghost use Rattle.sentences.specs.Entry.{sentenceFor, stopFor};
-
-mod outcome;
-mod phrases;
-mod request;
-
-use machine::Answer;
-use machine::Call;
-use machine::codes;
+ghost use Rattle.wording.specs.Sentence.{sentence, stopLine};
+ghost use Rattle.wording.specs.Entry.{sentenceFor, stopFor};
+use calls::Answer;
+use calls::Call;
+use calls::codes;
 use texts::Output;
 
 // Room for the line of every call in range; the longest has 159 bytes.
@@ -26,11 +21,11 @@ fn line(out: &mut [u8], call: Call, answer: Answer) -> usize
     requires { ⌜ Room (now out) 0 (sentence call answer) ⌝ }
     ensures { λ r. ⌜ Wrote (now (out .entry)) 0 (sentence call answer) r (now (out .exit)) ⌝ }
 {
-    let colon = request::request(out, 0, call);
+    let colon = requests::request(out, 0, call);
     let outcome_at = texts::say(out, colon, b": ");
-    let details_at = outcome::outcome(out, outcome_at, answer.code);
-    let number = machine::number(call);
-    let end = outcome::details(out, details_at, number, answer);
+    let details_at = outcomes::outcome(out, outcome_at, answer.code);
+    let number = calls::number(call);
+    let end = outcomes::details(out, details_at, number, answer);
     texts::say(out, end, b".\n")
 }
 
@@ -44,7 +39,7 @@ pub fn sentence(out: &mut [u8], call: Call, answer: Answer) -> Output
     if out.len() < ROOM {
         return texts::refused(SHORT);
     }
-    if !machine::in_range(call) {
+    if !calls::in_range(call) {
         return texts::refused(codes::RANGE);
     }
     Output {
@@ -59,7 +54,7 @@ fn stop_line(out: &mut [u8], code: u32) -> usize
     ensures { λ r. ⌜ Wrote (now (out .entry)) 0 (stopLine code) r (now (out .exit)) ⌝ }
 {
     let outcome_at = texts::say(out, 0, b"The journal does not go on: ");
-    let next = outcome::outcome(out, outcome_at, code);
+    let next = outcomes::outcome(out, outcome_at, code);
     texts::say(out, next, b".\n")
 }
 

@@ -102,7 +102,7 @@ fn remake(tables: &mut [u32], t: usize, place: u32, p: u32, ticks: u32)
     set_priority(tables, t, p);
     set_ticks(tables, t, ticks);
     set_owes(tables, t, codes::NOTHING, 0);
-    set_place(tables, t, place, machine::codes::NO_OUTCOME, 0, 0);
+    set_place(tables, t, place, calls::codes::NO_OUTCOME, 0, 0);
 }
 
 // Thread t is new: able, of priority p, with all its ticks.
@@ -110,7 +110,7 @@ pub fn new_thread(tables: &mut [u32], t: usize, p: u32)
     requires { ⌜ Shown (now tables) (IsThread t) ⌝ }
     ensures { λ _. ⌜ Does (now (tables .entry)) (now (tables .exit)) (IsThread t) (creating t p) ⌝ }
 {
-    remake(tables, t, codes::ABLE, p, machine::codes::TICKS);
+    remake(tables, t, codes::ABLE, p, calls::codes::TICKS);
 }
 
 // Thread t is absent.

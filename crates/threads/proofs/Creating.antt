@@ -3,10 +3,11 @@ use Prim.Native.Nat.{ℕ}
 use mathlib.Core.Path.{_≡_, refl, sym, ap}
 use mathlib.Core.Bool.{Bool}
 use mathlib.Core.List.{List}
-use Rattle.machine.specs.declared.Answer.{Answer}
+use Rattle.calls.specs.declared.Answer.{Answer}
 use Rattle.machine.specs.State.{State, Place, absent, able}
 use Rattle.machine.specs.Scheduling.{enqueue}
-use Rattle.machine.specs.Results.{plain, done}
+use Rattle.machine.specs.Results.{done}
+use Rattle.calls.specs.Answers.{plain}
 use Rattle.machine.specs.Machine.{isAbsent, createIf, createThread}
 use Rattle.machine.proofs.Preserved.Mid.{sound-mid}
 use Rattle.machine.proofs.Preserved.Sites.{differ}

@@ -4,10 +4,11 @@ use mathlib.Core.Path.{_≡_, sym, _∙_, ap}
 use mathlib.Core.Bool.{Bool, false}
 use mathlib.Core.List.{List}
 use native.Mathlib.Omega.{arith}
-use Rattle.machine.specs.declared.Answer.{Answer}
+use Rattle.calls.specs.declared.Answer.{Answer}
 use Rattle.machine.specs.State.{State, Place, absentThread, setThread}
 use Rattle.machine.specs.Endpoints.{dropDebt}
-use Rattle.machine.specs.Results.{plain, done}
+use Rattle.machine.specs.Results.{done}
+use Rattle.calls.specs.Answers.{plain}
 use Rattle.machine.specs.Machine.{isAbsent, leave, destroyIf, destroyThread}
 use Rattle.machine.specs.Sound.{Present}
 use Rattle.machine.proofs.Lists.{clash}

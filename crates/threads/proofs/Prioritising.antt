@@ -5,10 +5,11 @@ use mathlib.Core.Bool.{Bool, true, false}
 use mathlib.Core.List.{List}
 use lib.Dec.{eqb}
 use borrow.Author.Tests.{eq-eqb, ne-eqb}
-use Rattle.machine.specs.declared.Answer.{Answer}
+use Rattle.calls.specs.declared.Answer.{Answer}
 use Rattle.machine.specs.State.{State, Place, withPriority}
 use Rattle.machine.specs.Scheduling.{enqueue, unqueue}
-use Rattle.machine.specs.Results.{plain, done}
+use Rattle.machine.specs.Results.{done}
+use Rattle.calls.specs.Answers.{plain}
 use Rattle.machine.specs.Machine.{isAbsent, moveReady, changeUnless, priorityIf, setPriority}
 use Rattle.machine.proofs.Lists.{clash}
 use Rattle.machine.proofs.Preserved.Mid.{sound-mid}

@@ -10,12 +10,12 @@ ghost use Rattle.debts.specs.Debts.{Says};
 ghost use Rattle.endings.specs.Results.{Asked, Calling, Performs};
 ghost use Rattle.threads.specs.Threads.{readyIn, Able, leavingReady, Goes, leaving, Changes, changing};
 ghost use Rattle.threads.specs.Threads.{tickingFor, InRange};
+use calls::Answer;
 use layout::Field;
 use layout::codes;
 use layout::codes::LINK;
 use layout::codes::NOBODY;
 use layout::wide;
-use machine::Answer;
 
 // Whether thread t is ready: able, and not the one that runs.
 fn is_ready(tables: &[u32], t: usize) -> bool
@@ -38,7 +38,7 @@ pub fn create_thread(tables: &mut [u32], t: usize, p: u32) -> Answer
 {
     let place = store::thread(tables, Field::Place, t);
     if place != codes::ABSENT {
-        return machine::plain(machine::codes::THREAD_PRESENT);
+        return calls::plain(calls::codes::THREAD_PRESENT);
     }
     store::new_thread(tables, t, p);
     queues::enqueue(tables, t);
@@ -85,7 +85,7 @@ pub fn destroy_thread(tables: &mut [u32], t: usize) -> Answer
 {
     let place = store::thread(tables, Field::Place, t);
     if place == codes::ABSENT {
-        return machine::plain(machine::codes::THREAD_ABSENT);
+        return calls::plain(calls::codes::THREAD_ABSENT);
     }
     debts::drop_debt(tables, t); // the set that it is in stands without it
     leave(tables, t, place);
@@ -115,7 +115,7 @@ pub fn set_priority(tables: &mut [u32], t: usize, p: u32) -> Answer
 {
     let place = store::thread(tables, Field::Place, t);
     if place == codes::ABSENT {
-        return machine::plain(machine::codes::THREAD_ABSENT);
+        return calls::plain(calls::codes::THREAD_ABSENT);
     }
     let old = store::thread(tables, Field::Priority, t);
     if old == p {

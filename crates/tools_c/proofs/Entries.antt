@@ -6,8 +6,8 @@ use mathlib.Core.Option.{Option}
 use lib.Dec.{leb}
 use lib.ListN.{length}
 use borrow.Author.Tests.{le-leb, lt-leb}
-use Rattle.machine.specs.declared.Answer.{Answer}
-use Rattle.machine.specs.declared.Call.{Call}
+use Rattle.calls.specs.declared.Answer.{Answer}
+use Rattle.calls.specs.declared.Call.{Call}
 use Rattle.machine.specs.Lists.{pick}
 use Rattle.texts.specs.Filed.{Filed, unfiled}
 use Rattle.texts.specs.declared.Output.{Output}
@@ -15,7 +15,7 @@ use Rattle.journal.specs.declared.types.Named.{Named}
 use Rattle.journal.specs.Steps.{asNamed, callNamed}
 use Rattle.journal.proofs.Answers.{name-named}
 use Rattle.numbers.specs.Numbers.{callIn}
-use Rattle.sentences.specs.Entry.{sentenceRoom}
+use Rattle.wording.specs.Entry.{sentenceRoom}
 use Rattle.tools_c.specs.Entries.{sentenceNamed, answerIn, sentenceIn}
 
 abbrev refusal : ℕ → Output

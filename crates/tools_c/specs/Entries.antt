@@ -4,12 +4,12 @@ use mathlib.Core.List.{List}
 use mathlib.Core.Option.{Option, none, some}
 use lib.Dec.{leb}
 use lib.ListN.{length, getD}
-use Rattle.machine.specs.declared.Answer.{Answer}
-use Rattle.machine.specs.declared.Call.{Call}
+use Rattle.calls.specs.declared.Answer.{Answer}
+use Rattle.calls.specs.declared.Call.{Call}
 use Rattle.machine.specs.Lists.{pick}
 use Rattle.texts.specs.Filed.{Filed, unfiled}
 use Rattle.numbers.specs.Numbers.{callIn}
-use Rattle.sentences.specs.Entry.{sentenceRoom, sentenceFor}
+use Rattle.wording.specs.Entry.{sentenceRoom, sentenceFor}
 
 -- 28 before anything else, then 18 where no call is named, then 19
 abbrev pub sentenceNamed : Option Call → Answer → List ℕ → Filed

@@ -5,8 +5,8 @@ ghost use mathlib.Core.Path.{_≡_};
 ghost use Rattle.journal.specs.Steps.{callNamed};
 ghost use Rattle.texts.specs.Filed.{Filed};
 ghost use Rattle.tools_c.specs.Entries.{answerIn, sentenceNamed, sentenceIn};
+use calls::Answer;
 use journal::types::Named;
-use machine::Answer;
 use texts::Output;
 
 // The answer that four numbers are.
@@ -30,7 +30,7 @@ fn sentence_named(out: &mut [u8], named: Named, answer: Answer) -> Output
         if out.len() < sentences::ROOM {
             return texts::refused(sentences::SHORT);
         }
-        return texts::refused(machine::codes::NO_CALL);
+        return texts::refused(calls::codes::NO_CALL);
     };
     sentences::sentence(out, call, answer)
 }

@@ -4,10 +4,11 @@ use mathlib.Core.Path.{_≡_, refl}
 use mathlib.Core.Option.{some}
 use mathlib.Core.List.{List, []}
 use native.Mathlib.Omega.{arith}
-use Rattle.machine.specs.declared.Answer.{Answer}
+use Rattle.calls.specs.declared.Answer.{Answer}
 use Rattle.machine.specs.Lists.{Mem}
 use Rattle.machine.specs.State.{State, Status, missing, live, closing, Endpoint}
-use Rattle.machine.specs.Results.{plain, done}
+use Rattle.machine.specs.Results.{done}
+use Rattle.calls.specs.Answers.{plain}
 use Rattle.machine.specs.Machine.{createAt, createEndpoint}
 use Rattle.machine.specs.Mid.{Mid}
 use Rattle.machine.proofs.Preserved.Mid.{sound-mid}

@@ -5,11 +5,12 @@ use mathlib.Core.Bool.{Bool, true, false}
 use mathlib.Core.Option.{Option}
 use mathlib.Core.List.{List}
 use native.Mathlib.Omega.{arith}
-use Rattle.machine.specs.declared.Answer.{Answer}
+use Rattle.calls.specs.declared.Answer.{Answer}
 use Rattle.machine.specs.Lists.{first}
 use Rattle.machine.specs.State.{State, Status, sending}
 use Rattle.machine.specs.Endpoints.{isReceiving, receivers, joinEndpoint, wakeFrom, dropDebt}
-use Rattle.machine.specs.Results.{plain, done}
+use Rattle.machine.specs.Results.{done}
+use Rattle.calls.specs.Answers.{plain}
 use Rattle.machine.specs.Machine.{sendTo, sendUnless, sendAt, send}
 use Rattle.machine.specs.Sound.{Queued}
 use Rattle.machine.proofs.Preserved.Waking.{mid-wakeFrom}
@@ -24,9 +25,9 @@ use Rattle.debts.specs.Debts.{Says, underIn, FirstAt, firstReceiver}
 use Rattle.endings.specs.Results.{Calling, Performs}
 use Rattle.endings.proofs.Ends.{refused, performs-as, performs-after}
 use Rattle.endings.proofs.Conditions.{mid-chooses, mid-alike, queued-waits}
-use Rattle.transfers.specs.Transfers.{Dropped, Suspends, handing}
+use Rattle.waiting.specs.Transfers.{Dropped, Suspends, handing}
 use Rattle.queues.proofs.Joining.{shown-next}
-use Rattle.transfers.proofs.Callers.{dropped-mid, dropped-first}
+use Rattle.waiting.proofs.Callers.{dropped-mid, dropped-first}
 use Rattle.transfers.proofs.Firsts.{first-none, first-some, first-queued, kind-kept}
 use Rattle.transfers.proofs.Queueing.{is-missing, is-closing, is-live, queued}
 

@@ -3,7 +3,7 @@ use Prim.Native.Nat.{ℕ, _≤_}
 use mathlib.Core.Path.{_≡_, refl}
 use mathlib.Core.List.{List}
 use native.Mathlib.Omega.{arith}
-use Rattle.machine.specs.declared.Answer.{Answer}
+use Rattle.calls.specs.declared.Answer.{Answer}
 use Rattle.machine.specs.State.{State, Place, Status, missing, live, closing}
 use Rattle.machine.specs.Scheduling.{block}
 use Rattle.machine.specs.Endpoints.{joinEndpoint}
@@ -16,9 +16,9 @@ use Rattle.debts.specs.Debts.{Alike}
 use Rattle.endings.specs.Results.{Performs}
 use Rattle.endings.proofs.Ends.{performs-after, shown-for}
 use Rattle.endings.proofs.Conditions.{running-comes, mid-alike}
-use Rattle.transfers.specs.Transfers.{Dropped, Suspends}
+use Rattle.waiting.specs.Transfers.{Dropped, Suspends}
 use Rattle.queues.proofs.Joining.{shown-next}
-use Rattle.transfers.proofs.Callers.{calling-thread, dropped-mid, dropped-runs}
+use Rattle.waiting.proofs.Callers.{calling-thread, dropped-mid, dropped-runs}
 
 -- The statuses by their numbers.
 

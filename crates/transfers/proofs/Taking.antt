@@ -4,11 +4,11 @@ use mathlib.Core.Path.{_≡_, refl, sym, _∙_, ap}
 use mathlib.Core.Option.{Option}
 use mathlib.Core.List.{List, []}
 use native.Mathlib.Omega.{arith}
-use Rattle.machine.specs.declared.Answer.{Answer}
+use Rattle.calls.specs.declared.Answer.{Answer}
 use Rattle.machine.specs.Lists.{first}
 use Rattle.machine.specs.State.{State, Status, receiving}
 use Rattle.machine.specs.Endpoints.{isSending, senders, joinEndpoint, wakeFrom, dropDebt}
-use Rattle.machine.specs.Results.{plain, receipt}
+use Rattle.calls.specs.Answers.{plain, receipt}
 use Rattle.machine.specs.Machine.{receiveFrom, receiveAt, receive}
 use Rattle.machine.proofs.Preserved.Waking.{mid-wakeFrom}
 use Rattle.layout.specs.declared.Field.{Field}
@@ -23,9 +23,9 @@ use Rattle.debts.specs.Debts.{FirstAt, firstSender}
 use Rattle.endings.specs.Results.{Calling, Performs, Accepts}
 use Rattle.endings.proofs.Ends.{refused, performs-as, performs-for, shown-for}
 use Rattle.endings.proofs.Conditions.{mid-chooses, mid-alike, queued-waits, queued-present, present-thread}
-use Rattle.transfers.specs.Transfers.{Dropped, TakesFrom, Suspends, taking, takingFrom}
+use Rattle.waiting.specs.Transfers.{Dropped, TakesFrom, Suspends, taking, takingFrom}
 use Rattle.queues.proofs.Joining.{shown-next}
-use Rattle.transfers.proofs.Callers.{dropped-mid, dropped-first}
+use Rattle.waiting.proofs.Callers.{dropped-mid, dropped-first}
 use Rattle.transfers.proofs.Firsts.{first-none, first-some, first-queued, kind-kept}
 use Rattle.transfers.proofs.Queueing.{is-missing, is-closing, is-live, queued}
 

@@ -1,32 +1,18 @@
-// The calls that make endpoints, hand messages over and wait for interrupt lines: 4, 5, 7, 8 and 10. Each is refused
-// with nothing changed, or makes the steps of the machine's call in their order and ends in one choice of who runs.
+// The calls that make endpoints and hand messages over: 4, 7 and 8. Each is refused with nothing changed, or
+// makes the steps of the machine's call in their order and ends in one choice of who runs.
 ghost use Prim.Native.Nat.{_≤_, _<_, _^_};
-ghost use Rattle.machine.specs.Machine.{createEndpoint, interrupt as interrupting, send as sending};
-ghost use Rattle.machine.specs.Machine.{receive as receiving, wait as waiting};
-ghost use Rattle.store.specs.Steps.{Shown, Does};
-ghost use Rattle.store.specs.Store.{IsThread};
-ghost use Rattle.queues.specs.Queues.{Chooses};
-ghost use Rattle.debts.specs.Debts.{Alike};
+ghost use Rattle.machine.specs.Machine.{createEndpoint, send as sending};
+ghost use Rattle.machine.specs.Machine.{receive as receiving};
+ghost use Rattle.store.specs.Steps.{Shown};
 ghost use Rattle.endings.specs.Results.{Asked, Calling, Performs};
-ghost use Rattle.transfers.specs.Transfers.{Dropped, TakesFrom, Suspends, firing, handing, taking};
-ghost use Rattle.transfers.specs.Transfers.{takingFrom};
+ghost use Rattle.waiting.specs.Transfers.{Dropped, TakesFrom, handing, taking};
+ghost use Rattle.waiting.specs.Transfers.{takingFrom};
+use calls::Answer;
 use layout::Field;
 use layout::Part;
 use layout::codes;
 use layout::codes::LINK;
 use layout::codes::NOBODY;
-use machine::Answer;
-use machine::codes::LINE_FIRED;
-
-// The running thread t blocks at a place: code 1.
-fn suspend(tables: &mut [u32], t: usize, place: u32, badge: u32, message: u32) -> Answer
-    requires { ⌜ Shown (now tables) (IsThread t) ⌝ }
-    ensures { λ r. ⌜ Suspends (now (tables .entry)) t place badge message r (now (tables .exit)) ⌝ }
-{
-    queues::block(tables, t, place, badge, message);
-    let answer = machine::plain(machine::codes::BLOCKED);
-    endings::accept(tables, answer)
-}
 
 // 4: endpoint e, which is absent, is made. An absent one has no waiter and no abort, so only the status changes.
 pub fn create_endpoint(tables: &mut [u32], e: usize) -> Answer
@@ -35,35 +21,9 @@ pub fn create_endpoint(tables: &mut [u32], e: usize) -> Answer
 {
     let status = store::endpoint(tables, Part::Status, e);
     if status != codes::MISSING {
-        return machine::plain(machine::codes::ENDPOINT_PRESENT);
+        return calls::plain(calls::codes::ENDPOINT_PRESENT);
     }
     store::set_status(tables, e, codes::LIVE);
-    endings::done(tables)
-}
-
-// The waiter on line l is woken, or the line is pending.
-fn fire(tables: &mut [u32], l: usize)
-    requires { ⌜ Shown (now tables) (Asked (l ≤ 31)) ⌝ }
-    ensures { λ _. ⌜ Does (now (tables .entry)) (now (tables .exit)) (Asked (l ≤ 31)) (firing l) ⌝ }
-{
-    let line = store::line(tables, l);
-    if line == codes::QUIET {
-        store::set_line(tables, l, codes::PENDING);
-        return;
-    }
-    if line == codes::PENDING {
-        return;
-    }
-    store::set_line(tables, l, codes::QUIET);
-    queues::wake(tables, (line - codes::AWAITED) as usize, LINE_FIRED, 0, 0);
-}
-
-// 5: an interrupt on line l.
-pub fn interrupt(tables: &mut [u32], l: usize) -> Answer
-    requires { ⌜ Shown (now tables) (Asked (l ≤ 31)) ⌝ }
-    ensures { λ r. ⌜ Performs (now (tables .entry)) (now (tables .exit)) r (Asked (l ≤ 31)) (interrupting l) ⌝ }
-{
-    fire(tables, l);
     endings::done(tables)
 }
 
@@ -76,9 +36,9 @@ fn hand(tables: &mut [u32], t: usize, e: usize, badge: u32, message: u32) -> Ans
     let link = debts::first_at(tables, e, codes::RECEIVING + e as u32);
     if link == NOBODY {
         queues::join_endpoint(tables, t, e);
-        return suspend(tables, t, codes::SENDING + e as u32, badge, message);
+        return waiting::suspend(tables, t, codes::SENDING + e as u32, badge, message);
     }
-    let outcome = machine::codes::MESSAGE_RECEIVED;
+    let outcome = calls::codes::MESSAGE_RECEIVED;
     queues::wake_from(tables, e, (link - LINK) as usize, outcome, badge, message);
     endings::done(tables)
 }
@@ -91,14 +51,14 @@ pub fn send(tables: &mut [u32], t: usize, e: usize, badge: u32, message: u32) ->
 {
     let status = store::endpoint(tables, Part::Status, e);
     if status == codes::MISSING {
-        return machine::plain(machine::codes::ENDPOINT_ABSENT);
+        return calls::plain(calls::codes::ENDPOINT_ABSENT);
     }
     if status == codes::CLOSING {
-        return machine::plain(machine::codes::ENDPOINT_CLOSING);
+        return calls::plain(calls::codes::ENDPOINT_CLOSING);
     }
     let under = debts::under_abort(tables, e, badge);
     if under {
-        return machine::plain(machine::codes::BADGE_ABORTED);
+        return calls::plain(calls::codes::BADGE_ABORTED);
     }
     debts::drop_debt(tables, t);
     hand(tables, t, e, badge, message)
@@ -111,9 +71,9 @@ fn take_from(tables: &mut [u32], e: usize, u: usize) -> Answer
 {
     let badge = store::thread(tables, Field::Badge, u);
     let message = store::thread(tables, Field::Message, u);
-    queues::wake_from(tables, e, u, machine::codes::MESSAGE_TAKEN, 0, 0);
+    queues::wake_from(tables, e, u, calls::codes::MESSAGE_TAKEN, 0, 0);
     let answer = Answer {
-        code: machine::codes::DONE,
+        code: calls::codes::DONE,
         count: 0,
         badge,
         message,
@@ -129,7 +89,7 @@ fn take(tables: &mut [u32], t: usize, e: usize) -> Answer
     let link = debts::first_at(tables, e, codes::SENDING + e as u32);
     if link == NOBODY {
         queues::join_endpoint(tables, t, e);
-        return suspend(tables, t, codes::RECEIVING + e as u32, 0, 0);
+        return waiting::suspend(tables, t, codes::RECEIVING + e as u32, 0, 0);
     }
     take_from(tables, e, (link - LINK) as usize)
 }
@@ -141,29 +101,11 @@ pub fn receive(tables: &mut [u32], t: usize, e: usize) -> Answer
 {
     let status = store::endpoint(tables, Part::Status, e);
     if status == codes::MISSING {
-        return machine::plain(machine::codes::ENDPOINT_ABSENT);
+        return calls::plain(calls::codes::ENDPOINT_ABSENT);
     }
     if status == codes::CLOSING {
-        return machine::plain(machine::codes::ENDPOINT_CLOSING);
+        return calls::plain(calls::codes::ENDPOINT_CLOSING);
     }
     debts::drop_debt(tables, t);
     take(tables, t, e)
-}
-
-// 10: the running thread t waits on line l; a pending interrupt is taken at once.
-pub fn wait(tables: &mut [u32], t: usize, l: usize) -> Answer
-    requires { ⌜ Shown (now tables) (Calling t (l ≤ 31)) ⌝ }
-    ensures { λ r. ⌜ Performs (now (tables .entry)) (now (tables .exit)) r (Calling t (l ≤ 31)) (waiting t l) ⌝ }
-{
-    let line = store::line(tables, l);
-    if codes::PENDING < line {
-        return machine::plain(machine::codes::LINE_TAKEN);
-    }
-    debts::drop_debt(tables, t);
-    if line == codes::PENDING {
-        store::set_line(tables, l, codes::QUIET);
-        return endings::done(tables);
-    }
-    store::set_line(tables, l, codes::AWAITED + t as u32);
-    suspend(tables, t, codes::WAITING + l as u32, 0, 0)
 }

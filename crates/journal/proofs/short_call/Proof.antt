@@ -1,7 +1,7 @@
 -- Each arm knows the number, and the table of calls computes there.
 use mathlib.Core.Path.{sym, ap}
 use mathlib.Core.Option.{some}
-use Rattle.machine.specs.declared.Call.the-variants.{Tick, Yield}
+use Rattle.calls.specs.declared.Call.the-variants.{Tick, Yield}
 use Rattle.journal.specs.Steps.{asNamed}
 use Rattle.journal.specs.Words.{callOf, unused}
 use Rattle.journal.proofs.Answers.{unused-above, no-short}

@@ -3,13 +3,13 @@ use mathlib.Core.Path.{_≡_, sym, _∙_, ap}
 use mathlib.Core.Bool.{false}
 use mathlib.Core.Logic.{⊎-elim}
 use native.Mathlib.Omega.{arith}
-use Rattle.machine.specs.declared.Answer.{Answer}
-use Rattle.machine.specs.Results.{threadOf}
+use Rattle.calls.specs.declared.Answer.{Answer}
+use Rattle.calls.specs.Answers.{threadOf}
 use Rattle.machine.specs.Grants.{barred}
 use Rattle.grants.specs.Memory.{grantsOf}
 use Rattle.lent_tables.specs.Entries.{runnerOf}
-use Rattle.kernel.proofs.Granting.{refused-grants}
-use Rattle.kernel.proofs.Cases.{link-within, nobody-calls, lacking, host-unbarred, served-asked, served-done}
+use Rattle.dispatch.proofs.Granting.{refused-grants}
+use Rattle.dispatch.proofs.Cases.{link-within, nobody-calls, lacking, host-unbarred, served-asked, served-done}
 use borrow.Author.Needs.{needs}
 use Rattle.kernel.proofs.admit.Statement.{statement}
 use Rattle.kernel.proofs.admit.Tie as tie

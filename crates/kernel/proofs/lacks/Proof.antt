@@ -1,5 +1,5 @@
 -- Nobody lacks nothing; a thread by its word.
-use Rattle.kernel.proofs.Cases.{nobody-lacks, thread-lacks}
+use Rattle.dispatch.proofs.Cases.{nobody-lacks, thread-lacks}
 use borrow.Author.Needs.{needs}
 use Rattle.kernel.proofs.lacks.Statement.{statement}
 use Rattle.kernel.proofs.lacks.Tie as tie

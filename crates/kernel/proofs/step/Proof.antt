@@ -2,9 +2,9 @@
 use mathlib.Core.Path.{ap}
 use native.Mathlib.Omega.{arith}
 use borrow.Author.Tests.{not-true, not-false}
-use Rattle.machine.specs.declared.Answer.{Answer}
-use Rattle.kernel.proofs.Granting.{refused-grants}
-use Rattle.kernel.proofs.Cases.{out-of-range, range-asked, range-done}
+use Rattle.calls.specs.declared.Answer.{Answer}
+use Rattle.dispatch.proofs.Granting.{refused-grants}
+use Rattle.dispatch.proofs.Cases.{out-of-range, range-asked, range-done}
 use borrow.Author.Needs.{needs}
 use Rattle.kernel.proofs.step.Statement.{statement}
 use Rattle.kernel.proofs.step.Tie as tie

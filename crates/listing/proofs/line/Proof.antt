@@ -6,10 +6,10 @@ use lib.ListN.{length-set}
 use mir.Val.{Val}
 use denote.Shadow.{shadow}
 use borrow.Author.Needs.{needs}
-use Rattle.machine.specs.declared.Runner.{Runner}
-use Rattle.machine.specs.declared.Runner.the-variants.{Nobody, Thread}
-use Rattle.machine.specs.Results.{threadOf}
-use Rattle.machine.proofs.Runner.{the-field}
+use Rattle.calls.specs.declared.Runner.{Runner}
+use Rattle.calls.specs.declared.Runner.the-variants.{Nobody, Thread}
+use Rattle.calls.specs.Answers.{threadOf}
+use Rattle.calls.proofs.Runner.{the-field}
 use Rattle.journal.specs.Rows.{Row}
 use Rattle.texts.specs.Decimal.{spaced}
 use Rattle.texts.specs.Buffer.{Room}

@@ -4,8 +4,8 @@ use mathlib.Core.Path.{refl, sym, ap}
 use mathlib.Core.List.{List}
 use native.Mathlib.Omega.{arith}
 use borrow.Author.Needs.{needs}
-use Rattle.machine.specs.declared.Runner.{Runner}
-use Rattle.machine.specs.Results.{threadOf}
+use Rattle.calls.specs.declared.Runner.{Runner}
+use Rattle.calls.specs.Answers.{threadOf}
 use Rattle.texts.proofs.Writing.{room-is, wrote-is, wrote-byte}
 use Rattle.listing.specs.Line.{runner}
 use Rattle.listing.proofs.who.Statement.{statement}

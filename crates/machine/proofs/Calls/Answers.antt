@@ -8,14 +8,15 @@ use mathlib.Core.List.{[]}
 use native.Mathlib.Omega.{arith}
 use borrow.Author.Tests.{eq-eqb, leb-false}
 use lib.ListN.{length}
-use Rattle.machine.specs.declared.Call.{Call}
-use Rattle.machine.specs.declared.Call.the-variants.{Delete, Abort}
-use Rattle.machine.specs.Calls.{numberOf, inRange}
+use Rattle.calls.specs.declared.Call.{Call}
+use Rattle.calls.specs.declared.Call.the-variants.{Delete, Abort}
+use Rattle.calls.specs.Calls.{numberOf, inRange}
 use Rattle.machine.specs.Lists.{Mem, Distinct}
 use Rattle.machine.specs.State as State
 use Rattle.machine.specs.State.{State, Thread, nothing, noted, setThread, withDebt}
 use Rattle.machine.specs.Endpoints.{pendingOf, dropDebt}
-use Rattle.machine.specs.Results.{Result, plain, done, isAccepted}
+use Rattle.machine.specs.Results.{Result, done}
+use Rattle.calls.specs.Answers.{plain, isAccepted}
 use Rattle.machine.specs.Grants.{Grants, lacks, barred}
 use Rattle.machine.specs.Aborts.{pendingAt, hasNote, abortUnless, abort}
 use Rattle.machine.specs.Machine.{byCaller, perform, performUnless, performIf, step}

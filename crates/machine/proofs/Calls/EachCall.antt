@@ -5,11 +5,11 @@ use mathlib.Core.Path.{_≡_, refl}
 use mathlib.Core.Bool.{Bool, true, false}
 use mathlib.Core.Option.{Option, none, some}
 use lib.Dec.{lit≤}
-use Rattle.machine.specs.declared.Call.{Call}
-use Rattle.machine.specs.declared.Call.the-variants.{CreateThread, DestroyThread, SetPriority, CreateEndpoint}
-use Rattle.machine.specs.declared.Call.the-variants.{Interrupt, Tick, Send, Receive, Yield, Wait, Delete, Abort}
-use Rattle.machine.specs.declared.Call.the-variants.{Grant}
-use Rattle.machine.specs.Calls.{numberOf, inRange}
+use Rattle.calls.specs.declared.Call.{Call}
+use Rattle.calls.specs.declared.Call.the-variants.{CreateThread, DestroyThread, SetPriority, CreateEndpoint}
+use Rattle.calls.specs.declared.Call.the-variants.{Interrupt, Tick, Send, Receive, Yield, Wait, Delete, Abort}
+use Rattle.calls.specs.declared.Call.the-variants.{Grant}
+use Rattle.calls.specs.Calls.{numberOf, inRange}
 use Rattle.machine.specs.State.{State, Place, absent, able, sending, receiving, waiting, Status, missing, live}
 use Rattle.machine.specs.State.{closing, Endpoint, Line, quiet, pending, awaited, absentThread, setThread}
 use Rattle.machine.specs.State.{setEndpoint, withTicks}

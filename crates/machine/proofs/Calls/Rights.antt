@@ -7,9 +7,9 @@ use mathlib.Core.Option.{Option, none, some}
 use native.Mathlib.Omega.{arith}
 use lib.Dec.{eqb}
 use borrow.Author.Tests.{eqb-true}
-use Rattle.machine.specs.declared.Call.{Call}
-use Rattle.machine.specs.declared.Call.the-variants.{Send}
-use Rattle.machine.specs.Calls.{endpointOf, inRange}
+use Rattle.calls.specs.declared.Call.{Call}
+use Rattle.calls.specs.declared.Call.the-variants.{Send, Abort}
+use Rattle.calls.specs.Calls.{endpointOf, inRange}
 use Rattle.machine.specs.State.{State}
 use Rattle.machine.specs.Results.{Result}
 use Rattle.machine.specs.Grants.{Grants, badgeIn, grants?, lacks, barred}
@@ -107,3 +107,8 @@ sent-granted g s e b m t runs = go (inRange (Send e b m))
         (subst
         (λ (o : Option ℕ). performUnless (barred o g (Send e b m)) (Send e b m) s .answer .code ≤ 2) runs h))
     go false h = absurd (omega arith)
+
+-- An abort needs its right alone, whatever badge is granted or aborted.
+pub own-right-alone : (w e a b c : ℕ) → lacks w (Abort e a b) ≡ lacks w (Abort e a c)
+unfolding lacks
+own-right-alone w e a b c = refl

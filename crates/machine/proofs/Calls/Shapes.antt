@@ -10,18 +10,19 @@ use native.Mathlib.Omega.{arith}
 use native.Mathlib.Nat.{le-of-eq}
 use lib.Dec.{eqb, lit≤}
 use lib.ListN.{length, length-append}
-use Rattle.machine.specs.declared.Call.{Call}
-use Rattle.machine.specs.declared.Call.the-variants.{CreateThread, DestroyThread, SetPriority, CreateEndpoint}
-use Rattle.machine.specs.declared.Call.the-variants.{Interrupt, Tick, Send, Receive, Yield, Wait, Delete, Abort}
-use Rattle.machine.specs.declared.Call.the-variants.{Grant}
-use Rattle.machine.specs.Calls.{numberOf, inRange}
+use Rattle.calls.specs.declared.Call.{Call}
+use Rattle.calls.specs.declared.Call.the-variants.{CreateThread, DestroyThread, SetPriority, CreateEndpoint}
+use Rattle.calls.specs.declared.Call.the-variants.{Interrupt, Tick, Send, Receive, Yield, Wait, Delete, Abort}
+use Rattle.calls.specs.declared.Call.the-variants.{Grant}
+use Rattle.calls.specs.Calls.{numberOf, inRange}
 use Rattle.machine.specs.Lists.{Mem, Distinct}
 use Rattle.machine.specs.State as State
 use Rattle.machine.specs.State.{State, Status, missing, live, closing, Line, quiet, pending, awaited, Endpoint}
 use Rattle.machine.specs.State.{missingEndpoint, setEndpoint}
 use Rattle.machine.specs.Scheduling.{choose}
 use Rattle.machine.specs.Endpoints.{pendingOf, dropDebt, endAbort}
-use Rattle.machine.specs.Results.{Look, Result, plain, counted, refuse, accept, receipt}
+use Rattle.machine.specs.Results.{Look, Result, refuse, accept}
+use Rattle.calls.specs.Answers.{plain, counted, receipt}
 use Rattle.machine.specs.Grants.{Grants, barred}
 use Rattle.machine.specs.Aborts.{Removal, removeUpTo, deleted, deleteFrom, deleteAt, delete, Looked, pendingAt}
 use Rattle.machine.specs.Aborts.{lookUpTo, begin, join, ended, lookedOwn, workOwn, beginAfter, finished}
@@ -33,7 +34,7 @@ use Rattle.machine.specs.Machine.{receiveFrom, receiveAt, receive, yield
 use Rattle.machine.specs.Machine.{grantAt, grantIf, grant, performUnless, performIf, step}
 use Rattle.machine.specs.Work.{allowanceOf, WorkLeft, to-remove, to-look, not-begun}
 use Rattle.machine.proofs.Lists.{Same, same, other, same?, put-same}
-use Rattle.machine.proofs.Ranges.{bounds}
+use Rattle.calls.proofs.Ranges.{bounds}
 use Rattle.machine.proofs.Running.{choose-keeps}
 use Rattle.machine.proofs.Calls.Loops.{Removed, removes, looks}
 

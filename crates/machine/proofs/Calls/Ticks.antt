@@ -3,9 +3,9 @@ use Prim.Native.Nat.{ℕ}
 use mathlib.Core.Path.{_≡_, refl, sym, _∙_, ap, subst}
 use mathlib.Core.Bool.{Bool, true, false}
 use mathlib.Core.Option.{Option, none, some}
-use Rattle.machine.specs.declared.Call.{Call}
-use Rattle.machine.specs.declared.Call.the-variants.{DestroyThread}
-use Rattle.machine.specs.Calls.{numberOf}
+use Rattle.calls.specs.declared.Call.{Call}
+use Rattle.calls.specs.declared.Call.the-variants.{DestroyThread}
+use Rattle.calls.specs.Calls.{numberOf}
 use Rattle.machine.specs.State.{State, Thread, Place, absent, able, sending, receiving, waiting, Abort, Status}
 use Rattle.machine.specs.State.{absentThread, setThread}
 use Rattle.machine.specs.Scheduling.{choose}

@@ -3,18 +3,18 @@ use Prim.Native.Nat.{ℕ}
 use mathlib.Core.Path.{_≡_, refl}
 use mathlib.Core.Bool.{Bool, true, false}
 use mathlib.Core.Option.{Option, none, some}
-use Rattle.machine.specs.declared.Call.{Call}
-use Rattle.machine.specs.declared.Call.the-variants.{CreateThread, DestroyThread, SetPriority, CreateEndpoint}
-use Rattle.machine.specs.declared.Call.the-variants.{Interrupt, Tick, Send, Receive, Yield, Wait, Delete, Abort}
-use Rattle.machine.specs.declared.Call.the-variants.{Grant}
-use Rattle.machine.specs.Calls.{inRange}
+use Rattle.calls.specs.declared.Call.{Call}
+use Rattle.calls.specs.declared.Call.the-variants.{CreateThread, DestroyThread, SetPriority, CreateEndpoint}
+use Rattle.calls.specs.declared.Call.the-variants.{Interrupt, Tick, Send, Receive, Yield, Wait, Delete, Abort}
+use Rattle.calls.specs.declared.Call.the-variants.{Grant}
+use Rattle.calls.specs.Calls.{inRange}
 use Rattle.machine.specs.State.{State, Status, missing, live, closing, freshState}
 use Rattle.machine.specs.Results.{Result}
 use Rattle.machine.specs.Grants.{Grants, barred}
 use Rattle.machine.specs.Machine.{isAbsent, byCaller, grantAt, grantIf, grant, perform, performUnless}
 use Rattle.machine.specs.Machine.{performIf, step}
 use Rattle.machine.specs.Sound.{Sound}
-use Rattle.machine.proofs.Ranges.{bounds}
+use Rattle.calls.proofs.Ranges.{bounds}
 use Rattle.machine.proofs.Preserved.Mid.{sound-mid}
 use Rattle.machine.proofs.Preserved.Ready.{none-some}
 use Rattle.machine.proofs.Preserved.Sites.{differ, not-at, not-awaited}

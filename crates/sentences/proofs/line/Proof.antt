@@ -3,12 +3,12 @@ use Prim.Native.Nat.{ℕ}
 use mathlib.Core.Path.{_≡_, sym, ap}
 use mathlib.Core.List.{_++_}
 use borrow.Author.Needs.{needs}
-use Rattle.machine.specs.Calls.{numberOf}
+use Rattle.calls.specs.Calls.{numberOf}
 use Rattle.texts.specs.Text.{bytes}
 use Rattle.texts.specs.Buffer.{Room}
 use Rattle.texts.proofs.Writing.{room-is, wrote-is, front-room, rest-room, in-turn}
-use Rattle.sentences.specs.Sentence.{request, details}
-use Rattle.sentences.proofs.Parts.{fromColon, fromOutcome, fromDetails, sentence-is}
+use Rattle.wording.specs.Sentence.{request, details}
+use Rattle.wording.proofs.Parts.{fromColon, fromOutcome, fromDetails, sentence-is}
 use Rattle.sentences.proofs.line.Statement.{statement}
 use Rattle.sentences.proofs.line.Tie as tie
 

@@ -3,14 +3,14 @@ use mathlib.Core.Path.{_≡_, sym, _∙_}
 use mathlib.Core.Bool.{true}
 use native.Mathlib.Omega.{arith}
 use borrow.Author.Needs.{needs}
-use Rattle.machine.specs.Calls.{inRange}
-use Rattle.machine.proofs.Answers.{Words}
+use Rattle.calls.specs.Calls.{inRange}
+use Rattle.calls.proofs.Answers.{Words}
 use Rattle.texts.specs.Buffer.{Room}
 use Rattle.texts.proofs.Apart.{opposite}
 use Rattle.texts.proofs.Filing.{refused-files, refused-counts, wrote-files, wrote-counts}
-use Rattle.sentences.specs.Sentence.{sentence}
-use Rattle.sentences.proofs.Lengths.{sentence-fits}
-use Rattle.sentences.proofs.Entry.{short-for, range-for, line-for}
+use Rattle.wording.specs.Sentence.{sentence}
+use Rattle.wording.proofs.Lengths.{sentence-fits}
+use Rattle.wording.proofs.Entry.{short-for, range-for, line-for}
 use Rattle.sentences.proofs.sentence.Statement.{statement}
 use Rattle.sentences.proofs.sentence.Tie as tie
 

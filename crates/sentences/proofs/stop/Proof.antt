@@ -5,9 +5,9 @@ use native.Mathlib.Omega.{arith}
 use borrow.Author.Needs.{needs}
 use Rattle.texts.specs.Buffer.{Room}
 use Rattle.texts.proofs.Filing.{refused-files, refused-counts, wrote-files, wrote-counts}
-use Rattle.sentences.specs.Sentence.{stopLine}
-use Rattle.sentences.proofs.Lengths.{stop-fits}
-use Rattle.sentences.proofs.Entry.{stop-short-for, stop-line-for}
+use Rattle.wording.specs.Sentence.{stopLine}
+use Rattle.wording.proofs.Lengths.{stop-fits}
+use Rattle.wording.proofs.Entry.{stop-short-for, stop-line-for}
 use Rattle.sentences.proofs.stop.Statement.{statement}
 use Rattle.sentences.proofs.stop.Tie as tie
 

@@ -5,7 +5,7 @@ use borrow.Author.Needs.{needs}
 use Rattle.texts.specs.Text.{bytes}
 use Rattle.texts.specs.Buffer.{Room}
 use Rattle.texts.proofs.Writing.{room-is, wrote-is, front-room, rest-room, in-turn}
-use Rattle.sentences.proofs.Parts.{stopOutcome, stop-is}
+use Rattle.wording.proofs.Parts.{stopOutcome, stop-is}
 use Rattle.sentences.proofs.stop_line.Statement.{statement}
 use Rattle.sentences.proofs.stop_line.Tie as tie
 

@@ -1,5 +1,5 @@
 -- Refused by the status; else the debt goes and a message is taken or waited for.
-use Rattle.transfers.proofs.Callers.{thread-asked, dropped-asked}
+use Rattle.waiting.proofs.Callers.{thread-asked, dropped-asked}
 use Rattle.transfers.proofs.Taking.{receive-missing, receive-closing, receive-live}
 use borrow.Author.Needs.{needs}
 use Rattle.transfers.proofs.receive.Statement.{statement}

@@ -1,5 +1,5 @@
 -- Refused by the status and by the abort, in that order; else the debt goes and the message is handed over.
-use Rattle.transfers.proofs.Callers.{thread-asked, dropped-asked}
+use Rattle.waiting.proofs.Callers.{thread-asked, dropped-asked}
 use Rattle.transfers.proofs.Handing.{send-missing, send-closing, send-under, sent}
 use borrow.Author.Needs.{needs}
 use Rattle.transfers.proofs.send.Statement.{statement}

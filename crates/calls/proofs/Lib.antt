@@ -1,0 +1,3 @@
+-- What numbers in range say; answers by their numbers.
+pub mod Ranges
+pub mod Answers

@@ -1,0 +1,3 @@
+-- The calls and their answers.
+pub mod Calls
+pub mod Answers

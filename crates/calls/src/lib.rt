@@ -1,0 +1,179 @@
+// The thirteen calls and their answer. What the calls do, the queue machine, stands in crate machine.
+ghost use mathlib.Core.Path.{_≡_};
+ghost use Rattle.calls.specs.Calls.{numberOf, isAllowance, inRange};
+ghost use Rattle.calls.specs.Answers.{plain, counted};
+
+pub mod codes;
+
+// A call, each kind with its own numbers. Any number may stand in any place: those out of range are refused by 19.
+pub enum Call {
+    CreateThread {
+        thread: u32,
+        priority: u32,
+    },
+    DestroyThread {
+        thread: u32,
+    },
+    SetPriority {
+        thread: u32,
+        priority: u32,
+    },
+    CreateEndpoint {
+        endpoint: u32,
+    },
+    Interrupt {
+        line: u32,
+    },
+    Tick,
+    Send {
+        endpoint: u32,
+        badge: u32,
+        message: u32,
+    },
+    Receive {
+        endpoint: u32,
+    },
+    Yield,
+    Wait {
+        line: u32,
+    },
+    Delete {
+        endpoint: u32,
+        allowance: u32,
+    },
+    Abort {
+        endpoint: u32,
+        allowance: u32,
+        badge: u32,
+    },
+    Grant {
+        thread: u32,
+        endpoint: u32,
+        rights: u32,
+        badge: u32,
+    },
+}
+
+// What every call is answered with.
+pub struct Answer {
+    pub code: u32,
+    pub count: u32,
+    pub badge: u32,
+    pub message: u32,
+}
+
+// A code alone, with three zeros.
+pub fn plain(code: u32) -> Answer
+    ensures { λ r. ⌜ r ≡ plain code ⌝ }
+{
+    Answer {
+        code,
+        count: 0,
+        badge: 0,
+        message: 0,
+    }
+}
+
+// A code and a count.
+pub fn counted(code: u32, count: u32) -> Answer
+    ensures { λ r. ⌜ r ≡ counted code count ⌝ }
+{
+    Answer {
+        code,
+        count,
+        badge: 0,
+        message: 0,
+    }
+}
+
+// Who runs after a call.
+pub enum Runner {
+    Nobody,
+    Thread(u32),
+}
+
+// The call's number, 1 to 13.
+pub fn number(c: Call) -> u32
+    ensures { λ r. ⌜ r ≡ numberOf c ⌝ }
+{
+    match c {
+        Call::CreateThread {
+            thread: _,
+            priority: _,
+        } => 1,
+        Call::DestroyThread { thread: _ } => 2,
+        Call::SetPriority {
+            thread: _,
+            priority: _,
+        } => 3,
+        Call::CreateEndpoint { endpoint: _ } => 4,
+        Call::Interrupt { line: _ } => 5,
+        Call::Tick => 6,
+        Call::Send {
+            endpoint: _,
+            badge: _,
+            message: _,
+        } => 7,
+        Call::Receive { endpoint: _ } => 8,
+        Call::Yield => 9,
+        Call::Wait { line: _ } => 10,
+        Call::Delete {
+            endpoint: _,
+            allowance: _,
+        } => 11,
+        Call::Abort {
+            endpoint: _,
+            allowance: _,
+            badge: _,
+        } => 12,
+        Call::Grant {
+            thread: _,
+            endpoint: _,
+            rights: _,
+            badge: _,
+        } => 13,
+    }
+}
+
+fn is_allowance(a: u32) -> bool
+    ensures { λ r. ⌜ r ≡ isAllowance a ⌝ }
+{
+    1 <= a && a <= 65535
+}
+
+// Whether every number of the call is in range; if not, it is refused by 19.
+pub fn in_range(c: Call) -> bool
+    ensures { λ r. ⌜ r ≡ inRange c ⌝ }
+{
+    match c {
+        Call::CreateThread { thread, priority } => thread <= 255 && priority <= 255,
+        Call::DestroyThread { thread } => thread <= 255,
+        Call::SetPriority { thread, priority } => thread <= 255 && priority <= 255,
+        Call::CreateEndpoint { endpoint } => endpoint <= 63,
+        Call::Interrupt { line } => line <= 31,
+        Call::Tick => true,
+        Call::Send {
+            endpoint,
+            badge,
+            message,
+        } => endpoint <= 63 && badge < codes::NO_BADGE && message < codes::NO_BADGE,
+        Call::Receive { endpoint } => endpoint <= 63,
+        Call::Yield => true,
+        Call::Wait { line } => line <= 31,
+        Call::Delete {
+            endpoint,
+            allowance,
+        } => endpoint <= 63 && is_allowance(allowance),
+        Call::Abort {
+            endpoint,
+            allowance,
+            badge,
+        } => endpoint <= 63 && is_allowance(allowance) && badge < codes::NO_BADGE,
+        Call::Grant {
+            thread,
+            endpoint,
+            rights,
+            badge,
+        } => thread <= 255 && endpoint <= 63 && rights <= 15 && badge < codes::NO_BADGE,
+    }
+}

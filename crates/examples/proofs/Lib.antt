@@ -1,0 +1,6 @@
+-- Histories compared with tables, and machines that the claim refuses.
+pub mod Histories
+pub mod Refuting
+pub mod Wrong
+pub mod Bites
+pub mod Unheard

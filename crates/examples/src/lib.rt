@@ -1,0 +1,1 @@
+// Runs that the checker computes: specs/ and proofs/, no code.

@@ -1,0 +1,1 @@
+// The history of a list of calls: specs/ and proofs/, no code.

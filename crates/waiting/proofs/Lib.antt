@@ -1,0 +1,3 @@
+-- What is asked of a caller, and how a call ends.
+pub mod Finishing
+pub mod Callers
