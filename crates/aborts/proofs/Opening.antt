@@ -25,7 +25,7 @@ use Rattle.store.specs.Steps.{Shown, Does, Tells}
 use Rattle.store.specs.Store.{IsThread, IsEndpoint}
 use Rattle.store.specs.Readings.{endpointIn}
 use Rattle.queues.specs.Queues.{Chooses}
-use Rattle.debts.specs.Debts.{Says, InRange, InCall, underIn, notedIn}
+use Rattle.debts.specs.Debts.{Says, PairInRange, InCall, underIn, notedIn}
 use Rattle.endings.specs.Results.{Calling, Performs, Accepts}
 use Rattle.endings.proofs.Ends.{refused, performs-as, performs-for, performs-after, does-for, shown-for}
 use Rattle.endings.proofs.Conditions.{mid-chooses, running-thread, running-range, running-calls}
@@ -33,7 +33,7 @@ use Rattle.aborts.specs.Aborts.{Open, Joining, Continues, ownBegun, join
 
 -- Joining.
 
-joining-joins : {t e : ℕ} {s : State} → Joining t e s → InRange t e s
+joining-joins : {t e : ℕ} {s : State} → Joining t e s → PairInRange t e s
 joining-joins J = let O = J .opened in running-range (O .mid) (O .runs) (O .endpoint)
 
 joined-open : {t e : ℕ} {s : State} → Joining t e s → Open t e (join t e s)
@@ -48,10 +48,10 @@ joined-open {t} {e} {s} J =
     }
 
 module _ {m : List ℕ} {t e : ℕ} where
-  pub joins-asked : Shown m (Joining t e) → Shown m (InRange t e)
+  pub joins-asked : Shown m (Joining t e) → Shown m (PairInRange t e)
   joins-asked S = shown-for S (λ s J. joining-joins J)
 
-  module _ {n : List ℕ} (D : Does m n (InRange t e) (join t e)) where
+  module _ {n : List ℕ} (D : Does m n (PairInRange t e) (join t e)) where
     pub joined-asked : Shown m (Joining t e) → Shown n (Open t e)
     joined-asked S =
         record {

@@ -17,7 +17,7 @@ use Rattle.links.specs.Links.{Last}
 use Rattle.layout.proofs.Chains.{first-zero}
 use Rattle.store.specs.Steps.{Shown, Does, Tells}
 use Rattle.store.specs.Store.{SetsAbort}
-use Rattle.debts.specs.Debts.{InRange, AllAt, Alike, BeginsAbort, FirstAt, firstSender, lastSender}
+use Rattle.debts.specs.Debts.{PairInRange, AllAt, Alike, BeginsAbort, FirstAt, firstSender, lastSender}
 
 -- The senders among waiters that all send, and that all receive.
 module _ (threads : ℕ → Thread) (e : ℕ) (l : List ℕ) where
@@ -65,10 +65,10 @@ module _ {m n : List ℕ} {t e b c d : ℕ} (C : FirstAt m e (2 + e) c)
       A .some (begun e b s) refl refl (C .sends refl .tells s M (B .waiters)) (D .tells s M (B .waiters)) .shows s M
       (B .waiters .endpoint)
 
-  range : (s : State) → BeginsAbort t e s → InRange t e (setAbort e (some (begun e b s)) s)
+  range : (s : State) → BeginsAbort t e s → PairInRange t e (setAbort e (some (begun e b s)) s)
   range s B = record { thread = B .thread; endpoint = B .waiters .endpoint }
 
-  pub beginner-asked : Shown m (BeginsAbort t e) → Shown n (InRange t e)
+  pub beginner-asked : Shown m (BeginsAbort t e) → Shown n (PairInRange t e)
   beginner-asked S =
       record {
         state = setAbort e (some (begun e b (S .state))) (S .state);
@@ -76,7 +76,7 @@ module _ {m n : List ℕ} {t e b c d : ℕ} (C : FirstAt m e (2 + e) c)
         holds = range (S .state) (S .holds);
       }
 
-  pub begins : {o : List ℕ} → Does n o (InRange t e) (join t e) → Does m o (BeginsAbort t e) (begin t e b)
+  pub begins : {o : List ℕ} → Does n o (PairInRange t e) (join t e) → Does m o (BeginsAbort t e) (begin t e b)
   unfolding begin
   begins J =
       record {

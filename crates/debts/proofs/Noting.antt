@@ -22,7 +22,7 @@ use Rattle.layout.proofs.Addresses.{below?}
 use Rattle.store.specs.Steps.{Shown, Does, Tells}
 use Rattle.store.specs.Store.{IsThread, IsEndpoint, SetsDebt}
 use Rattle.store.specs.Readings.{threadIn, endpointIn}
-use Rattle.debts.specs.Debts.{InRange, informedThread, noteOne, noting}
+use Rattle.debts.specs.Debts.{PairInRange, informedThread, noteOne, noting}
 
 abbrev withThreads : State → (ℕ → Thread) → State
 withThreads s f =
@@ -31,7 +31,7 @@ withThreads s f =
 -- One thread, by the number of its debt.
 module _ {m : List ℕ} {t e r : ℕ} (b : ℕ) (T : Tells m (IsThread t) r (threadIn Field.Owes t)) where
   -- Whoever is no member keeps what it has.
-  pub note-other : (r ≡ 1 + e → ⊥) → Does m m (InRange t e) (noteOne t e b)
+  pub note-other : (r ≡ 1 + e → ⊥) → Does m m (PairInRange t e) (noteOne t e b)
   note-other z =
       record {
         shows = λ s M R.
@@ -46,7 +46,7 @@ module _ {m : List ℕ} {t e r : ℕ} (b : ℕ) (T : Tells m (IsThread t) r (thr
       kept : (s : State) → informed e b (s .threads t .debt) ≡ s .threads t .debt → noteOne t e b s ≡ s
       kept s k = ap (withThreads s) (put-self (s .threads) t _ (ap (λ d. withDebt d (s .threads t)) k))
 
-  pub note-one : {n : List ℕ} → r ≡ 1 + e → SetsDebt m t (65 + e) b n → Does m n (InRange t e) (noteOne t e b)
+  pub note-one : {n : List ℕ} → r ≡ 1 + e → SetsDebt m t (65 + e) b n → Does m n (PairInRange t e) (noteOne t e b)
   note-one {n} z W =
       record {
         shows = λ s M R.
@@ -123,15 +123,15 @@ noted-none {m} {e} {b} S =
     }
 
 module _ {m₀ m : List ℕ} {e b t : ℕ} (N : NotedBelow m₀ m e b t) where
-  range : (s : State) → t < 256 → e ≤ 63 → InRange t e s
+  range : (s : State) → t < 256 → e ≤ 63 → PairInRange t e s
   range s h k = record { thread = omega arith; endpoint = k }
 
-  pub member-asked : t < 256 → Shown m (InRange t e)
+  pub member-asked : t < 256 → Shown m (PairInRange t e)
   member-asked h =
       let S = N .there in
       record { state = S .state; shows = S .shows; holds = range (S .state) h (S .holds) }
 
-  pub noted-more : {n : List ℕ} → t < 256 → Does m n (InRange t e) (noteOne t e b) → NotedBelow m₀ n e b (t + 1)
+  pub noted-more : {n : List ℕ} → t < 256 → Does m n (PairInRange t e) (noteOne t e b) → NotedBelow m₀ n e b (t + 1)
   noted-more {n} h D =
       let S = N .there in
       record {

@@ -18,13 +18,13 @@ pub record Says (m : List ℕ) (P : State → Type 0) (r : Bool) (f : State → 
   pub says : (s : State) → Shows m s → P s → r ≡ f s
 
 -- Thread t and endpoint e are in range.
-pub record InRange (t e : ℕ) (s : State) : Type 0 where
+pub record PairInRange (t e : ℕ) (s : State) : Type 0 where
   pub thread : t ≤ 255
   pub endpoint : e ≤ 63
 
 -- And so is the endpoint of the set that t is in.
 pub record InCall (t e : ℕ) (s : State) : Type 0 where
-  pub range : InRange t e s
+  pub range : PairInRange t e s
   pub set : (f : ℕ) → s .threads t .debt ≡ works f → f ≤ 63
 
 -- The badge is under abort at e; t has the note of this endpoint and badge.

@@ -4,7 +4,7 @@ ghost use Rattle.machine.specs.Endpoints.{dropDebt, noteAll};
 ghost use Rattle.machine.specs.Aborts.{join, begin};
 ghost use Rattle.store.specs.Steps.{Shown, Does, Tells};
 ghost use Rattle.store.specs.Store.{IsThread, IsEndpoint};
-ghost use Rattle.debts.specs.Debts.{Says, InRange, InCall, underIn, notedIn, noteOne, noting, EndsAbort};
+ghost use Rattle.debts.specs.Debts.{Says, PairInRange, InCall, underIn, notedIn, noteOne, noting, EndsAbort};
 ghost use Rattle.debts.specs.Debts.{Alike, BeginsAbort, FirstAt, lastSender};
 use layout::Field;
 use layout::Part;
@@ -51,16 +51,16 @@ pub fn has_note(tables: &[u32], t: usize, e: usize, badge: u32) -> bool
 
 // Thread t joins the set at endpoint e.
 pub fn join(tables: &mut [u32], t: usize, e: usize)
-    requires { ⌜ Shown (now tables) (InRange t e) ⌝ }
-    ensures { λ _. ⌜ Does (now (tables .entry)) (now (tables .exit)) (InRange t e) (join t e) ⌝ }
+    requires { ⌜ Shown (now tables) (PairInRange t e) ⌝ }
+    ensures { λ _. ⌜ Does (now (tables .entry)) (now (tables .exit)) (PairInRange t e) (join t e) ⌝ }
 {
     store::set_owes(tables, t, codes::MEMBER + e as u32, 0);
 }
 
 // Thread t gets a note of the badge if it is in the set at endpoint e.
 fn note_member(tables: &mut [u32], t: usize, e: usize, badge: u32)
-    requires { ⌜ Shown (now tables) (InRange t e) ⌝ }
-    ensures { λ _. ⌜ Does (now (tables .entry)) (now (tables .exit)) (InRange t e) (noteOne t e badge) ⌝ }
+    requires { ⌜ Shown (now tables) (PairInRange t e) ⌝ }
+    ensures { λ _. ⌜ Does (now (tables .entry)) (now (tables .exit)) (PairInRange t e) (noteOne t e badge) ⌝ }
 {
     let owes = store::thread(tables, Field::Owes, t);
     let member = codes::MEMBER + e as u32;

@@ -22,7 +22,7 @@ use Rattle.layout.proofs.Standing.{queue?, Queue, level, endpoint, queues-level
 use Rattle.links.specs.Links.{Free}
 use Rattle.store.specs.Store.{creating, prioritising}
 use Rattle.queues.specs.Queues.{Loose, InLevel, Chooses, ToEndpoint, InEndpoint}
-use Rattle.debts.specs.Debts.{InRange, InCall, AllAt, Alike, BeginsAbort}
+use Rattle.debts.specs.Debts.{PairInRange, InCall, AllAt, Alike, BeginsAbort}
 
 -- A thread is in no queue if it is in no level's and no endpoint's.
 pub free-of :
@@ -123,7 +123,7 @@ module _ {s : State} (M : Mid s) where
       go none k h = absurd (clash h refl)
       go (some a) k h = stands-small k
 
-  pub running-range : {t e : ℕ} → s .runs ≡ some t → e ≤ 63 → InRange t e s
+  pub running-range : {t e : ℕ} → s .runs ≡ some t → e ≤ 63 → PairInRange t e s
   running-range r h = record { thread = running-thread r; endpoint = h }
 
   pub running-calls : {t e : ℕ} → s .runs ≡ some t → e ≤ 63 → InCall t e s

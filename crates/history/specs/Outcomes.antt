@@ -7,7 +7,7 @@ use Rattle.machine.specs.Lists.{pick, put}
 use Rattle.machine.specs.Results.{Result}
 use Rattle.history.specs.Sorts.{Sort, other, destroys, waits, receives, yields, removes, looks}
 use Rattle.history.specs.History.{Aborting, Reported, Debts, Aborts, History, isIn, namedLooks}
-use Rattle.history.specs.Walk.{joinsIn, letsGo, hears, isNoteOf, isUnder, reportOf, Walk, Course, walk, close}
+use Rattle.history.specs.Walk.{joinsIn, letsGo, hears, isNoteOf, isUnder, reportOf, Walk, Walker, walk, close}
 use Rattle.history.specs.Walk.{reportIf}
 
 -- What a call comes to for the aborts, and which one it reports.
@@ -71,8 +71,8 @@ letsOther t e b x d = pick (goesOn t e b x d) d (letsGo t d)
 abbrev pub comesIn : ℕ → ℕ → ℕ → Option Aborting → Debts → Debts
 comesIn t e b x d = pick (isUnder b x) (joinsIn t e (letsOther t e b x d)) (letsOther t e b x d)
 
-abbrev pub courseOf : ℕ → ℕ → ℕ → History → Course
-courseOf t e b h = record { place = h .now; caller = t; endpoint = e; badge = b }
+abbrev pub walkerOf : ℕ → ℕ → ℕ → History → Walker
+walkerOf t e b h = record { place = h .now; caller = t; endpoint = e; badge = b }
 
 abbrev pub startOf : ℕ → ℕ → ℕ → History → Walk
 startOf t e b h =
@@ -101,9 +101,9 @@ walked e reports w h =
 unfoldable pub walks : ℕ → ℕ → ℕ → ℕ → Result → History → Outcome
 walks t e a b r h =
     walked e
-    (reportIf (walk (namedLooks (h .since) (r .looks)) a (courseOf t e b h) (startOf t e b h) .standing) b)
-    (close (courseOf t e b h)
-    (walk (namedLooks (h .since) (r .looks)) a (courseOf t e b h) (startOf t e b h))) h
+    (reportIf (walk (namedLooks (h .since) (r .looks)) a (walkerOf t e b h) (startOf t e b h) .standing) b)
+    (close (walkerOf t e b h)
+    (walk (namedLooks (h .since) (r .looks)) a (walkerOf t e b h) (startOf t e b h))) h
 
 -- A call 12 by thread t, accepted. It is answered from a note if t has a note of that endpoint and badge, the first
 -- argument: it reports the noted abort and begins none, and the note goes.

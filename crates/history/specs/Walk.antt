@@ -71,14 +71,14 @@ pub record Walk : Type 0 where
   pub stray : List ℕ
 
 -- The call: its place, its caller, its endpoint and badge.
-pub record Course : Type 0 where
+pub record Walker : Type 0 where
   pub place : ℕ
   pub caller : ℕ
   pub endpoint : ℕ
   pub badge : ℕ
 
 -- The call's own abort begins on the senders queued there at that moment, if allowance remains, the first argument.
-unfoldable pub begins : ℕ → Course → Walk → Walk
+unfoldable pub begins : ℕ → Walker → Walk → Walk
 begins zero c w = w
 begins (suc k) c w =
     record {
@@ -98,7 +98,7 @@ begins (suc k) c w =
     }
 
 -- The abort x ends in the call.
-unfoldable pub ends : Aborting → Course → Walk → Walk
+unfoldable pub ends : Aborting → Walker → Walk → Walk
 ends x c w =
     record {
       standing = none;
@@ -111,17 +111,17 @@ ends x c w =
     }
 
 -- Another badge's abort of which nothing is left ends, and the call's own begins.
-unfoldable pub passes : Bool → Bool → Aborting → ℕ → Course → Walk → Walk
+unfoldable pub passes : Bool → Bool → Aborting → ℕ → Walker → Walk → Walk
 passes true left x k c w = w
 passes false false x k c w = w
 passes false true x k c w = begins k c (ends x c w)
 
 -- Between looks, with the allowance that remains.
-unfoldable pub settles : Option Aborting → ℕ → Course → Walk → Walk
+unfoldable pub settles : Option Aborting → ℕ → Walker → Walk → Walk
 settles none k c w = begins k c w
 settles (some x) k c w = passes (eqb (x .badge) (c .badge)) (isNone (leftOf x (w .queued))) x k c w
 
-unfoldable pub settle : ℕ → Course → Walk → Walk
+unfoldable pub settle : ℕ → Walker → Walk → Walk
 settle k c w = settles (w .standing) k c w
 
 abbrev pub lookedAt : NamedLook → Aborting → Aborting
@@ -158,16 +158,16 @@ unfoldable pub takeLook : NamedLook → Walk → Walk
 takeLook v w = takes (w .standing) v w
 
 -- The looks in order, each after what there is to settle before it; then what there is to settle after the last.
-unfoldable pub walk : List NamedLook → ℕ → Course → Walk → Walk
+unfoldable pub walk : List NamedLook → ℕ → Walker → Walk → Walk
 walk [] k c w = settle k c w
 walk (v ∷ l) k c w = walk l (k - 1) c (takeLook v (settle k c w))
 
 -- The call leaves none of the senders still queued and not yet looked at: the abort ends in it.
-unfoldable pub closes : Option Aborting → Course → Walk → Walk
+unfoldable pub closes : Option Aborting → Walker → Walk → Walk
 closes none c w = w
 closes (some x) c w = pick (isNone (leftOf x (w .queued))) (ends x c w) w
 
-unfoldable pub close : Course → Walk → Walk
+unfoldable pub close : Walker → Walk → Walk
 close c w = closes (w .standing) c w
 
 -- The call reports the abort that it began or found under its badge.

@@ -16,8 +16,8 @@ incident =
     ∷ 0x12030000 ∷ 0x1105000B ∷ 0x1D050100 ∷ 0x20000007 ∷ 0x17000000 ∷ 0x20000007 ∷ 0x3000012C ∷ 0x1A000000
     ∷ 0x1C000005 ∷ 0x20000007 ∷ 0x15000000 ∷ 0x17000000 ∷ 0x20000007 ∷ 0x3000012C ∷ 0x18000000 ∷ []
 
-told : List Row
-told =
+listed : List Row
+listed =
     line 0 1 0 0 0 0 2
     ∷ line 1 4 0 0 0 0 2
     ∷ line 2 13 0 0 0 0 2
@@ -43,6 +43,6 @@ told =
     ∷ []
 
 -- The new holder's message is the one received: 300 in the last line.
-incident-lines : rowsOf incident ≡ told
-unfolding rowsOf courseOf courseFrom readAt readFrom callAt callOf wordsTaken incident told computed
+incident-lines : rowsOf incident ≡ listed
+unfolding rowsOf courseOf courseFrom readAt readFrom callAt callOf wordsTaken incident listed computed
 incident-lines = refl

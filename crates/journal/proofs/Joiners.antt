@@ -18,8 +18,8 @@ joiners =
     ∷ 0x20000007 ∷ 0x17000000 ∷ 0x20000007 ∷ 0x300001F4 ∷ 0x130B000D ∷ 0x1C000005 ∷ 0x20000007 ∷ 0x130C000E
     ∷ 0x1C000005 ∷ 0x20000007 ∷ 0x18000000 ∷ []
 
-told : List Row
-told =
+listed : List Row
+listed =
     idle 0 4 0 0 0 0
     ∷ line 1 1 0 0 0 0 1
     ∷ line 2 13 0 0 0 0 1
@@ -54,6 +54,6 @@ told =
 
 -- The two who were broken off are answered 0, count 0 in lines 26 and 28, and the new holder's message is received: 500
 -- in the last line.
-joiners-lines : rowsOf joiners ≡ told
-unfolding rowsOf courseOf courseFrom readAt readFrom callAt callOf wordsTaken joiners told computed
+joiners-lines : rowsOf joiners ≡ listed
+unfolding rowsOf courseOf courseFrom readAt readFrom callAt callOf wordsTaken joiners listed computed
 joiners-lines = refl

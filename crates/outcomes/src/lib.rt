@@ -1,6 +1,6 @@
 // What came of a call.
 ghost use Rattle.texts.specs.Buffer.{Room, Wrote};
-ghost use Rattle.wording.specs.Sentence.{cause, outcome, told, details};
+ghost use Rattle.wording.specs.Sentence.{cause, outcome, detail, details};
 use calls::Answer;
 use calls::codes;
 use wording::one;
@@ -46,9 +46,9 @@ pub fn outcome(out: &mut [u8], at: usize, code: u32) -> usize
 }
 
 // A number behind its name, where it is asked for or is not 0.
-fn told(out: &mut [u8], at: usize, asked: bool, name: &[u8], n: u32) -> usize
-    requires { ⌜ Room (now out) at (told asked (now name) n) ⌝ }
-    ensures { λ r. ⌜ Wrote (now (out .entry)) at (told asked (now (name .entry)) n) r (now (out .exit)) ⌝ }
+fn detail(out: &mut [u8], at: usize, asked: bool, name: &[u8], n: u32) -> usize
+    requires { ⌜ Room (now out) at (detail asked (now name) n) ⌝ }
+    ensures { λ r. ⌜ Wrote (now (out .entry)) at (detail asked (now (name .entry)) n) r (now (out .exit)) ⌝ }
 {
     if asked | (n != 0) {
         return one(out, at, name, n);
@@ -64,7 +64,7 @@ pub fn details(out: &mut [u8], at: usize, call: u32, a: Answer) -> usize
     let ended = a.code == codes::DONE;
     let counts = ((call == 11) | (call == 12)) & (ended | (a.code == codes::BROKEN_OFF));
     let received = (call == 8) & ended;
-    let badge_at = told(out, at, counts, b", count ", a.count);
-    let message_at = told(out, badge_at, received, b", badge ", a.badge);
-    told(out, message_at, received, b", message ", a.message)
+    let badge_at = detail(out, at, counts, b", count ", a.count);
+    let message_at = detail(out, badge_at, received, b", badge ", a.badge);
+    detail(out, message_at, received, b", message ", a.message)
 }

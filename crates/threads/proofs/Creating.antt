@@ -21,13 +21,13 @@ use Rattle.queues.proofs.Joining.{shown-next, and-then}
 use Rattle.endings.specs.Results.{Asked, Performs}
 use Rattle.endings.proofs.Ends.{refused, performs-as, performs-after, does-for}
 use Rattle.endings.proofs.Conditions.{created-loose}
-use Rattle.threads.specs.Threads.{InRange}
+use Rattle.threads.specs.Threads.{PriorityInRange}
 use Rattle.threads.proofs.Runner.{mid-apart, apart-chooses, apart-thread, apart-enqueue}
 use Rattle.threads.proofs.Places.{code-absent, code-present}
 
 -- What the call asks.
 abbrev Given : ℕ → ℕ → State → Type 0
-Given t p = Asked (InRange t p)
+Given t p = Asked (PriorityInRange t p)
 
 module _ {m : List ℕ} {t r : ℕ} (p : ℕ) (T : Tells m (IsThread t) r (threadIn Field.Place t)) where
   pub create-refused : {a : Answer} → (r ≡ 0 → ⊥) → a ≡ plain 22 → Performs m m a (Given t p) (createThread t p)

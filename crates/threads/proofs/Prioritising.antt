@@ -24,7 +24,7 @@ use Rattle.debts.specs.Debts.{Says}
 use Rattle.endings.specs.Results.{Asked, Performs}
 use Rattle.endings.proofs.Ends.{refused, performs-as, performs-for, performs-after, shown-for}
 use Rattle.endings.proofs.Conditions.{present-thread, ready-stands, moved-loose, mid-chooses}
-use Rattle.threads.specs.Threads.{InRange, readyIn, Changes, changing}
+use Rattle.threads.specs.Threads.{PriorityInRange, readyIn, Changes, changing}
 use Rattle.threads.proofs.Runner.{RunnerApart, mid-apart, apart-chooses, apart-thread, apart-enqueue}
 use Rattle.threads.proofs.Runner.{apart-unqueue}
 use Rattle.threads.proofs.Places.{code-absent, code-present, ready-is}
@@ -101,7 +101,7 @@ change-chooses {t} {p} s h =
 
 -- What the call asks.
 abbrev Given : ℕ → ℕ → State → Type 0
-Given t p = Asked (InRange t p)
+Given t p = Asked (PriorityInRange t p)
 
 pub same-asked : {m : List ℕ} {t p : ℕ} → Shown m (Given t p) → Shown m Chooses
 same-asked S = shown-for S (λ s h. mid-chooses (sound-mid (h .sound)))

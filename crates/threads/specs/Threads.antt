@@ -11,8 +11,8 @@ use Rattle.store.specs.Readings.{threadIn}
 use Rattle.queues.specs.Queues.{InLevel, InEndpoint}
 
 -- The numbers of create and set priority: a thread and a priority.
-abbrev pub InRange : ℕ → ℕ → Type 0
-InRange t p = (t ≤ 255) × (p ≤ 255)
+abbrev pub PriorityInRange : ℕ → ℕ → Type 0
+PriorityInRange t p = (t ≤ 255) × (p ≤ 255)
 
 -- Whether t is ready: able, and not the one that runs.
 abbrev pub readyIn : ℕ → State → Bool

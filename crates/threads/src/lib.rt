@@ -9,7 +9,7 @@ ghost use Rattle.queues.specs.Queues.{Chooses};
 ghost use Rattle.debts.specs.Debts.{Says};
 ghost use Rattle.endings.specs.Results.{Asked, Calling, Performs};
 ghost use Rattle.threads.specs.Threads.{readyIn, Able, leavingReady, Goes, leaving, Changes, changing};
-ghost use Rattle.threads.specs.Threads.{tickingFor, InRange};
+ghost use Rattle.threads.specs.Threads.{tickingFor, PriorityInRange};
 use calls::Answer;
 use layout::Field;
 use layout::codes;
@@ -33,8 +33,8 @@ fn is_ready(tables: &[u32], t: usize) -> bool
 
 // 1: a new thread joins its level's tail.
 pub fn create_thread(tables: &mut [u32], t: usize, p: u32) -> Answer
-    requires { ⌜ Shown (now tables) (Asked (InRange t p)) ⌝ }
-    ensures { λ r. ⌜ Performs (now (tables .entry)) (now (tables .exit)) r (Asked (InRange t p)) (createThread t p) ⌝ }
+    requires { ⌜ Shown (now tables) (Asked (PriorityInRange t p)) ⌝ }
+    ensures { λ r. ⌜ Performs (now (tables .entry)) (now (tables .exit)) r (Asked (PriorityInRange t p)) (createThread t p) ⌝ }
 {
     let place = store::thread(tables, Field::Place, t);
     if place != codes::ABSENT {
@@ -110,8 +110,8 @@ fn change(tables: &mut [u32], t: usize, p: u32)
 
 // 3: a changed priority moves a ready thread; the same priority changes nothing.
 pub fn set_priority(tables: &mut [u32], t: usize, p: u32) -> Answer
-    requires { ⌜ Shown (now tables) (Asked (InRange t p)) ⌝ }
-    ensures { λ r. ⌜ Performs (now (tables .entry)) (now (tables .exit)) r (Asked (InRange t p)) (setPriority t p) ⌝ }
+    requires { ⌜ Shown (now tables) (Asked (PriorityInRange t p)) ⌝ }
+    ensures { λ r. ⌜ Performs (now (tables .entry)) (now (tables .exit)) r (Asked (PriorityInRange t p)) (setPriority t p) ⌝ }
 {
     let place = store::thread(tables, Field::Place, t);
     if place == codes::ABSENT {

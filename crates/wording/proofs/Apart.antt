@@ -14,10 +14,10 @@ use Rattle.texts.specs.Text.{bytes}
 use Rattle.texts.specs.Decimal.{decimal}
 use Rattle.texts.proofs.Apart.{isDigit, isPlain, all, Stops, plain-is, opensWith, opens-same, numbersIn}
 use Rattle.texts.proofs.Apart.{numbers-plain, numbers-decimal, same-front, read-apart, reading}
-use Rattle.wording.specs.Sentence.{request, cause, outcome, told, asksCount, asksMessage, details}
+use Rattle.wording.specs.Sentence.{request, cause, outcome, detail, asksCount, asksMessage, details}
 use Rattle.wording.specs.Sentence.{sentence}
 use Rattle.wording.proofs.Causes.{each-cause}
-use Rattle.wording.proofs.Parts.{fromDetails, fromOutcome, sentence-is, told-said, told-left, told-cases}
+use Rattle.wording.proofs.Parts.{fromDetails, fromOutcome, sentence-is, detail-said, detail-left, detail-cases}
 use Rattle.wording.proofs.Requests.{callSaid, call-read}
 
 -- The first number that a text says.
@@ -57,8 +57,8 @@ code-read (suc (suc (suc n))) t q =
 -- Count, badge and message
 
 -- The number behind the name, 0 where the text does not begin with it.
-abbrev toldIn : List ℕ → List ℕ → ℕ
-toldIn name l = pick (opensWith name l) (numberSaid l) 0
+abbrev detailIn : List ℕ → List ℕ → ℕ
+detailIn name l = pick (opensWith name l) (numberSaid l) 0
 
 -- What may follow a number that is told: no digit, and not the same name.
 abbrev Ends : List ℕ → List ℕ → Type 0
@@ -70,42 +70,42 @@ not-told true n e = absurd (true≢false e)
 not-told false zero e = refl
 not-told false (suc n) e = absurd (true≢false (rw eqb·suc-zero at e))
 
-told-read :
+detail-read :
     (asked : Bool) (name : List ℕ) (n : ℕ) (t : List ℕ) → all isPlain name ≡ true → Ends name t
-    → toldIn name (told asked name n ++ t) ≡ n
-told-read asked name n t p q = go (asked || not (eqb n 0)) refl
+    → detailIn name (detail asked name n ++ t) ≡ n
+detail-read asked name n t p q = go (asked || not (eqb n 0)) refl
   where
-    said : toldIn name (name ++ (decimal n ++ t)) ≡ n
+    said : detailIn name (name ++ (decimal n ++ t)) ≡ n
     said = rw (opens-same, numbers-plain name (decimal n ++ t) p, numbers-decimal n t (q .0))
 
-    go : (b : Bool) → (asked || not (eqb n 0)) ≡ b → toldIn name (told asked name n ++ t) ≡ n
-    go true e = rw (told-said asked name n e, append-assoc) said
-    go false e = rw (told-left asked name n e, q .1) (sym (not-told asked n e))
+    go : (b : Bool) → (asked || not (eqb n 0)) ≡ b → detailIn name (detail asked name n ++ t) ≡ n
+    go true e = rw (detail-said asked name n e, append-assoc) said
+    go false e = rw (detail-left asked name n e, q .1) (sym (not-told asked n e))
 
 -- What holds of every text that begins with the name, and of what follows, holds whether the number is told or not.
-told-then :
+detail-then :
     (P : List ℕ → Type 0) (asked : Bool) (name : List ℕ) (n : ℕ) (t : List ℕ) → ((s : List ℕ) → P (name ++ s)) → P t
-    → P (told asked name n ++ t)
-told-then P asked name n t f h =
-    told-cases asked name n (λ (l : List ℕ). P (l ++ t)) (rw append-assoc (f (decimal n ++ t))) h
+    → P (detail asked name n ++ t)
+detail-then P asked name n t f h =
+    detail-cases asked name n (λ (l : List ℕ). P (l ++ t)) (rw append-assoc (f (decimal n ++ t))) h
 
-told-apart :
+detail-apart :
     (asked : Bool) (name : List ℕ) {n n′ : ℕ} {t t′ : List ℕ} → all isPlain name ≡ true → Ends name t → Ends name t′
-    → told asked name n ++ t ≡ told asked name n′ ++ t′ → (n ≡ n′) × (t ≡ t′)
-told-apart asked name p q q′ e =
-    read-apart (told asked name) (toldIn name) (told-read asked name _ _ p q) (told-read asked name _ _ p q′) e
+    → detail asked name n ++ t ≡ detail asked name n′ ++ t′ → (n ≡ n′) × (t ≡ t′)
+detail-apart asked name p q q′ e =
+    read-apart (detail asked name) (detailIn name) (detail-read asked name _ _ p q) (detail-read asked name _ _ p q′) e
 
 -- The details, in turn
 
 abbrev fromMessage : Bool → Answer → List ℕ
-fromMessage asked a = told asked (bytes ", message ") (a .message) ++ bytes ".\n"
+fromMessage asked a = detail asked (bytes ", message ") (a .message) ++ bytes ".\n"
 
 abbrev fromBadge : Bool → Answer → List ℕ
-fromBadge asked a = told asked (bytes ", badge ") (a .badge) ++ fromMessage asked a
+fromBadge asked a = detail asked (bytes ", badge ") (a .badge) ++ fromMessage asked a
 
 abbrev fromCount : ℕ → ℕ → Answer → List ℕ
 fromCount call code a =
-    told (asksCount call code) (bytes ", count ") (a .count) ++ fromBadge (asksMessage call code) a
+    detail (asksCount call code) (bytes ", count ") (a .count) ++ fromBadge (asksMessage call code) a
 
 details-said : (call : ℕ) (a : Answer) → fromDetails call a ≡ fromCount call (a .code) a
 unfolding details
@@ -115,19 +115,19 @@ details-said call a = simp append-assoc
 
 message-ends : (asked : Bool) (a : Answer) → Ends (bytes ", badge ") (fromMessage asked a)
 unfolding bytes
-message-ends asked a = told-then (Ends (bytes ", badge ")) asked _ _ _ (λ (s : List ℕ). (refl, refl)) (refl, refl)
+message-ends asked a = detail-then (Ends (bytes ", badge ")) asked _ _ _ (λ (s : List ℕ). (refl, refl)) (refl, refl)
 
 badge-ends : (asked : Bool) (a : Answer) → Ends (bytes ", count ") (fromBadge asked a)
 unfolding bytes
 badge-ends asked a =
-    told-then (Ends (bytes ", count ")) asked _ _ _ (λ (s : List ℕ). (refl, refl))
-    (told-then (Ends (bytes ", count ")) asked _ _ _ (λ (s : List ℕ). (refl, refl)) (refl, refl))
+    detail-then (Ends (bytes ", count ")) asked _ _ _ (λ (s : List ℕ). (refl, refl))
+    (detail-then (Ends (bytes ", count ")) asked _ _ _ (λ (s : List ℕ). (refl, refl)) (refl, refl))
 
 count-stops : (call code : ℕ) (a : Answer) → Stops isDigit (fromCount call code a)
 unfolding bytes
 count-stops call code a =
     let h = badge-ends (asksMessage call code) a in
-    told-then (Stops isDigit) (asksCount call code) _ _ _ (λ (s : List ℕ). refl) (h .0)
+    detail-then (Stops isDigit) (asksCount call code) _ _ _ (λ (s : List ℕ). refl) (h .0)
 
 -- The three numbers, of the same call and code.
 details-apart :
@@ -136,9 +136,9 @@ details-apart :
 unfolding bytes
 details-apart call code a a′ e =
     let b = asksMessage call code in
-    let h₁ = told-apart (asksCount call code) (bytes ", count ") refl (badge-ends b a) (badge-ends b a′) e in
-    let h₂ = told-apart b (bytes ", badge ") refl (message-ends b a) (message-ends b a′) (h₁ .1) in
-    let h₃ = told-apart b (bytes ", message ") refl (refl, refl) (refl, refl) (h₂ .1) in
+    let h₁ = detail-apart (asksCount call code) (bytes ", count ") refl (badge-ends b a) (badge-ends b a′) e in
+    let h₂ = detail-apart b (bytes ", badge ") refl (message-ends b a) (message-ends b a′) (h₁ .1) in
+    let h₃ = detail-apart b (bytes ", message ") refl (refl, refl) (refl, refl) (h₂ .1) in
     (h₁ .0, (h₂ .0, h₃ .0))
 
 outcome-read : (call : ℕ) (a : Answer) → codeIn (fromOutcome call a) ≡ a .code

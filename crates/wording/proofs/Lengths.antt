@@ -18,11 +18,11 @@ use Rattle.calls.proofs.Ranges.{Bounds, bounds}
 use Rattle.texts.specs.Text.{bytes}
 use Rattle.texts.specs.Decimal.{decimal}
 use Rattle.texts.proofs.Digits.{length-below}
-use Rattle.wording.specs.Sentence.{request, cause, outcome, told, asksCount, asksMessage, details}
+use Rattle.wording.specs.Sentence.{request, cause, outcome, detail, asksCount, asksMessage, details}
 use Rattle.wording.specs.Sentence.{sentence, stopLine}
 use Rattle.wording.specs.Entry.{sentenceRoom}
 use Rattle.wording.proofs.Causes.{each-cause, uncaused-above}
-use Rattle.wording.proofs.Parts.{told-cases}
+use Rattle.wording.proofs.Parts.{detail-cases}
 
 -- Digits
 
@@ -97,9 +97,9 @@ outcome-short (suc (suc (suc n))) h = simp length-append (omega (arith, numbered
 
 -- Count, badge and message
 
-told-short : (asked : Bool) (name : List ℕ) (n : ℕ) → n < 2 ^ 32 → length (told asked name n) ≤ length name + 10
-told-short asked name n h =
-    told-cases asked name n (λ (l : List ℕ). length l ≤ length name + 10)
+detail-short : (asked : Bool) (name : List ℕ) (n : ℕ) → n < 2 ^ 32 → length (detail asked name n) ≤ length name + 10
+detail-short asked name n h =
+    detail-cases asked name n (λ (l : List ℕ). length l ≤ length name + 10)
     (rw length-append (omega (arith, word-short n h))) (omega arith)
 
 details-short : (call : ℕ) (a : Answer) → Words a → length (details call a) ≤ 56
@@ -108,9 +108,9 @@ details-short call a w =
     simp length-append
     (omega (
       arith,
-      told-short (asksCount call (a .code)) (bytes ", count ") (a .count) (w .count),
-      told-short (asksMessage call (a .code)) (bytes ", badge ") (a .badge) (w .badge),
-      told-short (asksMessage call (a .code)) (bytes ", message ") (a .message) (w .message),
+      detail-short (asksCount call (a .code)) (bytes ", count ") (a .count) (w .count),
+      detail-short (asksMessage call (a .code)) (bytes ", badge ") (a .badge) (w .badge),
+      detail-short (asksMessage call (a .code)) (bytes ", message ") (a .message) (w .message),
     ))
 
 -- The longest line has 159 bytes (Examples has it).

@@ -15,10 +15,10 @@ use Rattle.calls.specs.Calls.{numberOf}
 use Rattle.texts.specs.Text.{bytes}
 use Rattle.texts.specs.Decimal.{decimal}
 use Rattle.texts.proofs.Apart.{all, all-append, isDigit, decimal-digits}
-use Rattle.wording.specs.Sentence.{request, cause, outcome, told, asksCount, asksMessage, details}
+use Rattle.wording.specs.Sentence.{request, cause, outcome, detail, asksCount, asksMessage, details}
 use Rattle.wording.specs.Sentence.{sentence}
 use Rattle.wording.proofs.Causes.{each-cause}
-use Rattle.wording.proofs.Parts.{told-cases}
+use Rattle.wording.proofs.Parts.{detail-cases}
 
 -- From the space to the tilde.
 abbrev pub isPrintable : ℕ → Bool
@@ -75,17 +75,17 @@ outcome-printable (suc zero) = refl
 outcome-printable (suc (suc zero)) = refl
 outcome-printable (suc (suc (suc n))) = simp (all-append, decimal-printable, cause-printable)
 
-told-printable :
-    (asked : Bool) (name : List ℕ) (n : ℕ) → all isPrintable name ≡ true → all isPrintable (told asked name n) ≡ true
-told-printable asked name n h =
-    told-cases asked name n (λ (l : List ℕ). all isPrintable l ≡ true) (simp (all-append, h, decimal-printable)) refl
+detail-printable :
+    (asked : Bool) (name : List ℕ) (n : ℕ) → all isPrintable name ≡ true → all isPrintable (detail asked name n) ≡ true
+detail-printable asked name n h =
+    detail-cases asked name n (λ (l : List ℕ). all isPrintable l ≡ true) (simp (all-append, h, decimal-printable)) refl
 
 details-printable : (call : ℕ) (a : Answer) → all isPrintable (details call a) ≡ true
 unfolding bytes details
 details-printable call a =
-    let count = told-printable (asksCount call (a .code)) (bytes ", count ") (a .count) refl in
-    let badge = told-printable (asksMessage call (a .code)) (bytes ", badge ") (a .badge) refl in
-    let message = told-printable (asksMessage call (a .code)) (bytes ", message ") (a .message) refl in
+    let count = detail-printable (asksCount call (a .code)) (bytes ", count ") (a .count) refl in
+    let badge = detail-printable (asksMessage call (a .code)) (bytes ", badge ") (a .badge) refl in
+    let message = detail-printable (asksMessage call (a .code)) (bytes ", message ") (a .message) refl in
     simp (all-append, count, badge, message)
 
 pub one-line : (c : Call) (a : Answer) → OneLine (sentence c a)

@@ -10,7 +10,7 @@ use Rattle.calls.specs.declared.Call.the-variants.{Send, Abort, Grant}
 use Rattle.calls.specs.Calls.{numberOf}
 use Rattle.texts.specs.Text.{bytes}
 use Rattle.texts.specs.Decimal.{decimal}
-use Rattle.wording.specs.Sentence.{request, cause, outcome, told, asksCount, asksMessage, details}
+use Rattle.wording.specs.Sentence.{request, cause, outcome, detail, asksCount, asksMessage, details}
 use Rattle.wording.specs.Sentence.{sentence, stopLine}
 use Rattle.wording.proofs.Causes.{NoneOf}
 
@@ -36,16 +36,16 @@ pub stop-is : (code : ℕ) → stopLine code ≡ bytes "The journal does not go 
 unfolding stopLine
 stop-is code = simp append-assoc
 
-abbrev pub toldCount : ℕ → Answer → List ℕ
-toldCount call a = told (asksCount call (a .code)) (bytes ", count ") (a .count)
+abbrev pub detailCount : ℕ → Answer → List ℕ
+detailCount call a = detail (asksCount call (a .code)) (bytes ", count ") (a .count)
 
-abbrev pub toldBadge : ℕ → Answer → List ℕ
-toldBadge call a = told (asksMessage call (a .code)) (bytes ", badge ") (a .badge)
+abbrev pub detailBadge : ℕ → Answer → List ℕ
+detailBadge call a = detail (asksMessage call (a .code)) (bytes ", badge ") (a .badge)
 
-abbrev pub toldMessage : ℕ → Answer → List ℕ
-toldMessage call a = told (asksMessage call (a .code)) (bytes ", message ") (a .message)
+abbrev pub detailMessage : ℕ → Answer → List ℕ
+detailMessage call a = detail (asksMessage call (a .code)) (bytes ", message ") (a .message)
 
-pub details-is : (call : ℕ) (a : Answer) → details call a ≡ toldCount call a ++ (toldBadge call a ++ toldMessage call a)
+pub details-is : (call : ℕ) (a : Answer) → details call a ≡ detailCount call a ++ (detailBadge call a ++ detailMessage call a)
 unfolding details
 details-is call a = simp append-assoc
 
@@ -62,21 +62,21 @@ refused-is (suc (suc (suc n))) h = refl
 -- Whether a number is told
 
 module _ (asked : Bool) (name : List ℕ) (n : ℕ) where
-  pub told-said : (asked || not (eqb n 0)) ≡ true → told asked name n ≡ name ++ decimal n
-  unfolding told
-  told-said e = rw e
+  pub detail-said : (asked || not (eqb n 0)) ≡ true → detail asked name n ≡ name ++ decimal n
+  unfolding detail
+  detail-said e = rw e
 
-  pub told-left : (asked || not (eqb n 0)) ≡ false → told asked name n ≡ []
-  unfolding told
-  told-left e = rw e
+  pub detail-left : (asked || not (eqb n 0)) ≡ false → detail asked name n ≡ []
+  unfolding detail
+  detail-left e = rw e
 
   -- What holds of the number behind its name, and of nothing, holds whether it is told or not.
-  pub told-cases : (P : List ℕ → Type 0) → P (name ++ decimal n) → P [] → P (told asked name n)
-  told-cases P said left = go (asked || not (eqb n 0)) refl
+  pub detail-cases : (P : List ℕ → Type 0) → P (name ++ decimal n) → P [] → P (detail asked name n)
+  detail-cases P said left = go (asked || not (eqb n 0)) refl
     where
-      go : (b : Bool) → (asked || not (eqb n 0)) ≡ b → P (told asked name n)
-      go true e = rw (told-said e) said
-      go false e = rw (told-left e) left
+      go : (b : Bool) → (asked || not (eqb n 0)) ≡ b → P (detail asked name n)
+      go true e = rw (detail-said e) said
+      go false e = rw (detail-left e) left
 
 -- The calls of three numbers: a text and a number, and then two.
 

@@ -66,8 +66,8 @@ outcome (suc (suc zero)) = bytes "broken off"
 outcome (suc (suc (suc n))) = bytes "refused by " ++ decimal (suc (suc (suc n))) ++ cause (suc (suc (suc n)))
 
 -- A number behind its name, where it is asked for or is not 0.
-unfoldable pub told : Bool → List ℕ → ℕ → List ℕ
-told asked name n = pick (asked || not (eqb n 0)) (name ++ decimal n) []
+unfoldable pub detail : Bool → List ℕ → ℕ → List ℕ
+detail asked name n = pick (asked || not (eqb n 0)) (name ++ decimal n) []
 
 -- A delete and an abort that were done or broken off always tell their count,
 unfoldable pub asksCount : ℕ → ℕ → Bool
@@ -80,9 +80,9 @@ asksMessage call code = eqb call 8 && eqb code 0
 -- Of count, badge and message those that are told, by the call's number.
 unfoldable pub details : ℕ → Answer → List ℕ
 details call a =
-    told (asksCount call (a .code)) (bytes ", count ") (a .count)
-    ++ told (asksMessage call (a .code)) (bytes ", badge ") (a .badge)
-    ++ told (asksMessage call (a .code)) (bytes ", message ") (a .message)
+    detail (asksCount call (a .code)) (bytes ", count ") (a .count)
+    ++ detail (asksMessage call (a .code)) (bytes ", badge ") (a .badge)
+    ++ detail (asksMessage call (a .code)) (bytes ", message ") (a .message)
 
 -- The line, ended by a newline.
 unfoldable pub sentence : Call → Answer → List ℕ

@@ -26,7 +26,7 @@ use Rattle.machine.specs.Sound.{Sound}
 use Rattle.history.specs.Sorts.{looks}
 use Rattle.history.specs.History.{Aborting, Ended, Waiting, History, namedLooks, lineName, waitingIn}
 use Rattle.history.specs.Walk.{letsGo, reportOf, reportIf, walk}
-use Rattle.history.specs.Outcomes.{Outcome, apart, unchanged, courseOf, outcomeIf}
+use Rattle.history.specs.Outcomes.{Outcome, apart, unchanged, walkerOf, outcomeIf}
 use Rattle.history.specs.Recorded.{recorded, told}
 use Rattle.history.specs.Claim.{less, removedBy, Reports}
 use Rattle.history.specs.Tied.{noteIn, Tied}
@@ -244,7 +244,7 @@ module _ (past : List Call) (s : State) (h : History) (I : Inv past s h) (e a b 
                 };
             reports =
                 reportIf
-                (walk (namedLooks (h .since) (r .looks)) a (courseOf t e b h) (startAt t e b s h) .standing) b;
+                (walk (namedLooks (h .since) (r .looks)) a (walkerOf t e b h) (startAt t e b s h) .standing) b;
           }
 
       frame : Frame (h .since) e s (r .state) (r .looks)

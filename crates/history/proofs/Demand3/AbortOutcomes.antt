@@ -13,7 +13,7 @@ use Rattle.machine.specs.Aborts.{hasNote}
 use Rattle.history.specs.Sorts.{looks}
 use Rattle.history.specs.History.{Reported, History, namedLooks}
 use Rattle.history.specs.Walk.{Walk, letsGo, isNoteOf, reportIf, walk, close}
-use Rattle.history.specs.Outcomes.{apart, comesIn, courseOf, startOf, walked, walks, abortsBy, abortsOf}
+use Rattle.history.specs.Outcomes.{apart, comesIn, walkerOf, startOf, walked, walks, abortsBy, abortsOf}
 use Rattle.history.specs.Outcomes.{outcomeOf, outcomeIf}
 use Rattle.history.specs.Tied.{noteIn, noteFrom}
 use Rattle.history.proofs.Demand3.Together.{Gone, walkAt}
@@ -98,17 +98,17 @@ start-is t e b s h m p =
 pub walks-from :
     (t e a b : ℕ) (s : State) (r : Result) (h : History) (w : Walk)
     → h .waiting .messages e ≡ map (h .since) (senders (s .threads) (s .endpoints e .waiters)) → h .aborts .stray ≡ []
-    → close (courseOf t e b h)
-    (walk (namedLooks (h .since) (r .looks)) a (courseOf t e b h) (startAt t e b s h)) ≡ w
+    → close (walkerOf t e b h)
+    (walk (namedLooks (h .since) (r .looks)) a (walkerOf t e b h) (startAt t e b s h)) ≡ w
     → walks t e a b r h
     ≡ walked e
-    (reportIf (walk (namedLooks (h .since) (r .looks)) a (courseOf t e b h) (startAt t e b s h) .standing) b) w h
+    (reportIf (walk (namedLooks (h .since) (r .looks)) a (walkerOf t e b h) (startAt t e b s h) .standing) b) w h
 unfolding walks
 walks-from t e a b s r h w m p q =
     ap (λ (x : Walk).
-    walked e (reportIf (walk (namedLooks (h .since) (r .looks)) a (courseOf t e b h) x .standing) b)
-    (close (courseOf t e b h) (walk (namedLooks (h .since) (r .looks)) a (courseOf t e b h) x)) h)
+    walked e (reportIf (walk (namedLooks (h .since) (r .looks)) a (walkerOf t e b h) x .standing) b)
+    (close (walkerOf t e b h) (walk (namedLooks (h .since) (r .looks)) a (walkerOf t e b h) x)) h)
     (start-is t e b s h m p)
     ∙ ap (λ (x : Walk).
     walked e
-    (reportIf (walk (namedLooks (h .since) (r .looks)) a (courseOf t e b h) (startAt t e b s h) .standing) b) x h) q
+    (reportIf (walk (namedLooks (h .since) (r .looks)) a (walkerOf t e b h) (startAt t e b s h) .standing) b) x h) q

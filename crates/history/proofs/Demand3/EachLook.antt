@@ -17,7 +17,7 @@ use Rattle.machine.specs.Results.{Look}
 use Rattle.machine.specs.Aborts.{Looked, hits, lookAt, look, afterLook, lookUpTo, pendingAt}
 use Rattle.machine.specs.Sound.{Queued}
 use Rattle.history.specs.History.{Aborting, NamedLook, namedLooks}
-use Rattle.history.specs.Walk.{Walk, Course, reportOf, settle, lookedAt, takeLook, walk}
+use Rattle.history.specs.Walk.{Walk, Walker, reportOf, settle, lookedAt, takeLook, walk}
 use Rattle.history.specs.Claim.{In, removedBy, less}
 use Rattle.machine.proofs.Lists.{put-same, put-other}
 use Rattle.history.proofs.Sublists.{sub-mem, sub-only, less-none, less-more, less-append, mem-map, map-without}
@@ -27,7 +27,7 @@ use Rattle.history.proofs.Demand3.Together.{Gone, walkAt, Going, going-
 use Rattle.history.proofs.Demand3.Together.{walk-look}
 
 walk-cons :
-    (v : NamedLook) (l : List NamedLook) (k : ℕ) (c : Course) (w : Walk)
+    (v : NamedLook) (l : List NamedLook) (k : ℕ) (c : Walker) (w : Walk)
     → walk (v ∷ l) k c w ≡ walk l (k - 1) c (takeLook v (settle k c w))
 unfolding walk
 walk-cons v l k c w = refl
@@ -153,7 +153,7 @@ module _ (stage : Stage) (standing : ℕ → Option Aborting) (e : ℕ) where
   frame-looked s o d G u m = frame-look s o d G u m (hits e u s)
 
   -- What looks from s with x standing have come to, whatever looks come after them.
-  pub record Walked (s : State) (x : Aborting) (d : Gone) (m : ℕ) (c : Course) (r : Looked) : Type 0 where
+  pub record Walked (s : State) (x : Aborting) (d : Gone) (m : ℕ) (c : Walker) (r : Looked) : Type 0 where
     pub abort : Aborting
     pub going : Going stage standing e (r .state) (some abort) d
     pub report : reportOf abort ≡ reportOf x
@@ -164,7 +164,7 @@ module _ (stage : Stage) (standing : ℕ → Option Aborting) (e : ℕ) where
     pub frame : Frame since e s (r .state) (r .looks)
 
   walked-none :
-      (m : ℕ) (s : State) (x : Aborting) (d : Gone) (c : Course)
+      (m : ℕ) (s : State) (x : Aborting) (d : Gone) (c : Walker)
       → Going stage standing e s (some x) d
       → Walked s x d m c (record { state = s; looks = [] })
   walked-none m s x d c G =
@@ -179,7 +179,7 @@ module _ (stage : Stage) (standing : ℕ → Option Aborting) (e : ℕ) where
 
   -- One more look, before those that come to r.
   walked-after :
-      (m : ℕ) (s : State) (x : Aborting) (d : Gone) (c : Course) (u : ℕ) (l : List ℕ)
+      (m : ℕ) (s : State) (x : Aborting) (d : Gone) (c : Walker) (u : ℕ) (l : List ℕ)
       (r : Looked) → pendingAt e s ≡ u ∷ l → Going stage standing e s (some x) d
       → Walked (look e u s) (lookedAt (record { waiter = since u; removed = hits e u s }) x) d m c r
       → Walked s x d (suc m) c (afterLook (record { waiter = u; removed = hits e u s }) r)
@@ -234,7 +234,7 @@ module _ (stage : Stage) (standing : ℕ → Option Aborting) (e : ℕ) where
               (subst (λ (k : List ℕ). Mem u k) (sym first) (inl refl))))
 
   pub walked :
-      (m : ℕ) (l : List ℕ) (s : State) (x : Aborting) (d : Gone) (c : Course)
+      (m : ℕ) (l : List ℕ) (s : State) (x : Aborting) (d : Gone) (c : Walker)
       → pendingAt e s ≡ l → Going stage standing e s (some x) d
       → Walked s x d m c (lookUpTo m l e s)
   unfolding lookUpTo

@@ -27,7 +27,7 @@ use Rattle.history.proofs.Demand3.Leaving.{NobodyComes, leaves-debt, le
 use Rattle.history.proofs.Demand3.Owing.{tied-drop, tied-join, tied-rejoin}
 use Rattle.history.proofs.Demand3.Together.{Gone, walkAt, Going}
 use Rattle.history.proofs.Demand3.EachLook.{Frame, frame-keeps, frame-keep}
-use Rattle.history.proofs.Demand3.OwnAbort.{more-self, walk-keeps, keeps-join, course, Ran, own-works, own-begins}
+use Rattle.history.proofs.Demand3.OwnAbort.{more-self, walk-keeps, keeps-join, walker, Ran, own-works, own-begins}
 use Rattle.history.proofs.Demand3.OtherAbort.{other-works}
 
 pub leaves-join : (t e : ℕ) (s : State) → NobodyComes s (join t e s)
@@ -123,7 +123,7 @@ module _
       })
       badge (join-status t e q ∙ lives-still) (frame-keep since e s q (join t e q) [] frame (keeps-join t e q))
       (λ l.
-      ap (walk l a (course stage standing t e b))
+      ap (walk l a (walker stage standing t e b))
       (began-at (some x) g told came ∙ sym (walk-keeps since e q (join t e q) (some x) g (keeps-join t e q))))
       (more-self place (d .ended))
     where
@@ -161,8 +161,8 @@ module _
       own-begins stage standing t e b (omega arith) s a start m [] q (let-go t d) (going none told) was (D .debt)
       present small (omega arith) lives-still frame
       (λ l.
-      ap (λ (k : ℕ). walk l k (course stage standing t e b) start) h
-      ∙ ap (walk l (suc m) (course stage standing t e b))
+      ap (λ (k : ℕ). walk l k (walker stage standing t e b) start) h
+      ∙ ap (walk l (suc m) (walker stage standing t e b))
       (began-at none (let-go t d) told (came-other t e b none d refl)))
       (more-self place (d .ended))
 

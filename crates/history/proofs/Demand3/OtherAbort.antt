@@ -11,7 +11,7 @@ use Rattle.machine.specs.State.{State, nothing, Abort, live, Endpoint}
 use Rattle.machine.specs.Endpoints.{senders, pendingOf, worksAt, endAbort}
 use Rattle.machine.specs.Aborts.{Looked, pendingAt, lookUpTo, beginAfter, finished, lookedOther, workOther}
 use Rattle.history.specs.History.{Aborting, Reported, NamedLook, namedLooks}
-use Rattle.history.specs.Walk.{Walk, Course, letsGo, hearsBy, reportOf, begins, ends, passes, settles, settle, walk}
+use Rattle.history.specs.Walk.{Walk, Walker, letsGo, hearsBy, reportOf, begins, ends, passes, settles, settle, walk}
 use Rattle.history.specs.Walk.{closes, close}
 use Rattle.machine.proofs.Lists.{put-same, put-again}
 use Rattle.machine.proofs.Preserved.Debts.{live-present, mid-endAbort, endAbort-entry}
@@ -25,7 +25,7 @@ use Rattle.history.proofs.Demand3.Together.{Gone, walkAt, Going, going-
 use Rattle.history.proofs.Demand3.Together.{settle-pending}
 use Rattle.history.proofs.Demand3.EachLook.{Frame, frame-then, frame-keep, Walked, walked}
 use Rattle.history.proofs.Demand3.OwnAbort.{More, more-cons, walk-keeps, keeps-endAbort, walk-settle, walk-nil}
-use Rattle.history.proofs.Demand3.OwnAbort.{course, Ran, own-begins}
+use Rattle.history.proofs.Demand3.OwnAbort.{walker, Ran, own-begins}
 
 module _
     (stage : Stage) (standing : ℕ → Option Aborting) (t e b : ℕ) (now : length (stage .past) ≤ stage .until)
@@ -36,8 +36,8 @@ module _
   abbrev place : ℕ
   place = stage .until
 
-  abbrev c : Course
-  c = course stage standing t e b
+  abbrev c : Walker
+  c = walker stage standing t e b
 
   -- The looks at another badge's abort have come to r, and nothing is left of it.
   module _

@@ -18,7 +18,7 @@ use Rattle.calls.specs.Answers.{counted, isAccepted}
 use Rattle.machine.specs.Aborts.{Looked, pendingAt, lookUpTo, join, begin, ended, lookedOwn, workOwn}
 use Rattle.machine.specs.Sound.{Present}
 use Rattle.history.specs.History.{Aborting, Ended, Reported, NamedLook, namedLooks}
-use Rattle.history.specs.Walk.{Walk, Course, takesUp, letsGo, hearsBy, begins, ends, passes, settles, settle, walk}
+use Rattle.history.specs.Walk.{Walk, Walker, takesUp, letsGo, hearsBy, begins, ends, passes, settles, settle, walk}
 use Rattle.history.specs.Walk.{closes, close, reportOf, reportIf}
 use Rattle.history.specs.Claim.{In}
 use Rattle.history.specs.Tied.{Tied}
@@ -83,23 +83,23 @@ keeps-begin t e b s = keeps-then (keeps-entry s e _ refl) (keeps-join t e _)
 
 -- Two walks of which the same is to settle go the same way.
 pub walk-settle :
-    (l : List NamedLook) (k : ℕ) (c : Course) (v w : Walk) → settle k c v ≡ settle k c w → walk l k c v ≡ walk l k c w
+    (l : List NamedLook) (k : ℕ) (c : Walker) (v w : Walk) → settle k c v ≡ settle k c w → walk l k c v ≡ walk l k c w
 unfolding walk
 walk-settle [] k c v w h = h
 walk-settle (x ∷ l) k c v w h = rw h
 
 pub settle-own :
-    (k : ℕ) (c : Course) (w : Walk) (x : Aborting) → w .standing ≡ some x → x .badge ≡ c .badge → settle k c w ≡ w
+    (k : ℕ) (c : Walker) (w : Walk) (x : Aborting) → w .standing ≡ some x → x .badge ≡ c .badge → settle k c w ≡ w
 unfolding settle settles passes
 settle-own k c w x h b = rw (h, eq-eqb (x .badge) (c .badge) b)
 
-pub walk-nil : (k : ℕ) (c : Course) (w : Walk) → walk [] k c w ≡ settle k c w
+pub walk-nil : (k : ℕ) (c : Walker) (w : Walk) → walk [] k c w ≡ settle k c w
 unfolding walk
 walk-nil k c w = refl
 
 -- Where none stands, the call's own begins.
 settle-none :
-    (k : ℕ) (c : Course) (w : Walk) → w .standing ≡ none
+    (k : ℕ) (c : Walker) (w : Walk) → w .standing ≡ none
     → settle (suc k) c w
     ≡ record {
       standing =
@@ -134,8 +134,8 @@ module _ (stage : Stage) (standing : ℕ → Option Aborting) (t e b : ℕ) wher
   abbrev place : ℕ
   place = stage .until
 
-  abbrev pub course : Course
-  course = record { place = place; caller = t; endpoint = e; badge = b }
+  abbrev pub walker : Walker
+  walker = record { place = place; caller = t; endpoint = e; badge = b }
 
   -- What a call 12 with allowance a from s has come to.
   pub record Ran (s : State) (a : ℕ) (start : Walk) (r : Result) : Type 0 where
@@ -151,15 +151,15 @@ module _ (stage : Stage) (standing : ℕ → Option Aborting) (t e b : ℕ) wher
     pub more : More place (start .ended) (gone .ended)
     pub queued : List ℕ
     pub closes :
-        close course (walk (namedLooks since (r .looks)) a course start)
+        close walker (walk (namedLooks since (r .looks)) a walker start)
         ≡ record { standing = stands; queued = queued; ended = gone .ended; debts = gone .debts; stray = [] }
     pub reports :
         r .answer .code ≡ 0
         → (z : Ended) × In z (gone .ended)
-        × (reportIf (walk (namedLooks since (r .looks)) a course start .standing) b ≡ some (reportOf (z .abort)))
+        × (reportIf (walk (namedLooks since (r .looks)) a walker start .standing) b ≡ some (reportOf (z .abort)))
         × (z .abort .endpoint ≡ e) × (z .abort .badge ≡ b) × (z .by ≤ place)
     -- Broken off, the call leaves standing what its looks have come to.
-    pub rests : r .answer .code ≡ 2 → stands ≡ walk (namedLooks since (r .looks)) a course start .standing
+    pub rests : r .answer .code ≡ 2 → stands ≡ walk (namedLooks since (r .looks)) a walker start .standing
 
   module _ (now : length (stage .past) ≤ stage .until) (s : State) (a : ℕ) (start : Walk) where
     -- The abort x of the call's badge, after the looks: it ends if nothing is left.
@@ -167,7 +167,7 @@ module _ (stage : Stage) (standing : ℕ → Option Aborting) (t e b : ℕ) wher
         (q : State) (x : Aborting) (d : Gone) (looks : List Look)
         → Going (within stage) standing e q (some x) d → x .badge ≡ b
         → q .endpoints e .status ≡ live → Frame since e s q looks
-        → walk (namedLooks since looks) a course start ≡ walkAt since e q (some x) d
+        → walk (namedLooks since looks) a walker start ≡ walkAt since e q (some x) d
         → More place (start .ended) (d .ended) → Ran s a start (ended (pendingAt e q) t e looks q)
     unfolding ended close closes ends
     own-ends q x d looks G badge lives F W E = go (pendingAt e q) refl
@@ -256,23 +256,23 @@ module _ (stage : Stage) (standing : ℕ → Option Aborting) (t e b : ℕ) wher
         → Going (within stage) standing e q (some x) d → x .badge ≡ b
         → q .endpoints e .status ≡ live → Frame since e s q earlier
         → ((l : List NamedLook)
-        → walk (namedLooks since earlier ++ l) a course start ≡ walk l k course (walkAt since e q (some x) d))
+        → walk (namedLooks since earlier ++ l) a walker start ≡ walk l k walker (walkAt since e q (some x) d))
         → More place (start .ended) (d .ended) → Ran s a start (workOwn t e k earlier q)
     unfolding workOwn lookedOwn
     own-works k earlier q x d G badge lives F W E =
         own-ends (r .state) (H .abort) d (earlier ++ r .looks) (H .going) same (T .entry e .status ∙ lives)
         (frame-then since e s q (r .state) earlier (r .looks) F (H .frame))
-        (ap (λ (l : List NamedLook). walk l a course start) (named-append since earlier (r .looks))
+        (ap (λ (l : List NamedLook). walk l a walker start) (named-append since earlier (r .looks))
         ∙ W (namedLooks since (r .looks))
-        ∙ ap (λ (l : List NamedLook). walk l k course (walkAt since e q (some x) d))
+        ∙ ap (λ (l : List NamedLook). walk l k walker (walkAt since e q (some x) d))
         (sym (append-nil (namedLooks since (r .looks))))
         ∙ H .walks [] ∙ done) E
       where
         r : Looked
         r = lookUpTo k (pendingAt e q) e q
 
-        H : Walked (within stage) standing e q x d k course (lookUpTo k (pendingAt e q) e q)
-        H = walked (within stage) standing e k (pendingAt e q) q x d course refl G
+        H : Walked (within stage) standing e q x d k walker (lookUpTo k (pendingAt e q) e q)
+        H = walked (within stage) standing e k (pendingAt e q) q x d walker refl G
 
         T : Steady q (lookUpTo k (pendingAt e q) e q .state)
         T = steady-lookUpTo k (pendingAt e q) e q
@@ -281,10 +281,10 @@ module _ (stage : Stage) (standing : ℕ → Option Aborting) (t e b : ℕ) wher
         same = ap (λ (y : Reported). y .badge) (H .report) ∙ badge
 
         done :
-            walk [] (k - length (r .looks)) course (walkAt since e (r .state) (some (H .abort)) d)
+            walk [] (k - length (r .looks)) walker (walkAt since e (r .state) (some (H .abort)) d)
             ≡ walkAt since e (r .state) (some (H .abort)) d
         done =
-            walk-nil (k - length (r .looks)) course _ ∙ settle-own (k - length (r .looks)) course _ (H .abort) refl same
+            walk-nil (k - length (r .looks)) walker _ ∙ settle-own (k - length (r .looks)) walker _ (H .abort) refl same
 
     -- The call's own abort begins, where allowance remains.
     pub own-begins :
@@ -293,7 +293,7 @@ module _ (stage : Stage) (standing : ℕ → Option Aborting) (t e b : ℕ) wher
         → q .threads t .debt ≡ nothing → Present q t → b < 2 ^ 28 → place ≤ length (stage .past)
         → q .endpoints e .status ≡ live → Frame since e s q earlier
         → ((l : List NamedLook)
-        → walk (namedLooks since earlier ++ l) a course start ≡ walk l (suc k) course (walkAt since e q none d))
+        → walk (namedLooks since earlier ++ l) a walker start ≡ walk l (suc k) walker (walkAt since e q none d))
         → More place (start .ended) (d .ended) → Ran s a start (workOwn t e (suc k) earlier (begin t e b q))
     own-begins k earlier q d G bare free present small here lives F W E =
         own-works (suc k) earlier (begin t e b q) (begunOn since q e b place) begun
@@ -311,19 +311,19 @@ module _ (stage : Stage) (standing : ℕ → Option Aborting) (t e b : ℕ) wher
         (frame-keep since e s q (begin t e b q) earlier F (keeps-begin t e b q))
         (λ l.
         W l
-        ∙ walk-settle l (suc k) course (walkAt since e q none d)
+        ∙ walk-settle l (suc k) walker (walkAt since e q none d)
         (walkAt since e (begin t e b q) (some (begunOn since q e b place)) begun)
         (settles-begin
         ∙ sym
-        (settle-own (suc k) course (walkAt since e (begin t e b q) (some (begunOn since q e b place)) begun)
+        (settle-own (suc k) walker (walkAt since e (begin t e b q) (some (begunOn since q e b place)) begun)
         (begunOn since q e b place) refl refl))) E
       where
         begun : Gone
         begun = record { ended = d .ended; debts = takesUp t e (d .debts) }
 
         settles-begin :
-            settle (suc k) course (walkAt since e q none d)
+            settle (suc k) walker (walkAt since e q none d)
             ≡ walkAt since e (begin t e b q) (some (begunOn since q e b place)) begun
         settles-begin =
-            settle-none k course (walkAt since e q none d) refl
+            settle-none k walker (walkAt since e q none d) refl
             ∙ sym (walk-keeps since e q (begin t e b q) (some (begunOn since q e b place)) begun (keeps-begin t e b q))

@@ -13,7 +13,7 @@ use Rattle.machine.specs.Scheduling.{enqueue, wake}
 use Rattle.machine.specs.Endpoints.{isSending, senders, pendingOf, passing, leaveEndpoint, wakeFrom}
 use Rattle.machine.specs.Aborts.{hits, lookAt, look}
 use Rattle.history.specs.History.{Aborting, Ended, Debts, isIn}
-use Rattle.history.specs.Walk.{Walk, Course, isNone, leftOf, passes, settles, settle, lookedAt, takes, takeLook}
+use Rattle.history.specs.Walk.{Walk, Walker, isNone, leftOf, passes, settles, settle, lookedAt, takes, takeLook}
 use Rattle.history.specs.Claim.{isOld}
 use Rattle.history.specs.Tied.{Tied}
 use Rattle.machine.proofs.Lists.{Same, same, other, same?, put-all, put-same, put-other, mem-left, mem-right, put-again}
@@ -183,7 +183,7 @@ module _ (stage : Stage) (standing : ℕ → Option Aborting) (e : ℕ) (s : Sta
 
     -- While something is pending, nothing is to settle.
     pub settle-pending :
-        (u : ℕ) (l : List ℕ) (k : ℕ) (c : Course) → a .pending ≡ u ∷ l
+        (u : ℕ) (l : List ℕ) (k : ℕ) (c : Walker) → a .pending ≡ u ∷ l
         → settle k c (walkAt since e s (some x) d) ≡ walkAt since e s (some x) d
     unfolding settle settles passes
     settle-pending u l k c h = rw (left-some u l h) (go (eqb (x .badge) (c .badge)))

@@ -19,8 +19,8 @@ use Rattle.machine.specs.Grants.{Grants}
 use Rattle.history.specs.Sorts.{looks}
 use Rattle.history.specs.History.{Aborting, Ended, Reported, NamedLook, AbortCall, Debts, Aborts, History, isIn}
 use Rattle.history.specs.History.{named, waitingIn, namedLooks}
-use Rattle.history.specs.Walk.{letsGo, isNoteOf, reportOf, Walk, Course, walk, close, reportIf}
-use Rattle.history.specs.Outcomes.{Outcome, apart, courseOf, startOf, walks, outcomeIf}
+use Rattle.history.specs.Walk.{letsGo, isNoteOf, reportOf, Walk, Walker, walk, close, reportIf}
+use Rattle.history.specs.Outcomes.{Outcome, apart, walkerOf, startOf, walks, outcomeIf}
 use Rattle.history.specs.Recorded.{abortCallsOf, recorded, told, Run, resultIn, nextRun}
 use Rattle.history.specs.Claim.{In, IsAbort, Claim}
 use Rattle.history.specs.Heard.{latest, OfAbort}
@@ -38,7 +38,7 @@ no-look v (x ∷ l) i j = omega arith
 -- Where the looks of a call 12 of t have come to, if it is not answered from a note.
 abbrev pub wentTo : (Grants → State → Call → Result) → ℕ → ℕ → ℕ → ℕ → Run → Walk
 wentTo m t e a b x =
-    walk (namedLooks (x .history .since) (resultIn m (Abort e a b) x .looks)) a (courseOf t e b (x .history))
+    walk (namedLooks (x .history .since) (resultIn m (Abort e a b) x .looks)) a (walkerOf t e b (x .history))
     (startOf t e b (x .history))
 
 -- t works on the abort r of badge b at e.
@@ -60,8 +60,8 @@ module _ (m : Grants → State → Call → Result) (t e a b : ℕ) (x : Run) (r
   abbrev looks-named : List NamedLook
   looks-named = namedLooks (h .since) (y .looks)
 
-  abbrev course : Course
-  course = courseOf t e b h
+  abbrev walker : Walker
+  walker = walkerOf t e b h
 
   abbrev went : Walk
   went = wentTo m t e a b x
@@ -91,7 +91,7 @@ module _ (m : Grants → State → Call → Result) (t e a b : ℕ) (x : Run) (r
     aborts-are = ap (λ (k : Outcome). k .aborts) is
 
   abbrev closed : Walk
-  closed = close course went
+  closed = close walker went
 
   walks-is : Noted false → outcomeIf (isAccepted (y .answer)) (looks e a b) (x .state .runs) y h ≡ walks t e a b y h
   walks-is = outcome-walks t e a b (x .state) y h runs accepted
@@ -117,8 +117,8 @@ module _ (m : Grants → State → Call → Result) (t e a b : ℕ) (x : Run) (r
             ap (isIn t)
             (ap (λ (k : Aborts). k .debts .members e) (aborts-are (walks t e a b y h) (walks-is p))
             ∙ ap (λ (d : Debts). d .members e)
-            (close-leaves course went (R .abort) (R .stands) (sym (standing-is p) ∙ rests ∙ R .stands)))
-            ∙ joined-walk course looks-named a (startOf t e b h)
+            (close-leaves walker went (R .abort) (R .stands) (sym (standing-is p) ∙ rests ∙ R .stands)))
+            ∙ joined-walk walker looks-named a (startOf t e b h)
             (comes-in t e b (h .aborts .standing e) (h .aborts .debts)) (R .abort) (R .stands) (R .badge);
       }
     where
@@ -139,7 +139,7 @@ module _ (m : Grants → State → Call → Result) (t e a b : ℕ) (x : Run) (r
             (sym (ap (λ (k : Aborts). k .ended) (aborts-are (walks t e a b y h) (walks-is p)))) (q .1),
         q .2,
       ))
-      (close-keeps course went z i)
+      (close-keeps walker went z i)
 
   -- A call that finds the abort z of its badge standing, not answered from a note, is of that abort.
   pub goes-on :
@@ -158,7 +158,7 @@ module _ (m : Grants → State → Call → Result) (t e a b : ℕ) (x : Run) (r
       }
     where
       G : GoesOnWith looks-named z (went .standing)
-      G = goes-on-with course looks-named a (startOf t e b h) z i j
+      G = goes-on-with walker looks-named a (startOf t e b h) z i j
 
       reports : reportIf (went .standing) b ≡ some (reportOf z)
       reports =

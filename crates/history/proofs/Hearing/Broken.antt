@@ -19,7 +19,7 @@ use Rattle.machine.specs.Machine.{byCaller, perform, performUnless, performIf, 
 use Rattle.history.specs.Sorts.{looks}
 use Rattle.history.specs.History.{Aborting, Waiting, History, namedLooks}
 use Rattle.history.specs.Walk.{Walk, walk}
-use Rattle.history.specs.Outcomes.{Outcome, courseOf, startOf, outcomeIf}
+use Rattle.history.specs.Outcomes.{Outcome, walkerOf, startOf, outcomeIf}
 use Rattle.machine.proofs.Lists.{put-same}
 use Rattle.calls.proofs.Ranges.{bounds}
 use Rattle.machine.proofs.Preserved.Mid.{sound-mid}
@@ -43,7 +43,7 @@ module _ (past : List Call) (s : State) (h : History) (I : Inv past s h) where
     Rests r =
         r .answer .code ≡ 2
         → outcomeIf (isAccepted (r .answer)) (looks e a b) (s .runs) r h .aborts .standing e
-        ≡ walk (namedLooks (h .since) (r .looks)) a (courseOf t e b h) (startOf t e b h) .standing
+        ≡ walk (namedLooks (h .since) (r .looks)) a (walkerOf t e b h) (startOf t e b h) .standing
 
     rests-open :
         inRange (Abort e a b) ≡ true → hasNote e b (s .threads t .debt) ≡ false → s .endpoints e .status ≡ live
@@ -54,7 +54,7 @@ module _ (past : List Call) (s : State) (h : History) (I : Inv past s h) where
         (note-is e b (h .aborts .debts .notes t) (s .threads t .debt) (I .tied .notes t) ∙ unnoted)
         ∙ walks-from t e a b s r h _ messages (I .stray) (R .closes))
         ∙ put-same (h .aborts .standing) e (R .stands) ∙ R .rests i
-        ∙ ap (λ (w : Walk). walk (namedLooks (h .since) (r .looks)) a (courseOf t e b h) w .standing)
+        ∙ ap (λ (w : Walk). walk (namedLooks (h .since) (r .looks)) a (walkerOf t e b h) w .standing)
         (sym (start-is t e b s h messages (I .stray)))
       where
         r : Result

@@ -16,8 +16,8 @@ use Rattle.calls.specs.Answers.{isAccepted}
 use Rattle.machine.specs.Grants.{Grants}
 use Rattle.history.specs.Sorts.{Sort, other, destroys, waits, receives, yields, removes, looks, sortOf}
 use Rattle.history.specs.History.{Aborting, Reported, Aborts, History, namedLooks}
-use Rattle.history.specs.Walk.{Walk, Course, isNoteOf, hears, reportOf, walk, close}
-use Rattle.history.specs.Outcomes.{letGoBy, deletes, courseOf, startOf, walks, abortsBy, abortsOf, outcomeOf}
+use Rattle.history.specs.Walk.{Walk, Walker, isNoteOf, hears, reportOf, walk, close}
+use Rattle.history.specs.Outcomes.{letGoBy, deletes, walkerOf, startOf, walks, abortsBy, abortsOf, outcomeOf}
 use Rattle.history.specs.Outcomes.{outcomeIf}
 use Rattle.history.specs.Recorded.{recorded, told, Run, resultIn, nextRun, runFrom}
 use Rattle.history.specs.Heard.{Aside, AllAside}
@@ -59,14 +59,14 @@ module _ (t e : ℕ) (r : Reported) where
 
   -- A call 12 of another, u, that is not answered from a note.
   module _ (u f a b : ℕ) (y : Result) (h : History) (n : t ≡ u → ⊥) (K : Knows (h .aborts)) where
-    abbrev course : Course
-    course = courseOf u f b h
+    abbrev walker : Walker
+    walker = walkerOf u f b h
 
     abbrev start : Walk
     start = startOf u f b h
 
     abbrev walk-to : Walk
-    walk-to = walk (namedLooks (h .since) (y .looks)) a course start
+    walk-to = walk (namedLooks (h .since) (y .looks)) a walker start
 
     comes : Alike t (h .aborts .debts) (start .debts)
     comes = alike-come t u n f b (h .aborts .standing f) (h .aborts .debts)
@@ -75,24 +75,24 @@ module _ (t e : ℕ) (r : Reported) where
     unfolding walks
     knows-walks = go (same? f e)
       where
-        go : Same f e → Bound t e r (put (h .aborts .standing) f (close course walk-to .standing) e)
-            (close course walk-to .debts)
+        go : Same f e → Bound t e r (put (h .aborts .standing) f (close walker walk-to .standing) e)
+            (close walker walk-to .debts)
         go (same j _) =
             subst
             (λ (k : ℕ).
-            Bound t k r (put (h .aborts .standing) f (close course walk-to .standing) k) (close course walk-to .debts))
+            Bound t k r (put (h .aborts .standing) f (close walker walk-to .standing) k) (close walker walk-to .debts))
             j
-            (rw (put-same (h .aborts .standing) f (close course walk-to .standing))
-            (stays-close t course n r walk-to
-            (stays-walk t course n r (namedLooks (h .since) (y .looks)) a start
+            (rw (put-same (h .aborts .standing) f (close walker walk-to .standing))
+            (stays-close t walker n r walk-to
+            (stays-walk t walker n r (namedLooks (h .since) (y .looks)) a start
             (bound-alike comes
             (subst (λ (k : ℕ). Bound t k r (h .aborts .standing k) (h .aborts .debts)) (sym j) K)))))
         go (differs j _) =
             let out = comes .members f ∙ elsewhere K f j in
-            let A = leaves-walk t course n (namedLooks (h .since) (y .looks)) a start out in
-            rw (put-other (h .aborts .standing) f e (close course walk-to .standing) (λ k. j (sym k)))
+            let A = leaves-walk t walker n (namedLooks (h .since) (y .looks)) a start out in
+            rw (put-other (h .aborts .standing) f e (close walker walk-to .standing) (λ k. j (sym k)))
             (bound-alike
-            (alike-then (alike-then comes A) (leaves-close t course n walk-to (A .members f ∙ out))) K)
+            (alike-then (alike-then comes A) (leaves-close t walker n walk-to (A .members f ∙ out))) K)
 
   knows-aborts :
       (u f a b : ℕ) (y : Result) (h : History) → (t ≡ u → ⊥) → Knows (h .aborts)

@@ -11,7 +11,7 @@ use borrow.Author.Tests.{eq-eqb, eqb-true}
 use Rattle.machine.specs.Lists.{pick, Mem}
 use Rattle.history.specs.History.{Aborting, Ended, Reported, NamedLook, Debts, isIn}
 use Rattle.history.specs.Walk.{takesUp, joining, joinsIn, letsGo, isNone, leftOf, reportOf, reportIf, Walk}
-use Rattle.history.specs.Walk.{Course, begins, ends, passes, settles, settle, lookedAt, takes, takeLook, walk}
+use Rattle.history.specs.Walk.{Walker, begins, ends, passes, settles, settle, lookedAt, takes, takeLook, walk}
 use Rattle.history.specs.Walk.{closes, close}
 use Rattle.history.specs.Outcomes.{letsOther, comesIn}
 use Rattle.history.specs.Claim.{In}
@@ -37,7 +37,7 @@ comes-in t e b o d x i j =
     under false k p = absurd (clash p refl)
 
 -- The caller's own abort, where it stands, has the caller in its set.
-module _ (c : Course) where
+module _ (c : Walker) where
   abbrev Joined : Walk → Type 0
   Joined w =
       (x : Aborting) → w .standing ≡ some x → x .badge ≡ c .badge
@@ -94,7 +94,7 @@ reported (some x) b r i = go (eqb (x .badge) b) refl i
 
 -- The abort that stands after the looks ends in the call, or nothing changes.
 close-or-not :
-    (c : Course) (w : Walk) (x : Aborting) → w .standing ≡ some x → (close c w ≡ ends x c w) ⊎ (close c w ≡ w)
+    (c : Walker) (w : Walk) (x : Aborting) → w .standing ≡ some x → (close c w ≡ ends x c w) ⊎ (close c w ≡ w)
 unfolding close closes
 close-or-not c w x i =
     subst (λ (o : Option Aborting). (closes o c w ≡ ends x c w) ⊎ (closes o c w ≡ w)) (sym i)
@@ -105,12 +105,12 @@ close-or-not c w x i =
     go false = inr refl
 
 -- The abort x, ended in the call.
-abbrev endedIn : Course → Debts → Aborting → Ended
+abbrev endedIn : Walker → Debts → Aborting → Ended
 endedIn c d x = record { abort = x; by = c .place; members = letsGo (c .caller) d .members (c .endpoint) }
 
 -- One that stands still was not ended,
 pub close-leaves :
-    (c : Course) (w : Walk) (x : Aborting) → w .standing ≡ some x → close c w .standing ≡ some x
+    (c : Walker) (w : Walk) (x : Aborting) → w .standing ≡ some x → close c w .standing ≡ some x
     → close c w .debts ≡ w .debts
 unfolding ends
 close-leaves c w x i s = go (close-or-not c w x i)
@@ -121,7 +121,7 @@ close-leaves c w x i s = go (close-or-not c w x i)
 
 -- and one that does not is among the ended.
 pub close-keeps :
-    (c : Course) (w : Walk) (x : Aborting) → w .standing ≡ some x
+    (c : Walker) (w : Walk) (x : Aborting) → w .standing ≡ some x
     → (close c w .standing ≡ some x) ⊎ ((z : Ended) × In z (close c w .ended) × (z .abort ≡ x))
 unfolding ends
 close-keeps c w x i = go (close-or-not c w x i)
@@ -159,7 +159,7 @@ after-look v l x o G =
     looked u (inl j) = G .earlier (u .waiter) (rw j (inserted-mem (at-tail (v .waiter) (x .looked))))
     looked u (inr j) = G .looked u j
 
-module _ (c : Course) where
+module _ (c : Walker) where
   look-own :
       (v : NamedLook) (w : Walk) (x : Aborting) → w .standing ≡ some x → takeLook v w .standing ≡ some (lookedAt v x)
   unfolding takeLook takes

@@ -7,13 +7,13 @@ use mathlib.Core.List.{List, [], _∷_}
 use lib.Dec.{eqb}
 use Rattle.machine.specs.Lists.{pick}
 use Rattle.history.specs.History.{Aborting, Reported, NamedLook, isIn}
-use Rattle.history.specs.Walk.{letsGo, isNone, leftOf, reportOf, Walk, Course, begins, ends, passes, settles}
+use Rattle.history.specs.Walk.{letsGo, isNone, leftOf, reportOf, Walk, Walker, begins, ends, passes, settles}
 use Rattle.history.specs.Walk.{settle, lookedAt, takes, takeLook, walk, closes, close}
 use Rattle.machine.proofs.Preserved.Ready.{none-some}
 use Rattle.history.proofs.Hearing.Sets.{Alike, alike-self, alike-then, alike-go, alike-begin, alike-end, Bound}
 use Rattle.history.proofs.Hearing.Sets.{working, heard, bound-alike, bound-end}
 
-module _ (t : ℕ) (c : Course) (n : t ≡ c .caller → ⊥) where
+module _ (t : ℕ) (c : Walker) (n : t ≡ c .caller → ⊥) where
   -- The walk leaves what t has to do with aborts.
   abbrev Leaves : Walk → Walk → Type 0
   Leaves w w′ = Alike t (w .debts) (w′ .debts)
