@@ -47,8 +47,8 @@ fn look_up_to(tables: &mut [u32], e: usize, allowance: u32) -> u32
     allowance
 }
 
-// The call's own abort ends where nothing is left: the caller leaves its set, and the other members get notes. Else it is
-// broken off.
+// The call's own abort ends where nothing is left: the caller leaves its set, and the other members get notes. Else it
+// is broken off.
 fn end_own(tables: &mut [u32], t: usize, e: usize, count: u32) -> Answer
     requires { ⌜ Shown (now tables) (Open t e) ⌝ }
     ensures { λ r. ⌜ Continues (now (tables .entry)) count r (Open t e) (ownEnded t e) (now (tables .exit)) ⌝ }

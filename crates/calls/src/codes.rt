@@ -54,5 +54,14 @@ pub const LINE_FIRED: u32 = 5;
 // The ticks that a thread starts with.
 pub const TICKS: u32 = 5;
 
-// The first number that is no badge and no message.
-pub const NO_BADGE: u32 = 0x1000_0000;
+// The greatest number that names a thread, and so on.
+pub const LAST_THREAD: u32 = 255;
+
+pub const LAST_PRIORITY: u32 = 255;
+
+pub const LAST_ENDPOINT: u32 = 63;
+
+pub const LAST_LINE: u32 = 31;
+
+// How many badges there are, and messages: the first number that is neither.
+pub const BADGES: u32 = 0x1000_0000;

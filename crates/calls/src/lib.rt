@@ -4,6 +4,7 @@ ghost use Rattle.calls.specs.Calls.{numberOf, isAllowance, inRange};
 ghost use Rattle.calls.specs.Answers.{plain, counted};
 
 pub mod codes;
+pub mod sizes;
 
 // A call, each kind with its own numbers. Any number may stand in any place: those out of range are refused by 19.
 pub enum Call {
@@ -146,34 +147,39 @@ pub fn in_range(c: Call) -> bool
     ensures { λ r. ⌜ r ≡ inRange c ⌝ }
 {
     match c {
-        Call::CreateThread { thread, priority } => thread <= 255 && priority <= 255,
-        Call::DestroyThread { thread } => thread <= 255,
-        Call::SetPriority { thread, priority } => thread <= 255 && priority <= 255,
-        Call::CreateEndpoint { endpoint } => endpoint <= 63,
-        Call::Interrupt { line } => line <= 31,
+        Call::CreateThread { thread, priority } => thread <= codes::LAST_THREAD
+            && priority <= codes::LAST_PRIORITY,
+        Call::DestroyThread { thread } => thread <= codes::LAST_THREAD,
+        Call::SetPriority { thread, priority } => thread <= codes::LAST_THREAD
+            && priority <= codes::LAST_PRIORITY,
+        Call::CreateEndpoint { endpoint } => endpoint <= codes::LAST_ENDPOINT,
+        Call::Interrupt { line } => line <= codes::LAST_LINE,
         Call::Tick => true,
         Call::Send {
             endpoint,
             badge,
             message,
-        } => endpoint <= 63 && badge < codes::NO_BADGE && message < codes::NO_BADGE,
-        Call::Receive { endpoint } => endpoint <= 63,
+        } => endpoint <= codes::LAST_ENDPOINT && badge < codes::BADGES && message < codes::BADGES,
+        Call::Receive { endpoint } => endpoint <= codes::LAST_ENDPOINT,
         Call::Yield => true,
-        Call::Wait { line } => line <= 31,
+        Call::Wait { line } => line <= codes::LAST_LINE,
         Call::Delete {
             endpoint,
             allowance,
-        } => endpoint <= 63 && is_allowance(allowance),
+        } => endpoint <= codes::LAST_ENDPOINT && is_allowance(allowance),
         Call::Abort {
             endpoint,
             allowance,
             badge,
-        } => endpoint <= 63 && is_allowance(allowance) && badge < codes::NO_BADGE,
+        } => endpoint <= codes::LAST_ENDPOINT && is_allowance(allowance) && badge < codes::BADGES,
         Call::Grant {
             thread,
             endpoint,
             rights,
             badge,
-        } => thread <= 255 && endpoint <= 63 && rights <= 15 && badge < codes::NO_BADGE,
+        } => thread <= codes::LAST_THREAD
+            && endpoint <= codes::LAST_ENDPOINT
+            && rights <= 15
+            && badge < codes::BADGES,
     }
 }

@@ -84,7 +84,8 @@ module _ (e b : ℕ) (s : State) where
       passed t d (inr h) = le-ltb t n h ∙ sym (le-ltb t (n + 1) (omega (arith, d)))
 
       go : (t : ℕ) → Same t n
-          → put f n (informedThread e b (f n)) t ≡ pick (ltb t (n + 1)) (informedThread e b (s .threads t)) (s .threads t)
+          → put f n (informedThread e b (f n)) t
+          ≡ pick (ltb t (n + 1)) (informedThread e b (s .threads t)) (s .threads t)
       go t (same j _) =
           rw (j, put-same f n (informedThread e b (f n)), lt-ltb n (n + 1) (omega arith)) (ap (informedThread e b) at-n)
       go t (other d _) =

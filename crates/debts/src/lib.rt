@@ -6,6 +6,7 @@ ghost use Rattle.store.specs.Steps.{Shown, Does, Tells};
 ghost use Rattle.store.specs.Store.{IsThread, IsEndpoint};
 ghost use Rattle.debts.specs.Debts.{Says, PairInRange, InCall, underIn, notedIn, noteOne, noting, EndsAbort};
 ghost use Rattle.debts.specs.Debts.{Alike, BeginsAbort, FirstAt, lastSender};
+use calls::sizes::THREADS;
 use layout::Field;
 use layout::Part;
 use layout::codes;
@@ -77,7 +78,7 @@ fn note_members(tables: &mut [u32], e: usize, badge: u32)
     ensures { λ _. ⌜ Does (now (tables .entry)) (now (tables .exit)) (IsEndpoint e) (noteAll e badge) ⌝ }
 {
     let mut t = 0;
-    while t < 256 {
+    while t < THREADS {
         note_member(tables, t, e, badge);
         t += 1;
     }

@@ -12,10 +12,6 @@ use Rattle.store.specs.Steps.{Shown, Does}
 use Rattle.queues.specs.Queues.{Chooses}
 use Rattle.endings.specs.Results.{Performs, Accepts}
 
--- Chosen, and answered.
-pub accepted : {m n : List ℕ} {a : Answer} → Does m n Chooses choose → Accepts m a a Chooses n
-accepted D = record { performs = λ looks. record { answers = λ s M h. refl; shows = λ s M h. D .shows s M h } }
-
 -- Chosen, and answered by code 0.
 pub done-is : {m n : List ℕ} {a : Answer} → Does m n Chooses choose → a ≡ plain 0 → Performs m n a Chooses done
 done-is D e = record { answers = λ s M h. e; shows = λ s M h. D .shows s M h }

@@ -10,12 +10,12 @@ ghost use Rattle.machine.specs.Lists.{put};
 ghost use Rattle.machine.specs.Grants.{grants?, grantWord, lacks, regranted};
 ghost use Rattle.grants.specs.Memory.{grantWords, grantsOf, grantImage, grantsTest};
 use calls::Call;
+use calls::codes::BADGES;
+use calls::sizes::ENDPOINTS;
+use calls::sizes::THREADS;
 
-// How many words are lent for the grants.
-pub const GRANT_WORDS: usize = 16384;
-
-// How many badges there are: a word is its rights times this, and its badge.
-const BADGES: u32 = 0x1000_0000;
+// How many words are lent for the grants: one for each thread at each endpoint, its rights times BADGES and its badge.
+pub const GRANT_WORDS: usize = THREADS * ENDPOINTS;
 
 // The rights.
 const SEND: u32 = 1;
@@ -47,7 +47,7 @@ fn granted(grants: &[u32], thread: usize, endpoint: u32) -> u32
     requires { ⌜ (length (now grants) ≡ grantWords) × (thread ≤ 255) × (endpoint ≤ 63) ⌝ }
     ensures { λ r. ⌜ r ≡ grantsOf (now (grants .entry)) thread endpoint ⌝ }
 {
-    grants[64 * thread + endpoint as usize]
+    grants[ENDPOINTS * thread + endpoint as usize]
 }
 
 // Whether the word grants a right.
@@ -92,8 +92,8 @@ pub fn clear_thread(grants: &mut [u32], thread: usize)
     ensures { λ _. ⌜ now (grants .exit) ≡ grantImage (put (grantsOf (now (grants .entry))) thread (λ e. 0)) ⌝ }
 {
     let mut e = 0;
-    while e < 64 {
-        grants[64 * thread + e] = 0;
+    while e < ENDPOINTS {
+        grants[ENDPOINTS * thread + e] = 0;
         e += 1;
     }
 }
@@ -104,8 +104,8 @@ pub fn clear_endpoint(grants: &mut [u32], endpoint: usize)
     ensures { λ _. ⌜ now (grants .exit) ≡ grantImage (λ t. put (grantsOf (now (grants .entry)) t) endpoint 0) ⌝ }
 {
     let mut t = 0;
-    while t < 256 {
-        grants[64 * t + endpoint] = 0;
+    while t < THREADS {
+        grants[ENDPOINTS * t + endpoint] = 0;
         t += 1;
     }
 }
@@ -128,7 +128,7 @@ fn store(grants: &mut [u32], thread: usize, endpoint: usize, v: u32)
         ≡ grantImage (put (grantsOf (now (grants .entry))) thread
         (put (grantsOf (now (grants .entry)) thread) endpoint v)) ⌝ }
 {
-    grants[64 * thread + endpoint] = v;
+    grants[ENDPOINTS * thread + endpoint] = v;
 }
 
 // Call 13's word: the rights and the badge of a thread at an endpoint.

@@ -178,8 +178,9 @@ refuser-fails n l K =
 pub clearer-fails : Keeps clearer → ⊥
 unfolding step performIf
 clearer-fails K =
-    let e = called-image freshGrants one-endpoint zeros (CreateThread 256 0) fresh-grants-sound one-sound zeros-length in
-    let d = does-fresh clearer K one-endpoint zeros (CreateThread 256 0) one-sound zeros-length in
+    let c = CreateThread 256 0 in
+    let e = called-image freshGrants one-endpoint zeros c fresh-grants-sound one-sound zeros-length in
+    let d = does-fresh clearer K one-endpoint zeros c one-sound zeros-length in
     apart
     (sym (ap (λ (x : Called). pick (leb 16 (x .answer .code)) (image freshState) (x .left .tables)) e)
     ∙ ap (λ (x : Called). x .left .tables) d)

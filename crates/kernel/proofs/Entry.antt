@@ -23,8 +23,8 @@ use Rattle.layout.proofs.Tests.{Decides, tells-and, tells-eqb}
 use Rattle.soundness.specs.Tables.{stateOf}
 use Rattle.soundness.proofs.Tables.{state-exact, state-shows}
 use Rattle.grants.specs.Memory.{grantWords, grantsOf, grantImage, grantsTest}
-use Rattle.lent_tables.specs.Entries.{Lent, lent, Sized, sized, zeros, Checked, verdict, checked, Called, stepped, taken}
-use Rattle.lent_tables.specs.Entries.{called}
+use Rattle.lent_tables.specs.Entries.{Lent, lent, Sized, sized, zeros, Checked, verdict, checked}
+use Rattle.lent_tables.specs.Entries.{Called, stepped, taken, called}
 use Rattle.store.specs.Steps.{Shown}
 use Rattle.endings.specs.Results.{Performs}
 use Rattle.dispatch.specs.Steps.{stepping, Regrants}

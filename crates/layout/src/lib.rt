@@ -3,6 +3,9 @@
 pub mod codes;
 pub mod wide;
 
+// How many words have nothing in them.
+pub const UNUSED_WORDS: usize = 534;
+
 // The words of a thread that are no links. Owes is what the thread has to do with aborts, Note the badge of a note.
 pub enum Field {
     Place,

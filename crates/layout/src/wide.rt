@@ -12,15 +12,15 @@ pub const RECEIVING: usize = codes::RECEIVING as usize;
 
 pub const WAITING: usize = codes::WAITING as usize;
 
-pub const LAST_PLACE: usize = WAITING + 31;
+pub const LAST_PLACE: usize = WAITING + calls::codes::LAST_LINE as usize;
 
 pub const NOTHING: usize = codes::NOTHING as usize;
 
 pub const MEMBER: usize = codes::MEMBER as usize;
 
-pub const LAST_MEMBER: usize = MEMBER + 63;
+pub const LAST_MEMBER: usize = MEMBER + calls::codes::LAST_ENDPOINT as usize;
 
-pub const LAST_NOTE: usize = codes::NOTE as usize + 63;
+pub const LAST_NOTE: usize = codes::NOTE as usize + calls::codes::LAST_ENDPOINT as usize;
 
 pub const MISSING: usize = codes::MISSING as usize;
 
@@ -34,13 +34,13 @@ pub const ABORTING: usize = codes::ABORTING as usize;
 
 pub const AWAITED: usize = codes::AWAITED as usize;
 
-pub const LAST_AWAITED: usize = AWAITED + 255;
+pub const LAST_AWAITED: usize = AWAITED + calls::codes::LAST_THREAD as usize;
 
 pub const NOBODY: usize = codes::NOBODY as usize;
 
 pub const LINK: usize = codes::LINK as usize;
 
-pub const LAST_LINK: usize = LINK + 255;
+pub const LAST_LINK: usize = LINK + calls::codes::LAST_THREAD as usize;
 
 pub const NO_OUTCOME: usize = calls::codes::NO_OUTCOME as usize;
 
@@ -48,6 +48,8 @@ pub const MESSAGE_RECEIVED: usize = calls::codes::MESSAGE_RECEIVED as usize;
 
 pub const LAST_OUTCOME: usize = calls::codes::LINE_FIRED as usize;
 
+pub const LAST_PRIORITY: usize = calls::codes::LAST_PRIORITY as usize;
+
 pub const TICKS: usize = calls::codes::TICKS as usize;
 
-pub const NO_BADGE: usize = calls::codes::NO_BADGE as usize;
+pub const BADGES: usize = calls::codes::BADGES as usize;

@@ -17,7 +17,7 @@ use Rattle.store.specs.Readings.{lineIn}
 use Rattle.queues.specs.Queues.{Chooses}
 use Rattle.endings.specs.Results.{Calling, Performs}
 use Rattle.endings.proofs.Ends.{refused, performs-as, performs-after}
-use Rattle.waiting.specs.Transfers.{Dropped, Suspends}
+use Rattle.waiting.specs.Waiting.{Dropped, Suspends}
 use Rattle.queues.proofs.Joining.{shown-next}
 use Rattle.waiting.proofs.Callers.{calling-thread, dropped-mid, dropped-first}
 use Rattle.lines.proofs.Firing.{line-of, line-chooses}

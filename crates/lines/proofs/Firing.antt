@@ -20,7 +20,7 @@ use Rattle.queues.specs.Queues.{Loose, Chooses}
 use Rattle.endings.specs.Results.{Asked, Performs}
 use Rattle.endings.proofs.Ends.{performs-as, performs-after}
 use Rattle.endings.proofs.Conditions.{running-loose, mid-chooses, awaited-loose}
-use Rattle.waiting.specs.Transfers.{firing}
+use Rattle.lines.specs.Firing.{firing}
 use Rattle.queues.proofs.Joining.{shown-next}
 
 -- Every number is that of a line.

@@ -1,11 +1,10 @@
 // The calls of interrupt lines: 5 and 10. Each is refused with nothing changed, or makes the steps of the
 // machine's call in their order and ends in one choice of who runs.
 ghost use Prim.Native.Nat.{_≤_};
-ghost use Rattle.machine.specs.Machine.{interrupt as interrupting};
-ghost use Rattle.machine.specs.Machine.{wait as waiting};
+ghost use Rattle.machine.specs.Machine.{interrupt as interrupting, wait as waiting};
 ghost use Rattle.store.specs.Steps.{Shown, Does};
 ghost use Rattle.endings.specs.Results.{Asked, Calling, Performs};
-ghost use Rattle.waiting.specs.Transfers.{firing};
+ghost use Rattle.lines.specs.Firing.{firing};
 use calls::Answer;
 use calls::codes::LINE_FIRED;
 use layout::codes;

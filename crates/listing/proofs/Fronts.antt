@@ -38,8 +38,3 @@ short-length m text h = rw (lt-leb lineRoom (length m) h)
 pub short-after : (m text : List ℕ) → length m < lineRoom → m ≡ afterLine text m
 unfolding afterLine
 short-after m text h = rw (lt-leb lineRoom (length m) h)
-
--- The bytes counted are the text: what a caller prints.
-pub printed : (m text : List ℕ) → lineRoom ≤ length m → take (lineLength text m) (afterLine text m) ≡ text
-unfolding lineLength afterLine
-printed m text h = rw (le-leb lineRoom (length m) h) (take-at text (drop (length text) m) (length text) refl)

@@ -13,7 +13,7 @@ use Rattle.machine.specs.Lists.{first}
 use Rattle.machine.specs.State.{State, Place, absent, able, sending, receiving, waiting, nothing, Status}
 use Rattle.machine.specs.State.{missing, live, closing, Line, quiet, pending, awaited, absentThread, setThread}
 use Rattle.machine.specs.State.{setRuns, setEndpoint, setLine, withPriority, withTicks, messageTaken}
-use Rattle.machine.specs.State.{messageReceived, lineFired}
+use Rattle.machine.specs.State.{messageReceived, lineFired, turnTicks}
 use Rattle.machine.specs.Scheduling.{enqueue, unqueue, standDown, wake, block}
 use Rattle.machine.specs.Endpoints.{senders, receivers, underAbort, joinEndpoint, leaveEndpoint, wakeFrom}
 use Rattle.machine.specs.Endpoints.{dropDebt}
@@ -46,7 +46,7 @@ createIf false t p s = refuse 22 s
 createIf true t p s =
     done (enqueue t
     (setThread t
-    (record { place = able; priority = p; ticks = 5; outcome = 0; badge = 0; message = 0; debt = nothing }) s))
+    (record { place = able; priority = p; ticks = turnTicks; outcome = 0; badge = 0; message = 0; debt = nothing }) s))
 
 unfoldable pub createThread : ℕ → ℕ → State → Result
 createThread t p s = createIf (isAbsent (s .threads t .place)) t p s
@@ -106,7 +106,7 @@ interrupt l s = done (fire (s .lines l) l s)
 
 -- 6: a tick takes one from the running thread; at 0 it has 5 again and goes to its tail.
 unfoldable pub leaveTicks : ℕ → ℕ → State → State
-leaveTicks zero t s = standDown t (setThread t (withTicks 5 (s .threads t)) s)
+leaveTicks zero t s = standDown t (setThread t (withTicks turnTicks (s .threads t)) s)
 leaveTicks (suc n) t s = setThread t (withTicks (suc n) (s .threads t)) s
 
 unfoldable pub tickFor : Option ℕ → State → State

@@ -118,8 +118,8 @@ row21 c s =
 abbrev pub row22 : Call → State → Refusal
 row22 c s = record { cause = oneOf (1 ∷ []) (numberOf c) && not (isAbsent (threadNamed c s .place)); number = some 22 }
 
--- Of the note: a member's "next abort call of that endpoint and badge is answered 0, count 0, before 23 is tried": it is
--- not refused.
+-- Of the note: a member's "next abort call of that endpoint and badge is answered 0, count 0, before 23 is tried": it
+-- is not refused.
 abbrev pub rowOfNote : Call → State → Refusal
 rowOfNote c s =
     record {

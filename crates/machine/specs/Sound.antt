@@ -9,7 +9,7 @@ use mathlib.Core.List.{List, [], _++_}
 use Rattle.machine.specs.Lists.{Mem, Distinct}
 use Rattle.machine.specs.State.{State, Thread, Place, absent, able, sending, receiving, waiting, Debt, nothing}
 use Rattle.machine.specs.State.{works, noted, Abort, missing, live, quiet, awaited}
-use Rattle.machine.specs.State.{absentThread, missingEndpoint, noOutcome, messageReceived}
+use Rattle.machine.specs.State.{absentThread, missingEndpoint, noOutcome, messageReceived, lineFired, turnTicks}
 use Rattle.machine.specs.Endpoints.{isAborting}
 
 -- A thread is present.
@@ -43,8 +43,8 @@ pub record Numbers (t : ℕ) (x : Thread) : Type 0 where
   pub thread : t ≤ 255
   pub priority : x .priority ≤ 255
   pub ticks-least : 1 ≤ x .ticks
-  pub ticks-most : x .ticks ≤ 5
-  pub outcome : x .outcome ≤ 5
+  pub ticks-most : x .ticks ≤ turnTicks
+  pub outcome : x .outcome ≤ lineFired
   pub badge : x .badge < 2 ^ 28
   pub message : x .message < 2 ^ 28
   pub debt : DebtInRange (x .debt)

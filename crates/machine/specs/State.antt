@@ -42,6 +42,10 @@ endpointGone = 4
 abbrev pub lineFired : ℕ
 lineFired = 5
 
+-- The ticks of a turn.
+abbrev pub turnTicks : ℕ
+turnTicks = 5
+
 pub record Thread : Type 0 where
   pub place : Place
   pub priority : ℕ

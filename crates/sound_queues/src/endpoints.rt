@@ -10,6 +10,7 @@ ghost use Rattle.soundness.specs.Checks.{endpointAt, kindIn, bannedOf, abortTes
 ghost use Rattle.soundness.specs.Checks.{statusTest, endpointTest, met, metBelow};
 ghost use Rattle.sound_queues.specs.Steps.{standsBehind, waitersAs, kindFits};
 ghost use Rattle.sound_queues.specs.Met.{metIn, Follows, FollowsAll};
+use calls::sizes::ENDPOINTS;
 use layout::Field;
 use layout::Link;
 use layout::Part;
@@ -50,7 +51,7 @@ fn abort(tables: &[u32], e: usize) -> bool
     if wide::ABORTING < aborting {
         return false;
     }
-    (badge < wide::NO_BADGE) & ((cursor == wide::NOBODY) == (end == wide::NOBODY))
+    (badge < wide::BADGES) & ((cursor == wide::NOBODY) == (end == wide::NOBODY))
 }
 
 // The place that all in the queue must have: that of its first.
@@ -78,7 +79,7 @@ fn banned(tables: &[u32], e: usize, k: usize) -> usize
     if aborting & (k == wide::SENDING + e) {
         return words::endpoint(tables, Part::Aborted, e);
     }
-    wide::NO_BADGE
+    wide::BADGES
 }
 
 // Thread t, met behind link x in a queue of place k: it is linked back, has the place, and may stand where it does.
@@ -155,7 +156,7 @@ pub fn endpoints(tables: &[u32], scratch: &mut [u32]) -> bool
         (all 64 (endpointTest (now (tables .entry)))) r ⌝ }
 {
     let mut e = 0;
-    while e < 64 {
+    while e < ENDPOINTS {
         if !endpoint(tables, scratch, e) {
             return false;
         }

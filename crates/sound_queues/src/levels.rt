@@ -8,6 +8,7 @@ ghost use Rattle.layout.specs.Tests.{all};
 ghost use Rattle.soundness.specs.Checks.{levelTest, met, metBelow};
 ghost use Rattle.sound_queues.specs.Steps.{readyBehind};
 ghost use Rattle.sound_queues.specs.Met.{metIn, Follows, FollowsAll};
+use calls::sizes::LEVELS;
 use layout::Field;
 use layout::Link;
 use layout::Slot;
@@ -59,7 +60,7 @@ pub fn levels(tables: &[u32], scratch: &mut [u32]) -> bool
         (all 256 (levelTest (now (tables .entry)))) r ⌝ }
 {
     let mut p = 0;
-    while p < 256 {
+    while p < LEVELS {
         if !level(tables, scratch, p) {
             return false;
         }

@@ -7,6 +7,7 @@ ghost use Rattle.layout.specs.Addresses.{tableWords, scratchWords};
 ghost use Rattle.layout.specs.Tests.{all};
 ghost use Rattle.soundness.specs.Checks.{placedTest, metBelow};
 ghost use Rattle.sound_queues.specs.Met.{metIn};
+use calls::sizes::THREADS;
 use layout::Field;
 use layout::Link;
 use layout::Slot;
@@ -33,7 +34,7 @@ pub fn places(tables: &[u32], scratch: &[u32]) -> bool
     ensures { λ r. ⌜ r ≡ all 256 (placedTest (now (tables .entry))) ⌝ }
 {
     let mut t = 0;
-    while t < 256 {
+    while t < THREADS {
         if !place(tables, scratch, t) {
             return false;
         }

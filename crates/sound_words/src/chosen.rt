@@ -14,6 +14,8 @@ use layout::Field;
 use layout::Link;
 use layout::Slot;
 use layout::wide;
+use summary::LEVELS_IN_WORD;
+use summary::WORDS;
 
 // What a bit adds: nothing where the word it stands for is 0.
 fn share(word: usize, bit: usize) -> usize
@@ -33,8 +35,8 @@ fn word(tables: &[u32], w: usize) -> usize
     let mut k = 0;
     let mut bit: usize = 1;
     let mut sum: usize = 0;
-    while k < 32 {
-        let p = 32 * w + k;
+    while k < LEVELS_IN_WORD {
+        let p = LEVELS_IN_WORD * w + k;
         sum += share(words::wide_link(tables, Link::Head(p)), bit);
         bit += bit;
         k += 1;
@@ -49,7 +51,7 @@ pub fn summary(tables: &[u32]) -> bool
     let mut w = 0;
     let mut bit: usize = 1;
     let mut sum: usize = 0;
-    while w < 8 {
+    while w < WORDS {
         let word = word(tables, w);
         if words::wide(tables, Slot::Summary(w)) != word {
             return false;
@@ -67,7 +69,7 @@ fn above(tables: &[u32], p: usize) -> bool
     ensures { λ r. ⌜ r ≡ all 256 (λ i. leb i p || not (occupiedAt (now (tables .entry)) i)) ⌝ }
 {
     let mut i = p;
-    while i < 255 {
+    while i < wide::LAST_PRIORITY {
         i += 1;
         if words::wide_link(tables, Link::Head(i)) != wide::NOBODY {
             return false;

@@ -5,8 +5,10 @@ ghost use lib.ListN.{length};
 ghost use Rattle.layout.specs.Addresses.{tableWords};
 ghost use Rattle.layout.specs.Tests.{all};
 ghost use Rattle.soundness.specs.Checks.{lineTest, unusedTest};
+use calls::sizes::LINES;
 use layout::Field;
 use layout::Slot;
+use layout::UNUSED_WORDS;
 use layout::wide;
 
 // A line's waiter waits on it.
@@ -29,7 +31,7 @@ pub fn lines(tables: &[u32]) -> bool
     ensures { λ r. ⌜ r ≡ all 32 (lineTest (now (tables .entry))) ⌝ }
 {
     let mut l = 0;
-    while l < 32 {
+    while l < LINES {
         if !line(tables, l) {
             return false;
         }
@@ -44,7 +46,7 @@ pub fn unused(tables: &[u32]) -> bool
     ensures { λ r. ⌜ r ≡ all 534 (unusedTest (now (tables .entry))) ⌝ }
 {
     let mut i = 0;
-    while i < 534 {
+    while i < UNUSED_WORDS {
         if words::wide(tables, Slot::Unused(i)) != 0 {
             return false;
         }

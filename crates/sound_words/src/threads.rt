@@ -8,6 +8,7 @@ ghost use Rattle.layout.specs.Addresses.{tableWords};
 ghost use Rattle.layout.specs.Tests.{all};
 ghost use Rattle.soundness.specs.Checks.{threadAt, absentTest, numbersTest, storedTest, waitsTest, owesTest};
 ghost use Rattle.soundness.specs.Checks.{presentTest, blockTest};
+use calls::sizes::THREADS;
 use layout::Field;
 use layout::Part;
 use layout::Slot;
@@ -34,11 +35,11 @@ fn numbers(tables: &[u32], t: usize) -> bool
 {
     let ticks = words::thread(tables, Field::Ticks, t);
     (words::thread(tables, Field::Place, t) <= wide::LAST_PLACE)
-        & (words::thread(tables, Field::Priority, t) <= 255)
+        & (words::thread(tables, Field::Priority, t) <= wide::LAST_PRIORITY)
         & ((1 <= ticks) & (ticks <= wide::TICKS))
         & (words::thread(tables, Field::Outcome, t) <= wide::LAST_OUTCOME)
-        & (words::thread(tables, Field::Badge, t) < wide::NO_BADGE)
-        & (words::thread(tables, Field::Message, t) < wide::NO_BADGE)
+        & (words::thread(tables, Field::Badge, t) < wide::BADGES)
+        & (words::thread(tables, Field::Message, t) < wide::BADGES)
 }
 
 // Outcome, badge and message stand only where a thread stores them.
@@ -83,7 +84,7 @@ fn owing(tables: &[u32], t: usize) -> bool
         return (note == 0)
             & (words::endpoint(tables, Part::Aborting, owes - wide::MEMBER) == wide::ABORTING);
     }
-    (owes <= wide::LAST_NOTE) & (note < wide::NO_BADGE)
+    (owes <= wide::LAST_NOTE) & (note < wide::BADGES)
 }
 
 // A present thread. Where its numbers are in range, its line exists.
@@ -112,7 +113,7 @@ pub fn threads(tables: &[u32]) -> bool
     ensures { λ r. ⌜ r ≡ all 256 (blockTest (now (tables .entry))) ⌝ }
 {
     let mut t = 0;
-    while t < 256 {
+    while t < THREADS {
         if !block(tables, t) {
             return false;
         }

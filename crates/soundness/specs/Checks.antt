@@ -6,7 +6,7 @@ use mathlib.Core.List.{List, [], _∷_}
 use lib.Dec.{eqb, leb, ltb}
 use Rattle.machine.specs.Lists.{pick}
 use Rattle.machine.specs.State.{absent, able, sending, receiving, waiting, works, noted, awaited, noOutcome}
-use Rattle.machine.specs.State.{messageReceived}
+use Rattle.machine.specs.State.{messageReceived, lineFired, turnTicks}
 use Rattle.summary.specs.Levels.{wordOf, topOf}
 use Rattle.layout.specs.declared.Field.{Field}
 use Rattle.layout.specs.declared.Part.{Part}
@@ -37,8 +37,8 @@ absentTest m t =
 unfoldable pub numbersTest : List ℕ → ℕ → Bool
 numbersTest m t =
     leb (threadAt m Field.Place t) (placeCode (waiting 31)) && leb (threadAt m Field.Priority t) 255
-    && (leb 1 (threadAt m Field.Ticks t) && leb (threadAt m Field.Ticks t) 5)
-    && leb (threadAt m Field.Outcome t) 5 && ltb (threadAt m Field.Badge t) (2 ^ 28)
+    && (leb 1 (threadAt m Field.Ticks t) && leb (threadAt m Field.Ticks t) turnTicks)
+    && leb (threadAt m Field.Outcome t) lineFired && ltb (threadAt m Field.Badge t) (2 ^ 28)
     && ltb (threadAt m Field.Message t) (2 ^ 28)
 
 -- A blocked thread's outcome is 0, and badge and message stand only where a thread stores them.

@@ -170,9 +170,9 @@ pub fn load_summary(tables: &[u32]) -> Summary
     requires { ⌜ length (now tables) ≡ tableWords ⌝ }
     ensures { λ r. ⌜ LoadsSummary (now (tables .entry)) r ⌝ }
 {
-    let mut row = [0u32; 8];
+    let mut row = [0u32; summary::WORDS];
     let mut w = 0;
-    while w < 8 {
+    while w < summary::WORDS {
         row[w] = words::get(tables, Slot::Summary(w));
         w += 1;
     }

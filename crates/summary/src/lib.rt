@@ -5,8 +5,13 @@ ghost use mathlib.Core.Bool.{true, false};
 ghost use Prim.Native.Nat.{_<_};
 ghost use Rattle.summary.specs.Levels.{summaryOf, noLevel, IsSummary, SetsBit, Finds};
 
+// The words of the levels, and how many levels each has.
+pub const WORDS: usize = 8;
+
+pub const LEVELS_IN_WORD: usize = 32;
+
 pub struct Summary {
-    pub words: [u32; 8],
+    pub words: [u32; WORDS],
     pub top: u32,
 }
 
@@ -22,7 +27,7 @@ impl Summary {
         ensures { λ r. ⌜ r ≡ summaryOf noLevel ⌝ }
     {
         Summary {
-            words: [0; 8],
+            words: [0; WORDS],
             top: 0,
         }
     }

@@ -34,7 +34,8 @@ fn is_ready(tables: &[u32], t: usize) -> bool
 // 1: a new thread joins its level's tail.
 pub fn create_thread(tables: &mut [u32], t: usize, p: u32) -> Answer
     requires { ⌜ Shown (now tables) (Asked (PriorityInRange t p)) ⌝ }
-    ensures { λ r. ⌜ Performs (now (tables .entry)) (now (tables .exit)) r (Asked (PriorityInRange t p)) (createThread t p) ⌝ }
+    ensures { λ r. ⌜ Performs (now (tables .entry)) (now (tables .exit)) r (Asked (PriorityInRange t p))
+        (createThread t p) ⌝ }
 {
     let place = store::thread(tables, Field::Place, t);
     if place != codes::ABSENT {
@@ -111,7 +112,8 @@ fn change(tables: &mut [u32], t: usize, p: u32)
 // 3: a changed priority moves a ready thread; the same priority changes nothing.
 pub fn set_priority(tables: &mut [u32], t: usize, p: u32) -> Answer
     requires { ⌜ Shown (now tables) (Asked (PriorityInRange t p)) ⌝ }
-    ensures { λ r. ⌜ Performs (now (tables .entry)) (now (tables .exit)) r (Asked (PriorityInRange t p)) (setPriority t p) ⌝ }
+    ensures { λ r. ⌜ Performs (now (tables .entry)) (now (tables .exit)) r (Asked (PriorityInRange t p))
+        (setPriority t p) ⌝ }
 {
     let place = store::thread(tables, Field::Place, t);
     if place == codes::ABSENT {

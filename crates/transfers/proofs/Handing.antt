@@ -25,7 +25,8 @@ use Rattle.debts.specs.Debts.{Says, underIn, FirstAt, firstReceiver}
 use Rattle.endings.specs.Results.{Calling, Performs}
 use Rattle.endings.proofs.Ends.{refused, performs-as, performs-after}
 use Rattle.endings.proofs.Conditions.{mid-chooses, mid-alike, queued-waits}
-use Rattle.waiting.specs.Transfers.{Dropped, Suspends, handing}
+use Rattle.waiting.specs.Waiting.{Dropped, Suspends}
+use Rattle.transfers.specs.Transfers.{handing}
 use Rattle.queues.proofs.Joining.{shown-next}
 use Rattle.waiting.proofs.Callers.{dropped-mid, dropped-first}
 use Rattle.transfers.proofs.Firsts.{first-none, first-some, first-queued, kind-kept}

@@ -16,7 +16,7 @@ use Rattle.debts.specs.Debts.{Alike}
 use Rattle.endings.specs.Results.{Performs}
 use Rattle.endings.proofs.Ends.{performs-after, shown-for}
 use Rattle.endings.proofs.Conditions.{running-comes, mid-alike}
-use Rattle.waiting.specs.Transfers.{Dropped, Suspends}
+use Rattle.waiting.specs.Waiting.{Dropped, Suspends}
 use Rattle.queues.proofs.Joining.{shown-next}
 use Rattle.waiting.proofs.Callers.{calling-thread, dropped-mid, dropped-runs}
 

@@ -23,7 +23,8 @@ use Rattle.debts.specs.Debts.{FirstAt, firstSender}
 use Rattle.endings.specs.Results.{Calling, Performs, Accepts}
 use Rattle.endings.proofs.Ends.{refused, performs-as, performs-for, shown-for}
 use Rattle.endings.proofs.Conditions.{mid-chooses, mid-alike, queued-waits, queued-present, present-thread}
-use Rattle.waiting.specs.Transfers.{Dropped, TakesFrom, Suspends, taking, takingFrom}
+use Rattle.waiting.specs.Waiting.{Dropped, Suspends}
+use Rattle.transfers.specs.Transfers.{TakesFrom, taking, takingFrom}
 use Rattle.queues.proofs.Joining.{shown-next}
 use Rattle.waiting.proofs.Callers.{dropped-mid, dropped-first}
 use Rattle.transfers.proofs.Firsts.{first-none, first-some, first-queued, kind-kept}

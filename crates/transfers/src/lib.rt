@@ -1,12 +1,11 @@
 // The calls that make endpoints and hand messages over: 4, 7 and 8. Each is refused with nothing changed, or
 // makes the steps of the machine's call in their order and ends in one choice of who runs.
 ghost use Prim.Native.Nat.{_≤_, _<_, _^_};
-ghost use Rattle.machine.specs.Machine.{createEndpoint, send as sending};
-ghost use Rattle.machine.specs.Machine.{receive as receiving};
+ghost use Rattle.machine.specs.Machine.{createEndpoint, send as sending, receive as receiving};
 ghost use Rattle.store.specs.Steps.{Shown};
 ghost use Rattle.endings.specs.Results.{Asked, Calling, Performs};
-ghost use Rattle.waiting.specs.Transfers.{Dropped, TakesFrom, handing, taking};
-ghost use Rattle.waiting.specs.Transfers.{takingFrom};
+ghost use Rattle.waiting.specs.Waiting.{Dropped};
+ghost use Rattle.transfers.specs.Transfers.{TakesFrom, handing, taking, takingFrom};
 use calls::Answer;
 use layout::Field;
 use layout::Part;

@@ -15,7 +15,7 @@ use Rattle.store.specs.Store.{IsThread}
 use Rattle.endings.specs.Results.{Calling, Performs}
 use Rattle.endings.proofs.Ends.{performs-after, does-for, shown-for}
 use Rattle.endings.proofs.Conditions.{running-thread}
-use Rattle.waiting.specs.Transfers.{Dropped}
+use Rattle.waiting.specs.Waiting.{Dropped}
 use Rattle.queues.proofs.Joining.{shown-next}
 
 module _ {t : ℕ} {N : Type 0} {s : State} (C : Calling t N s) where

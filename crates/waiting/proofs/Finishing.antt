@@ -15,7 +15,7 @@ use Rattle.queues.specs.Queues.{Chooses, BlocksAt}
 use Rattle.queues.proofs.Joining.{shown-next}
 use Rattle.endings.specs.Results.{Accepts}
 use Rattle.endings.proofs.Ends.{answered, performs-after}
-use Rattle.waiting.specs.Transfers.{Suspends}
+use Rattle.waiting.specs.Waiting.{Suspends}
 
 -- Every number is that of a place.
 place-of : (c : ℕ) → (p : Place) × (placeCode p ≡ c)

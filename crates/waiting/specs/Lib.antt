@@ -1,2 +1,2 @@
--- What the calls that hand over and wait do between their steps.
-pub mod Transfers
+-- What the calls that may wait have in common.
+pub mod Waiting

@@ -1,7 +1,7 @@
 // The running thread blocks: the end that send, receive and wait have in common.
 ghost use Rattle.store.specs.Steps.{Shown};
 ghost use Rattle.store.specs.Store.{IsThread};
-ghost use Rattle.waiting.specs.Transfers.{Suspends};
+ghost use Rattle.waiting.specs.Waiting.{Suspends};
 use calls::Answer;
 
 // The running thread t blocks at a place: code 1.

@@ -45,7 +45,8 @@ detailBadge call a = detail (asksMessage call (a .code)) (bytes ", badge ") (a .
 abbrev pub detailMessage : ℕ → Answer → List ℕ
 detailMessage call a = detail (asksMessage call (a .code)) (bytes ", message ") (a .message)
 
-pub details-is : (call : ℕ) (a : Answer) → details call a ≡ detailCount call a ++ (detailBadge call a ++ detailMessage call a)
+pub details-is :
+    (call : ℕ) (a : Answer) → details call a ≡ detailCount call a ++ (detailBadge call a ++ detailMessage call a)
 unfolding details
 details-is call a = simp append-assoc
 

@@ -23,7 +23,8 @@ returns c =
     let at-clear = c .before .before in
     let at-if1 = at-clear .before .before in
     let at-create = at-if1 .before .before .before .before in
-    (at-create .create-endpoint .ensures, accepted-regrants _ _ (at-if1 .if1 .taken) (at-clear .clear-endpoint .ensures))
+    let regrants = accepted-regrants _ _ (at-if1 .if1 .taken) (at-clear .clear-endpoint .ensures) in
+    (at-create .create-endpoint .ensures, regrants)
 
 same-length-3 : tie.Need-same-length-3
 same-length-3 c = search needs

@@ -32,8 +32,8 @@ returns c =
     let at-number = at-if1 .before in
     let at-running = at-number .before in
     let at-start = at-running .before .before .before .before in (
-      nobody-calls (at-start .args .c) (at-running .running .ensures) (at-number .number .ensures) _ (at-if1 .if1 .taken)
-          (c .plain .ensures),
+      nobody-calls (at-start .args .c) (at-running .running .ensures) (at-number .number .ensures) _
+          (at-if1 .if1 .taken) (c .plain .ensures),
       refused-grants _ _ _ (at-start .pre .1) (omega (arith, ap (λ (a : Answer). a .code) (c .plain .ensures))),
     )
 

@@ -29,7 +29,8 @@ admit-requires c κs =
     let at-if1 = c .before .before in
     let at-in-range = at-if1 .before in
     let at-start = at-in-range .before .before .before in (
-      range-asked (at-start .args .c) (at-in-range .in-range .ensures) (not-false _ (at-if1 .if1 .left)) (at-start .pre .0),
+      range-asked (at-start .args .c) (at-in-range .in-range .ensures) (not-false _ (at-if1 .if1 .left))
+          (at-start .pre .0),
       at-start .pre .1,
     )
 

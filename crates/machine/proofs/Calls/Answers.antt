@@ -63,7 +63,8 @@ codes g s c = go (shape g s c)
     go (shaped (looked n k r l i x)) = inl l
 
 -- A call that is not accepted is refused, and leaves the state.
-pub refused-state : (g : Grants) (s : State) (c : Call) → isAccepted (step g s c .answer) ≡ false → step g s c .state ≡ s
+pub refused-state :
+    (g : Grants) (s : State) (c : Call) → isAccepted (step g s c .answer) ≡ false → step g s c .state ≡ s
 refused-state g s c h =
     let k = leb-false (step g s c .answer .code) 2 h in
     let l : 16 ≤ step g s c .answer .code =

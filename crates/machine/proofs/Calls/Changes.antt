@@ -135,7 +135,8 @@ module _ {u : ℕ} {C : ℕ → Type 0} {R : State → State → Type 0} (L : St
   closes-passes t e a s c =
       L .both (drop-passes t s c)
       (L .both (L .ends closing e (dropDebt t s))
-      (deleteFrom-passes e a _ (ap (λ (x : Endpoint). isAborting (x .abort)) (endAbort-entry (dropDebt t s) e closing))))
+      (deleteFrom-passes e a _
+      (ap (λ (x : Endpoint). isAborting (x .abort)) (endAbort-entry (dropDebt t s) e closing))))
 
   pub delete-passes : (x : Status) (t e a : ℕ) (s : State) → C t → R s (deleteAt x t e a s .state)
   unfolding deleteAt

@@ -31,7 +31,8 @@ use Rattle.machine.proofs.Calls.Changes.{delete-passes, abort-passes}
 pub record Suits (u : ℕ) (C : ℕ → Type 0) (R : State → State → Type 0) (s : State) (c : Call) : Type 0 where
   pub created : (t p : ℕ) → c ≡ CreateThread t p → isAbsent (s .threads t .place) ≡ true → u ≡ t → ⊥
   pub destroyed : (t : ℕ) → c ≡ DestroyThread t → isAbsent (s .threads t .place) ≡ false → u ≡ t → ⊥
-  pub opened : (e : ℕ) (x : Endpoint) → c ≡ CreateEndpoint e → s .endpoints e .status ≡ missing → R s (setEndpoint e x s)
+  pub opened :
+      (e : ℕ) (x : Endpoint) → c ≡ CreateEndpoint e → s .endpoints e .status ≡ missing → R s (setEndpoint e x s)
   pub ticked : (t n : ℕ) → c ≡ Tick → R s (setThread t (withTicks n (s .threads t)) s)
   pub caller : (t : ℕ) → s .runs ≡ some t → 7 ≤ numberOf c → numberOf c ≤ 12 → C t
 
@@ -56,7 +57,8 @@ module _ {u : ℕ} {C : ℕ → Type 0} {R : State → State → Type 0} (L : St
 
   receiveFrom-passes : (x : Option ℕ) (t e : ℕ) (s : State) → R s (receiveFrom x t e s .state)
   unfolding receiveFrom
-  receiveFrom-passes none t e s = chosen L (L .both (queue-passes L t e s) (block-passes L t _ 0 0 (joinEndpoint t e s)))
+  receiveFrom-passes none t e s =
+      chosen L (L .both (queue-passes L t e s) (block-passes L t _ 0 0 (joinEndpoint t e s)))
   receiveFrom-passes (some v) t e s = chosen L (wakeFrom-passes L e v 1 0 0 s)
 
   receive-passes : (x : Status) (t e : ℕ) (s : State) → C t → R s (receiveAt x t e s .state)
@@ -72,7 +74,8 @@ module _ {u : ℕ} {C : ℕ → Type 0} {R : State → State → Type 0} (L : St
   wait-passes : (x : Line) (t l : ℕ) (s : State) → C t → R s (waitAt x t l s .state)
   unfolding waitAt
   wait-passes quiet t l s c =
-      chosen L (L .both (drop-passes L t s c) (L .both (L .still (still-same (dropDebt t s))) (block-passes L t _ 0 0 _)))
+      chosen L
+      (L .both (drop-passes L t s c) (L .both (L .still (still-same (dropDebt t s))) (block-passes L t _ 0 0 _)))
   wait-passes pending t l s c = chosen L (L .both (drop-passes L t s c) (L .still (still-same (dropDebt t s))))
   wait-passes (awaited v) t l s c = same-passes L s
 
@@ -184,7 +187,8 @@ module _ {u : ℕ} {C : ℕ → Type 0} {R : State → State → Type 0} (L : St
   perform-passes (Delete e a) s S =
       caller-passes _ (λ t. delete t e a) s refl (λ t r. delete-passes L _ t e a s (S .caller t r (lit≤ tt) (lit≤ tt)))
   perform-passes (Abort e a b) s S =
-      caller-passes _ (λ t. abort t e a b) s refl (λ t r. abort-passes L _ t e a b s (S .caller t r (lit≤ tt) (lit≤ tt)))
+      caller-passes _ (λ t. abort t e a b) s refl
+      (λ t r. abort-passes L _ t e a b s (S .caller t r (lit≤ tt) (lit≤ tt)))
   perform-passes (Grant t e r b) s S = grant-passes _ e s
 
 -- What holds of the state as it was and of the state after the call is performed holds after the call.

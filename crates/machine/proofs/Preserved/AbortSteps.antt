@@ -14,8 +14,8 @@ use Rattle.machine.specs.Endpoints.{isSending, senders, underAbort, pend
 use Rattle.machine.specs.Endpoints.{leaveEndpoint, wakeFrom}
 use Rattle.machine.specs.Aborts.{hits, lookAt, look, afterLook, pendingAt, lookUpTo, join, begin}
 use Rattle.machine.specs.Sound.{Present, Queued, Stretch}
-use Rattle.machine.proofs.Lists.{put-all, put-same, clash, distinct-left, distinct-right, without-first, mem-keep}
-use Rattle.machine.proofs.Lists.{mem-only, only-keep, only-all}
+use Rattle.machine.proofs.Lists.{put-all, put-same, clash, distinct-left, distinct-right, without-first}
+use Rattle.machine.proofs.Lists.{mem-keep, mem-only, only-keep, only-all}
 use Rattle.machine.specs.Mid.{Mid}
 use Rattle.machine.proofs.Preserved.Statuses.{EntryFits, bearing, mid-debt, mid-entry}
 use Rattle.machine.proofs.Preserved.Debts.{works-one, abort-live, fits-some}

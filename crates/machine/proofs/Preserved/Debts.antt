@@ -7,8 +7,8 @@ use native.Mathlib.Omega.{arith}
 use lib.Dec.{eqb, leb}
 use borrow.Author.Tests.{eq-eqb, eqb-true, leb-true, leb-false}
 use Rattle.machine.specs.Lists.{pick, Mem}
-use Rattle.machine.specs.State.{State, sending, Debt, nothing, works, noted, Abort, Status, missing, live, closing}
-use Rattle.machine.specs.State.{Endpoint, setEndpoint}
+use Rattle.machine.specs.State.{State, sending, Debt, nothing, works, noted, Abort, Status, missing, live}
+use Rattle.machine.specs.State.{closing, Endpoint, setEndpoint}
 use Rattle.machine.specs.Endpoints.{isAborting, worksAt, dropDebt, informed, noteAll, note, endAbort}
 use Rattle.machine.specs.Sound.{DebtInRange, Stretch}
 use Rattle.machine.proofs.Preserved.Ready.{none-some, some-one}

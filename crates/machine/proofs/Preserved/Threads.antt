@@ -131,7 +131,8 @@ module _ (s : State) (t : ℕ) (M : Mid s) (free : s .threads t .debt ≡ nothin
   mid-gone :
       (runs : Option ℕ) (levels : ℕ → List ℕ) (ends : ℕ → Endpoint) (lines : ℕ → Line)
       → Levels (gone (s .threads) t) runs levels → ((e : ℕ) → Site (gone (s .threads) t) e (ends e))
-      → ((e : ℕ) → isAborting (ends e .abort) ≡ isAborting (s .endpoints e .abort)) → LinesFit (gone (s .threads) t) lines
+      → ((e : ℕ) → isAborting (ends e .abort) ≡ isAborting (s .endpoints e .abort))
+      → LinesFit (gone (s .threads) t) lines
       → Mid (record { threads = gone (s .threads) t; runs = runs; levels = levels; endpoints = ends; lines = lines })
   mid-gone runs levels ends lines L S aborting K =
       let P = parts M in

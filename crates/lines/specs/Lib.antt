@@ -1,0 +1,2 @@
+-- The inner step of an interrupt.
+pub mod Firing

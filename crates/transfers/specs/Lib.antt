@@ -1,0 +1,2 @@
+-- The inner steps of send and receive.
+pub mod Transfers
