@@ -1,10 +1,11 @@
 -- The claim bites: each machine that goes wrong makes it, or another statement, false on a short list of calls.
 use Prim.Native.Nat.{ℕ, _≤_}
-use mathlib.Core.Path.{_≡_, refl, ap}
+use mathlib.Core.Path.{_≡_, refl, ap, _∙_}
+use mathlib.Core.Option.{some}
 use mathlib.Core.Logic.{inl, inr}
 use mathlib.Core.List.{List, [], _∷_}
 use native.Mathlib.Omega.{arith}
-use lib.ListN.{length}
+use lib.ListN.{length, getElem?}
 use Rattle.calls.specs.declared.Answer.{Answer}
 use Rattle.calls.specs.declared.Call.{Call}
 use Rattle.calls.specs.declared.Call.the-variants.{CreateThread, DestroyThread, CreateEndpoint, Send, Receive}
@@ -14,7 +15,7 @@ use Rattle.machine.specs.State.{State}
 use Rattle.machine.specs.Results.{Result}
 use Rattle.machine.specs.Grants.{Grants, freshGrants}
 use Rattle.machine.specs.Machine.{step}
-use Rattle.history.specs.History.{Aborting, Ended, Delivery}
+use Rattle.history.specs.History.{Waiting, Aborting, Ended, Delivery}
 use Rattle.history.specs.Recorded.{runFrom, freshRun, historyBy}
 use Rattle.history.specs.Claim.{Claim}
 use Rattle.history.specs.Tied.{NotesFirst}
@@ -143,26 +144,26 @@ unfolding computed noter
 noter-fails = unended noted-work (historyBy noter noted-work) refl refl
 
 latest : Delivery
-latest = record { place = 9; endpoint = 0; badge = 7; message = 101; queue = 5 ∷ 6 ∷ []; handed = 6 ∷ [] }
+latest = record { place = 9; endpoint = 0; badge = 7; message = 101; queue = 5 ∷ 6 ∷ []; handed = 5 ∷ [] }
 
-later : (n : ℕ) → 6 ≡ n → n ≤ 5 → ⊥
-later n m l = omega (arith, m, l)
+not-the-later : some (Send 0 7 100) ≡ some (Send 0 7 101) → ⊥
+not-the-later h = let z : _≡_ {A = ℕ} 100 101 = cc in omega (arith, z)
 
 -- hands-over: of two messages the later is handed over.
 pub lifo-fails : Claim (two-lookups (Receive 0 ∷ [])) (historyBy lifo (two-lookups (Receive 0 ∷ []))) → ⊥
 unfolding computed lifo headOf latest
 lifo-fails C =
     let H = C .hands-over latest (inl refl) in
-    let m : 6 ≡ H .message = ap headOf (H .handed) in
-    later (H .message) m (H .longest 5 (inl refl))
+    let m : 5 ≡ H .message = ap headOf (H .handed) in
+    not-the-later (ap (getElem? (two-lookups (Receive 0 ∷ []))) m ∙ H .queued-by)
 
--- messages-sent: who came by a call 7 does not send.
+-- queues-are: who came by a call 7 does not send.
 abbrev one-lookup : List Call
 one-lookup = CreateThread 1 10 ∷ CreateEndpoint 0 ∷ Grant 1 0 1 7 ∷ Send 0 7 100 ∷ []
 
 pub hider-fails : Claim one-lookup (historyBy hider one-lookup) → ⊥
 unfolding computed hider
-hider-fails C = omega (arith, ap length (C .messages-sent 0))
+hider-fails C = omega (arith, ap (λ (w : Waiting). length (w .messages 0)) (C .queues-are _ (inl refl)))
 
 -- looks-at-waiters: the second call 12 counts a look at a thread that has gone.
 abbrev gone-lookup : List Call

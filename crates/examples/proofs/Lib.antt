@@ -4,3 +4,4 @@ pub mod Refuting
 pub mod Wrong
 pub mod Bites
 pub mod Unheard
+pub mod Losing

@@ -1,4 +1,6 @@
 -- Demand 3: the invariant of a list of calls and its history, call by call, and the theorem.
+pub mod Queued
+pub mod Handings
 pub mod Standing
 pub mod Owing
 pub mod Leaving
@@ -15,6 +17,7 @@ pub mod Deletions
 pub mod Handing
 pub mod Invariant
 pub mod Recording
+pub mod Keeping
 pub mod OtherCalls
 pub mod Breakable
 pub mod AbortOutcomes

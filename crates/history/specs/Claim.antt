@@ -13,10 +13,11 @@ use Rattle.calls.specs.declared.Call.{Call}
 use Rattle.calls.specs.declared.Call.the-variants.{CreateThread, DestroyThread, SetPriority, CreateEndpoint}
 use Rattle.calls.specs.declared.Call.the-variants.{Interrupt, Tick, Send, Receive, Yield, Wait, Delete, Abort}
 use Rattle.calls.specs.declared.Call.the-variants.{Grant}
-use Rattle.calls.specs.Calls.{numberOf}
 use Rattle.machine.specs.Lists.{pick, only, Mem, Distinct, Rising}
 use Rattle.calls.specs.Answers.{plain}
-use Rattle.history.specs.History.{History, Aborting, Ended, Delivery, AbortCall, NamedLook, Reported, isIn}
+use Rattle.history.specs.History.{History, Aborting, Ended, Delivery, AbortCall, NamedLook, Reported, Step, isIn}
+use Rattle.history.specs.History.{isSend}
+use Rattle.history.specs.Queues.{Message, Gives}
 use Rattle.history.specs.Walk.{reportOf}
 
 -- x stands in the list.
@@ -40,11 +41,6 @@ isSendOf e b (some (Wait l)) = false
 isSendOf e b (some (Delete f a)) = false
 isSendOf e b (some (Abort f a c)) = false
 isSendOf e b (some (Grant t f r c)) = false
-
--- The call is a call 7.
-abbrev pub isSend : Option Call → Bool
-isSend none = false
-isSend (some c) = eqb (numberOf c) 7
 
 -- The waiter w was queued at the abort's endpoint under its badge before the abort began.
 abbrev pub isOld : List Call → Aborting → ℕ → Bool
@@ -103,12 +99,24 @@ QueuesAt e c = ((b : ℕ) × (m : ℕ) × (c ≡ Send e b m)) ⊎ (c ≡ Receive
 abbrev pub WaitsOn : ℕ → Call → Type 0
 WaitsOn l c = c ≡ Wait l
 
+-- A handing by the call of this step: the call, its answer, and what it gives.
+pub record Handing (calls : List Call) (h : History) (x : Step) (t : ℕ) (n : Message) : Type 0 where
+  pub call : Call
+  pub made : getElem? calls (x .place) ≡ some call
+  pub answer : Answer
+  pub answered : getElem? (h .answers) (x .place) ≡ some answer
+  pub gives : Gives call answer (x .before) t n
+
 pub record Claim (calls : List Call) (h : History) : Type 0 where
   -- No call made after an abort had ended has handed a receiver a message queued at that endpoint under that badge
   -- before the abort began.
   pub no-old-message :
       (z : Ended) → In z (h .aborts .ended) → (d : Delivery) → In d (h .deliveries) → z .by < d .place
       → (w : ℕ) → Mem w (d .handed) → isOld calls (z .abort) w ≡ false
+  -- So too where a thread is handed the message in its block: it is the message of the call itself (handed-own).
+  pub no-old-handing :
+      (z : Ended) → In z (h .aborts .ended) → (x : Step) → In x (h .books .steps) → z .by < x .place
+      → (t : ℕ) (n : Message) → x .handed t ≡ some n → isOld calls (z .abort) (x .place) ≡ false
   -- No call 12 was answered 0 unless the abort it reports ended in it or earlier.
   pub reported-ended : (y : AbortCall) → In y (h .abortCalls) → y .code ≡ 0 → Reports h y
   -- Every abort has removed exactly those of the waiters it looked at that were queued there under its badge before
@@ -158,3 +166,15 @@ pub record Claim (calls : List Call) (h : History) : Type 0 where
       (i e : ℕ) (a : Answer) → getElem? calls i ≡ some (Receive e) → getElem? (h .answers) i ≡ some a → a .code ≡ 0
       → (d : Delivery) × In d (h .deliveries) × (d .place ≡ i) × (d .endpoint ≡ e) × (d .badge ≡ a .badge)
       × (d .message ≡ a .message)
+  -- "Queued by a call 7 answered 1 … until a receive takes it, an abort or delete removes its waiter or its thread is
+  -- destroyed": after every call the machine's queues and lines are those that the history keeps.
+  pub queues-are : (x : Step) → In x (h .books .steps) → x .found ≡ x .kept
+  -- A thread is handed a message where it waits by a call 7 answered 0 alone: that call's own, to who waited longest;
+  pub handed-own :
+      (x : Step) → In x (h .books .steps) → (t : ℕ) (n : Message) → x .handed t ≡ some n → Handing calls h x t n
+  -- and every call 7 answered 0 hands its own to somebody.
+  pub every-handing :
+      (i e b m : ℕ) (a : Answer) → getElem? calls i ≡ some (Send e b m) → getElem? (h .answers) i ≡ some a
+      → a .code ≡ 0
+      → (x : Step) × (t : ℕ) × In x (h .books .steps) × (x .place ≡ i)
+      × (x .handed t ≡ some (record { badge = b; message = m }))

@@ -1,17 +1,22 @@
 -- Lists of calls: what has come of a list of calls made in turn from fresh tables, told in the terms of the section
--- of that name. It reads each call, its answer, who ran when it was made, the queues and who sends in them
--- (waitingIn), and the log of looks. Of the machine's aborts, of their sets and pending waiters, and of what a
--- thread owes it reads nothing. Here stand what it has and the names of waiters; Walk, Outcomes and Recorded make it.
+-- of that name. It reads each call, its answer, who ran when it was made, and the log of looks; from these it keeps who
+-- waits where. Of the machine's aborts, of their sets and pending waiters, and of what a thread owes it reads nothing;
+-- the machine's queues and the threads' blocks it only sets beside its own, call by call (Step). Here stand what it has
+-- and the names of waiters; Walk, Outcomes and Recorded make it.
 use Prim.Native.Nat.{ℕ}
 use mathlib.Core.Bool.{Bool, true, false, _||_}
 use mathlib.Core.Option.{Option, none, some}
 use mathlib.Core.List.{List, [], _∷_, map}
 use lib.Dec.{eqb}
+use lib.ListN.{getElem?}
+use Rattle.calls.specs.Calls.{numberOf}
 use Rattle.calls.specs.declared.Answer.{Answer}
-use Rattle.machine.specs.Lists.{put}
+use Rattle.calls.specs.declared.Call.{Call}
+use Rattle.machine.specs.Lists.{put, only}
 use Rattle.machine.specs.State.{State, Line, quiet, pending, awaited}
 use Rattle.machine.specs.Endpoints.{senders}
 use Rattle.machine.specs.Results.{Look}
+use Rattle.history.specs.Queues.{Queues, Message}
 use Rattle.history.specs.Sorts.{Sort, other, destroys, waits, receives, yields, removes, looks}
 
 -- A waiter's name is the place in the list of its call 7, 8 or 10 answered 1, counted from 0. A message is named as
@@ -89,6 +94,22 @@ pub record Aborts : Type 0 where
   pub debts : Debts
   pub stray : List ℕ
 
+-- What a call did to who waits: its place, the queues that the history kept before it; who waits after it by the history,
+-- and by the machine's own queues; and whom the call handed what.
+pub record Step : Type 0 where
+  pub place : ℕ
+  pub before : Queues
+  pub kept : Waiting
+  pub found : Waiting
+  pub handed : ℕ → Option Message
+
+-- What the history keeps of who waits: the calls in order, the queues that they make, and each call's doing, the latest
+-- first.
+pub record Books : Type 0 where
+  pub calls : List Call
+  pub queued : Queues
+  pub steps : List Step
+
 pub record History : Type 0 where
   -- the number of calls made, which is the place of the next
   pub now : ℕ
@@ -96,6 +117,7 @@ pub record History : Type 0 where
   pub answers : List Answer
   -- the name of the waiter that each thread is, if it waits
   pub since : ℕ → ℕ
+  pub books : Books
   pub waiting : Waiting
   pub aborts : Aborts
   -- the latest first
@@ -122,6 +144,24 @@ unfoldable pub named : Bool → Option ℕ → ℕ → (ℕ → ℕ) → ℕ →
 named false caller n since = since
 named true none n since = since
 named true (some t) n since = put since t n
+
+-- The call is a call 7.
+abbrev pub isSend : Option Call → Bool
+isSend none = false
+isSend (some c) = eqb (numberOf c) 7
+
+abbrev pub nameOf : (ℕ → ℕ) → Option ℕ → Option ℕ
+nameOf since none = none
+nameOf since (some t) = some (since t)
+
+-- Who waits, by name: a message is queued by a call 7.
+abbrev pub waitingBy : (ℕ → ℕ) → List Call → Queues → Waiting
+waitingBy since calls k =
+    record {
+      queues = λ e. map since (k .queues e);
+      messages = λ e. only (λ w. isSend (getElem? calls w)) (map since (k .queues e));
+      lines = λ l. nameOf since (k .lines l);
+    }
 
 abbrev pub lineName : (ℕ → ℕ) → Line → Option ℕ
 lineName since quiet = none

@@ -1,4 +1,5 @@
 -- The history of a list of calls, and what is claimed of it.
+pub mod Queues
 pub mod Sorts
 pub mod History
 pub mod Walk

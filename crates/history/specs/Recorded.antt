@@ -13,7 +13,8 @@ use Rattle.machine.specs.Grants.{Grants, grantsAfter, freshGrants}
 use Rattle.machine.specs.Machine.{step}
 use Rattle.history.specs.Sorts.{Sort, other, destroys, waits, receives, yields, removes, looks, sortOf}
 use Rattle.history.specs.History.{Reported, Delivery, Waiting, AbortCall, History, isIn, queues?}
-use Rattle.history.specs.History.{named, waitingIn, namedLooks}
+use Rattle.history.specs.History.{Step, Books, named, waitingBy, waitingIn, namedLooks}
+use Rattle.history.specs.Queues.{Queues, nobodyQueued, queuesAfter, handedTo}
 use Rattle.history.specs.Outcomes.{Outcome, outcomeIf}
 
 -- Deliveries and calls 12
@@ -62,24 +63,57 @@ abortCallsOf (looks e a b) r w x h =
 
 -- The list
 
--- The history with one more call of this sort, by the names after it, what it came to and its result.
-unfoldable pub recorded : (ℕ → ℕ) → Outcome → Sort → Result → History → History
-recorded since o k r h =
+-- The history with one more call of this sort, by the names, who waits and the books after it, what it came to and its
+-- result.
+unfoldable pub recorded : (ℕ → ℕ) → Waiting → Books → Outcome → Sort → Result → History → History
+recorded since w b o k r h =
     record {
       now = suc (h .now);
       answers = h .answers ++ (r .answer ∷ []);
       since = since;
-      waiting = waitingIn since (r .state);
+      books = b;
+      waiting = w;
       aborts = o .aborts;
-      deliveries = delivered k r (waitingIn since (r .state)) h;
-      abortCalls = abortCallsOf k r (waitingIn since (r .state)) (o .reports) h;
+      deliveries = delivered k r w h;
+      abortCalls = abortCallsOf k r w (o .reports) h;
+    }
+
+abbrev pub namesAfter : Call → State → Result → History → ℕ → ℕ
+namesAfter c s r h = named (queues? (sortOf c) (r .answer .code)) (s .runs) (h .now) (h .since)
+
+-- The queues change by the call, who ran, its answer and its looks.
+abbrev pub queuedAfter : Call → State → Result → History → Queues
+queuedAfter c s r h = queuesAfter c (s .runs) (r .answer) (r .looks) (h .books .queued)
+
+abbrev pub waitingAfter : Call → State → Result → History → Waiting
+waitingAfter c s r h = waitingBy (namesAfter c s r h) (h .books .calls ++ (c ∷ [])) (queuedAfter c s r h)
+
+abbrev pub stepOf : Call → State → Result → History → Step
+stepOf c s r h =
+    record {
+      place = h .now;
+      before = h .books .queued;
+      kept = waitingAfter c s r h;
+      found = waitingIn (namesAfter c s r h) (r .state);
+      handed = λ t. handedTo (s .threads t) (r .state .threads t);
+    }
+
+abbrev pub booksAfter : Call → State → Result → History → Books
+booksAfter c s r h =
+    record {
+      calls = h .books .calls ++ (c ∷ []);
+      queued = queuedAfter c s r h;
+      steps = stepOf c s r h ∷ h .books .steps;
     }
 
 -- The history with one more call: the state it found and the result it had.
 unfoldable pub told : Call → State → Result → History → History
 told c s r h =
-    recorded (named (queues? (sortOf c) (r .answer .code)) (s .runs) (h .now) (h .since))
+    recorded (namesAfter c s r h) (waitingAfter c s r h) (booksAfter c s r h)
     (outcomeIf (isAccepted (r .answer)) (sortOf c) (s .runs) r h) (sortOf c) r h
+
+abbrev pub freshBooks : Books
+freshBooks = record { calls = []; queued = nobodyQueued; steps = [] }
 
 abbrev pub freshHistory : History
 freshHistory =
@@ -87,7 +121,8 @@ freshHistory =
       now = 0;
       answers = [];
       since = λ t. 0;
-      waiting = waitingIn (λ t. 0) freshState;
+      books = freshBooks;
+      waiting = waitingBy (λ t. 0) [] nobodyQueued;
       aborts =
           record {
             standing = λ e. none;

@@ -24,7 +24,7 @@ use Rattle.machine.specs.Grants.{Grants, barred}
 use Rattle.machine.specs.Machine.{byCaller, perform, performUnless, performIf, step}
 use Rattle.machine.specs.Sound.{Sound}
 use Rattle.history.specs.Sorts.{looks}
-use Rattle.history.specs.History.{Aborting, Ended, Waiting, History, namedLooks, lineName, waitingIn}
+use Rattle.history.specs.History.{Books, Aborting, Ended, Waiting, History, namedLooks, lineName, waitingIn}
 use Rattle.history.specs.Walk.{letsGo, reportOf, reportIf, walk}
 use Rattle.history.specs.Outcomes.{Outcome, apart, unchanged, walkerOf, outcomeIf}
 use Rattle.history.specs.Recorded.{recorded, told}
@@ -46,7 +46,7 @@ use Rattle.history.proofs.Demand3.OwnAbort.{Ran}
 use Rattle.history.proofs.Demand3.Joining.{ran}
 use Rattle.machine.proofs.Preserved.Steps.{step-sound}
 use Rattle.history.proofs.Demand3.Invariant.{stageOf, CallClaims, Inv}
-use Rattle.history.proofs.Demand3.Recording.{abortCallOf}
+use Rattle.history.proofs.Demand3.Recording.{recordedSeen, toldSeen, abortCallOf}
 use Rattle.history.proofs.Demand3.OtherCalls.{fits, idle-core}
 use Rattle.history.proofs.Demand3.Breakable.{next}
 use Rattle.history.proofs.Demand3.AbortOutcomes.{note-is, Noted, noted-of, outcome-noted, outcome-walks, goneOf}
@@ -88,15 +88,15 @@ frame-rising since e s r l F R f = go (same? f e)
 range12 : (e a b : ℕ) → inRange (Abort e a b) ≡ true → (1 ≤ a) × (b < 2 ^ 28)
 range12 e a b p = let k = bounds (Abort e a b) p in (k .1 .0, k .2)
 
-module _ (past : List Call) (s : State) (h : History) (I : Inv past s h) (e a b : ℕ) where
+module _ (bk : Books) (past : List Call) (s : State) (h : History) (I : Inv past s h) (e a b : ℕ) where
   -- The record of a call 12, from what it left of the queues.
   called :
       (r : Result) (o : Outcome) → Frame (h .since) e s (r .state) (r .looks)
       → r .answer ≡ counted (r .answer .code) (length (r .looks))
       → (r .answer .code ≡ 0
-      → Reports (recorded (h .since) o (looks e a b) r h)
+      → Reports (recordedSeen bk (h .since) o (looks e a b) r h)
       (abortCallOf e a b r (waitingIn (h .since) (r .state)) (o .reports) h))
-      → CallClaims (recorded (h .since) o (looks e a b) r h)
+      → CallClaims (recordedSeen bk (h .since) o (looks e a b) r h)
       (abortCallOf e a b r (waitingIn (h .since) (r .state)) (o .reports) h)
   unfolding recorded
   called r o F answer reports =
@@ -122,13 +122,13 @@ module _ (past : List Call) (s : State) (h : History) (I : Inv past s h) (e a b 
 
   refused12 :
       (n : ℕ) → isAccepted (plain (suc n)) ≡ false
-      → Inv (past ++ (Abort e a b ∷ [])) s (told (Abort e a b) s (refuse (suc n) s) h)
+      → Inv (past ++ (Abort e a b ∷ [])) s (toldSeen bk (Abort e a b) s (refuse (suc n) s) h)
   unfolding outcomeIf
   refused12 n p =
-      next past s h I (Abort e a b) (refuse (suc n) s) (unchanged (refuse (suc n) s) h) refl (rw p)
+      next bk past s h I (Abort e a b) (refuse (suc n) s) (unchanged (refuse (suc n) s) h) refl (rw p)
       (record {
         sound = I .sound;
-        core = idle-core past s h I (Abort e a b) (refuse (suc n) s) (leaves-self s);
+        core = idle-core bk past s h I (Abort e a b) (refuse (suc n) s) (leaves-self s);
         tied = I .tied;
         rising = I .rising;
         stray = I .stray;
@@ -145,13 +145,13 @@ module _ (past : List Call) (s : State) (h : History) (I : Inv past s h) (e a b 
       (t : ℕ) → s .runs ≡ some t → s .threads t .debt ≡ noted e b
       → Sound (done (dropDebt t s) .state)
       → Inv (past ++ (Abort e a b ∷ [])) (done (dropDebt t s) .state)
-      (told (Abort e a b) s (done (dropDebt t s)) h)
+      (toldSeen bk (Abort e a b) s (done (dropDebt t s)) h)
   unfolding recorded
   noted12 t runs debt S =
-      next past s h I (Abort e a b) (done q) o refl outcome
+      next bk past s h I (Abort e a b) (done q) o refl outcome
       (record {
         sound = S;
-        core = idle-core past s h I (Abort e a b) (done q) (leaves-choose s q (leaves-dropDebt t s));
+        core = idle-core bk past s h I (Abort e a b) (done q) (leaves-choose s q (leaves-dropDebt t s));
         tied = tied-still (still-choose q q (still-self q)) (λ z i. i) (tied-drop s (I .tied) t);
         rising = frame-rising (h .since) e s (done q .state) [] frame (I .rising);
         stray = I .stray;
@@ -175,7 +175,7 @@ module _ (past : List Call) (s : State) (h : History) (I : Inv past s h) (e a b 
 
       reports :
           _≡_ {A = ℕ} 0 0
-          → Reports (recorded (h .since) o (looks e a b) (done q) h)
+          → Reports (recordedSeen bk (h .since) o (looks e a b) (done q) h)
           (abortCallOf e a b (done q) (waitingIn (h .since) (done q .state)) (o .reports) h)
       reports z =
           let F = I .tied .heard t (N .of) (N .is) in
@@ -204,14 +204,14 @@ module _ (past : List Call) (s : State) (h : History) (I : Inv past s h) (e a b 
       (t : ℕ) → s .runs ≡ some t → hasNote e b (s .threads t .debt) ≡ false → s .endpoints e .status ≡ live
       → inRange (Abort e a b) ≡ true → Sound (abortOpen t e a b (dropDebt t s) .state)
       → Inv (past ++ (Abort e a b ∷ [])) (abortOpen t e a b (dropDebt t s) .state)
-      (told (Abort e a b) s (abortOpen t e a b (dropDebt t s)) h)
+      (toldSeen bk (Abort e a b) s (abortOpen t e a b (dropDebt t s)) h)
   unfolding recorded
   works12 t runs unnoted lives range S =
-      next past s h I (Abort e a b) r o refl outcome
+      next bk past s h I (Abort e a b) r o refl outcome
       (record {
         sound = S;
         core =
-            core-grow (within (stageOf past h)) (Abort e a b) (r .answer) (fits past s h I) core;
+            core-grow (within (stageOf past h)) (Abort e a b) (r .answer) (fits bk past s h I) core;
         tied = subst (λ (x : State). Tied (x .threads) (R .gone .debts) (R .gone .ended))
             (sym (R .chosen)) (tied-still (still-choose (R .state) (R .state) (still-self (R .state))) (λ z i. i)
             (R .tied));
@@ -271,7 +271,7 @@ module _ (past : List Call) (s : State) (h : History) (I : Inv past s h) (e a b 
 
       reports :
           r .answer .code ≡ 0
-          → Reports (recorded (h .since) o (looks e a b) r h)
+          → Reports (recordedSeen bk (h .since) o (looks e a b) r h)
           (abortCallOf e a b r (waitingIn (h .since) (r .state)) (o .reports) h)
       reports z =
           let F = R .reports z in
@@ -287,7 +287,8 @@ module _ (past : List Call) (s : State) (h : History) (I : Inv past s h) (e a b 
       (t : ℕ) → s .runs ≡ some t → hasNote e b (s .threads t .debt) ≡ false → inRange (Abort e a b) ≡ true
       → (x : Status)
       → s .endpoints e .status ≡ x → Sound (abortAt x t e a b s .state)
-      → Inv (past ++ (Abort e a b ∷ [])) (abortAt x t e a b s .state) (told (Abort e a b) s (abortAt x t e a b s) h)
+      → Inv (past ++ (Abort e a b ∷ [])) (abortAt x t e a b s .state)
+      (toldSeen bk (Abort e a b) s (abortAt x t e a b s) h)
   unfolding abortAt
   at12 t runs unnoted range missing p S = refused12 22 refl
   at12 t runs unnoted range closing p S = refused12 24 refl
@@ -303,7 +304,7 @@ module _ (past : List Call) (s : State) (h : History) (I : Inv past s h) (e a b 
   pub advance12 :
       (g : Grants)
       → Inv (past ++ (Abort e a b ∷ [])) (step g s (Abort e a b) .state)
-      (told (Abort e a b) s (step g s (Abort e a b)) h)
+      (toldSeen bk (Abort e a b) s (step g s (Abort e a b)) h)
   unfolding step performIf performUnless perform abort abortUnless
   advance12 g = go (inRange (Abort e a b)) refl (step-sound g s (Abort e a b) (I .sound))
     where
@@ -311,7 +312,7 @@ module _ (past : List Call) (s : State) (h : History) (I : Inv past s h) (e a b 
           (t : ℕ) → s .runs ≡ some t → inRange (Abort e a b) ≡ true → (x : Bool)
           → hasNote e b (s .threads t .debt) ≡ x → Sound (abortUnless x t e a b s .state)
           → Inv (past ++ (Abort e a b ∷ [])) (abortUnless x t e a b s .state)
-          (told (Abort e a b) s (abortUnless x t e a b s) h)
+          (toldSeen bk (Abort e a b) s (abortUnless x t e a b s) h)
       noted-or-not t runs range true p S = noted12 t runs (noted-is (s .threads t .debt) p) S
       noted-or-not t runs range false p S = at12 t runs p range (s .endpoints e .status) refl S
 
@@ -319,18 +320,18 @@ module _ (past : List Call) (s : State) (h : History) (I : Inv past s h) (e a b 
           inRange (Abort e a b) ≡ true → (k : Option ℕ) → s .runs ≡ k
           → Sound (byCaller k (λ t. abort t e a b) s .state)
           → Inv (past ++ (Abort e a b ∷ [])) (byCaller k (λ t. abort t e a b) s .state)
-          (told (Abort e a b) s (byCaller k (λ t. abort t e a b) s) h)
+          (toldSeen bk (Abort e a b) s (byCaller k (λ t. abort t e a b) s) h)
       by range none p S = refused12 19 refl
       by range (some t) p S = noted-or-not t p range (hasNote e b (s .threads t .debt)) refl S
 
       unless : inRange (Abort e a b) ≡ true → (x : Bool) → Sound (performUnless x (Abort e a b) s .state)
           → Inv (past ++ (Abort e a b ∷ [])) (performUnless x (Abort e a b) s .state)
-          (told (Abort e a b) s (performUnless x (Abort e a b) s) h)
+          (toldSeen bk (Abort e a b) s (performUnless x (Abort e a b) s) h)
       unless range true S = refused12 28 refl
       unless range false S = by range (s .runs) refl S
 
       go : (x : Bool) → inRange (Abort e a b) ≡ x → Sound (performIf x g (Abort e a b) s .state)
           → Inv (past ++ (Abort e a b ∷ [])) (performIf x g (Abort e a b) s .state)
-          (told (Abort e a b) s (performIf x g (Abort e a b) s) h)
+          (toldSeen bk (Abort e a b) s (performIf x g (Abort e a b) s) h)
       go true p S = unless p (barred (s .runs) g (Abort e a b)) S
       go false p S = refused12 18 refl

@@ -66,7 +66,12 @@ core-same abort status C =
       over =
           λ z i.
           let O = C .over z i in
-          record { exact = O .exact; by = O .by; clean = λ t e p l. O .clean t e p (sym (status e) ∙ l) };
+          record {
+            exact = O .exact;
+            by = O .by;
+            order = O .order;
+            clean = λ t e p l. O .clean t e p (sym (status e) ∙ l);
+          };
     }
 
 -- The new waiter t has a name that no abort has heard of.
@@ -122,6 +127,7 @@ module _ (stage : Stage) (fits : stage .until ≤ suc (length (stage .past))) (f
       record {
         exact = E;
         by = O .by;
+        order = O .order;
         clean =
             put-all
             (λ u y. (e : ℕ) → y .place ≡ sending e → endpoints e .status ≡ live

@@ -19,7 +19,7 @@ use Rattle.machine.specs.Grants.{Grants, barred}
 use Rattle.machine.specs.Machine.{byCaller, perform, performUnless, performIf, step}
 use Rattle.machine.specs.Sound.{Sound}
 use Rattle.history.specs.Sorts.{removes, sortOf}
-use Rattle.history.specs.History.{Aborting, Ended, History, queues?, named}
+use Rattle.history.specs.History.{Books, Aborting, Ended, History, queues?, named}
 use Rattle.history.specs.Walk.{letsGo}
 use Rattle.history.specs.Outcomes.{Outcome, unchanged, deletes, outcomeOf, outcomeIf}
 use Rattle.history.specs.Recorded.{recorded, told}
@@ -31,37 +31,37 @@ use Rattle.history.proofs.Demand3.Deletions.{delete-accepted, delete-lo
 use Rattle.history.proofs.Demand3.Deletions.{tied-none, delete-some, tied-some}
 use Rattle.machine.proofs.Preserved.Steps.{step-sound}
 use Rattle.history.proofs.Demand3.Invariant.{stageOf, Inv}
-use Rattle.history.proofs.Demand3.Recording.{Goes, goes}
+use Rattle.history.proofs.Demand3.Recording.{recordedSeen, toldSeen, Goes, goes}
 use Rattle.history.proofs.Demand3.OtherCalls.{fits, idle-core, idle-rising}
 
-module _ (past : List Call) (s : State) (h : History) (I : Inv past s h) where
+module _ (bk : Books) (past : List Call) (s : State) (h : History) (I : Inv past s h) where
   -- The history of a call that names no waiter, by what it comes to for the aborts.
   told-as :
       (c : Call) (r : Result) (o : Outcome) → queues? (sortOf c) (r .answer .code) ≡ false
       → outcomeIf (isAccepted (r .answer)) (sortOf c) (s .runs) r h ≡ o
-      → told c s r h ≡ recorded (h .since) o (sortOf c) r h
-  unfolding told named
+      → toldSeen bk c s r h ≡ recordedSeen bk (h .since) o (sortOf c) r h
+  unfolding named
   told-as c r o p q = rw (p, q)
 
   pub next :
       (c : Call) (r : Result) (o : Outcome) → queues? (sortOf c) (r .answer .code) ≡ false
-      → outcomeIf (isAccepted (r .answer)) (sortOf c) (s .runs) r h ≡ o → Goes past s h I c r (h .since) o
-      → Inv (past ++ (c ∷ [])) (r .state) (told c s r h)
+      → outcomeIf (isAccepted (r .answer)) (sortOf c) (s .runs) r h ≡ o → Goes bk past s h I c r (h .since) o
+      → Inv (past ++ (c ∷ [])) (r .state) (toldSeen bk c s r h)
   next c r o p q G =
-      subst (Inv (past ++ (c ∷ [])) (r .state)) (sym (told-as c r o p q)) (goes past s h I c r (h .since) o G)
+      subst (Inv (past ++ (c ∷ [])) (r .state)) (sym (told-as c r o p q)) (goes bk past s h I c r (h .since) o G)
 
   -- Call 11
 
   module _ (e a : ℕ) where
     refused11 :
         (n : ℕ) → isAccepted (plain n) ≡ false
-        → Inv (past ++ (Delete e a ∷ [])) s (told (Delete e a) s (refuse n s) h)
+        → Inv (past ++ (Delete e a ∷ [])) s (toldSeen bk (Delete e a) s (refuse n s) h)
     unfolding outcomeIf
     refused11 n p =
         next (Delete e a) (refuse n s) (unchanged (refuse n s) h) refl (rw p)
         (record {
           sound = I .sound;
-          core = idle-core past s h I (Delete e a) (refuse n s) (leaves-self s);
+          core = idle-core bk past s h I (Delete e a) (refuse n s) (leaves-self s);
           tied = I .tied;
           rising = I .rising;
           stray = I .stray;
@@ -83,18 +83,18 @@ module _ (past : List Call) (s : State) (h : History) (I : Inv past s h) where
 
       rising : (f : ℕ) → Rising (map (h .since) (r .state .endpoints f .waiters))
       rising =
-          idle-rising past s h I (r .state)
+          idle-rising bk past s h I (r .state)
           (delete-queues (stageOf past h) t e a s (sound-mid (I .sound)) (I .core) (I .tied))
 
       deletes-on :
           (k : Option Aborting) → h .aborts .standing e ≡ k
-          → Goes past s h I (Delete e a) r (h .since) (deletes k e (some t) r h)
+          → Goes bk past s h I (Delete e a) r (h .since) (deletes k e (some t) r h)
       unfolding deletes
       deletes-on none p =
           record {
             sound = S;
             core =
-                core-grow (within (stageOf past h)) (Delete e a) _ (fits past s h I)
+                core-grow (within (stageOf past h)) (Delete e a) _ (fits bk past s h I)
                 (delete-none (stageOf past h) t e a s (sound-mid (I .sound)) (I .core) (I .tied) p);
             tied =
                 tied-none (stageOf past h) t e a s (sound-mid (I .sound)) (I .core) (I .tied) p;
@@ -109,7 +109,7 @@ module _ (past : List Call) (s : State) (h : History) (I : Inv past s h) where
           record {
             sound = S;
             core =
-                core-grow (within (stageOf past h)) (Delete e a) _ (fits past s h I)
+                core-grow (within (stageOf past h)) (Delete e a) _ (fits bk past s h I)
                 (delete-some (stageOf past h) t e a s (sound-mid (I .sound)) (I .core) (I .tied) x p);
             tied =
                 tied-some (stageOf past h) t e a s (sound-mid (I .sound)) (I .core) (I .tied) x p;
@@ -137,14 +137,15 @@ module _ (past : List Call) (s : State) (h : History) (I : Inv past s h) where
           (delete-accepted e a (endAbort closing e (dropDebt t s)))
           ∙ ap (λ (o : Option ℕ). deletes (h .aborts .standing e) e o r h) runs
 
-      deletes-next : Inv (past ++ (Delete e a ∷ [])) (r .state) (told (Delete e a) s r h)
+      deletes-next : Inv (past ++ (Delete e a ∷ [])) (r .state) (toldSeen bk (Delete e a) s r h)
       deletes-next =
           next (Delete e a) r (deletes (h .aborts .standing e) e (some t) r h) refl outcome11
           (deletes-on (h .aborts .standing e) refl)
 
     delete-at :
         (t : ℕ) → s .runs ≡ some t → (x : Status) → Sound (deleteAt x t e a s .state)
-        → Inv (past ++ (Delete e a ∷ [])) (deleteAt x t e a s .state) (told (Delete e a) s (deleteAt x t e a s) h)
+        → Inv (past ++ (Delete e a ∷ [])) (deleteAt x t e a s .state)
+        (toldSeen bk (Delete e a) s (deleteAt x t e a s) h)
     unfolding deleteAt
     delete-at t runs missing S = refused11 23 refl
     delete-at t runs live S = deletes-next t runs S
@@ -152,24 +153,25 @@ module _ (past : List Call) (s : State) (h : History) (I : Inv past s h) where
 
     pub advance11 :
         (g : Grants)
-        → Inv (past ++ (Delete e a ∷ [])) (step g s (Delete e a) .state) (told (Delete e a) s (step g s (Delete e a)) h)
+        → Inv (past ++ (Delete e a ∷ [])) (step g s (Delete e a) .state)
+        (toldSeen bk (Delete e a) s (step g s (Delete e a)) h)
     unfolding step performIf performUnless perform delete
     advance11 g = go (inRange (Delete e a)) (step-sound g s (Delete e a) (I .sound))
       where
         by : (k : Option ℕ) → s .runs ≡ k → Sound (byCaller k (λ t. delete t e a) s .state)
             → Inv (past ++ (Delete e a ∷ [])) (byCaller k (λ t. delete t e a) s .state)
-            (told (Delete e a) s (byCaller k (λ t. delete t e a) s) h)
+            (toldSeen bk (Delete e a) s (byCaller k (λ t. delete t e a) s) h)
         by none p S = refused11 20 refl
         by (some t) p S = delete-at t p (s .endpoints e .status) S
 
         unless : (b : Bool) → Sound (performUnless b (Delete e a) s .state)
             → Inv (past ++ (Delete e a ∷ [])) (performUnless b (Delete e a) s .state)
-            (told (Delete e a) s (performUnless b (Delete e a) s) h)
+            (toldSeen bk (Delete e a) s (performUnless b (Delete e a) s) h)
         unless true S = refused11 29 refl
         unless false S = by (s .runs) refl S
 
         go : (b : Bool) → Sound (performIf b g (Delete e a) s .state)
             → Inv (past ++ (Delete e a ∷ [])) (performIf b g (Delete e a) s .state)
-            (told (Delete e a) s (performIf b g (Delete e a) s) h)
+            (toldSeen bk (Delete e a) s (performIf b g (Delete e a) s) h)
         go true S = unless (barred (s .runs) g (Delete e a)) S
         go false S = refused11 19 refl

@@ -186,11 +186,12 @@ module _
       over none h B = absurd B
       over (some k) h B =
           core-end (within stage) q dropped-core e (mid-dropDebt s t M) closing k x place
-          _ h told (omega arith) (λ i. absurd (closing-live refl i)) (λ i. absurd (closing-live refl i))
+          _ h told (omega arith) (omega arith) (λ i. absurd (closing-live refl i)) (λ i. absurd (closing-live refl i))
 
   pub tied-some :
       (x : Aborting) → standing e ≡ some x
-      → Tied (r .threads) (hears e (reportOf x) (letsGo t owed)) (record { abort = x; by = place; members = letsGo t owed .members e } ∷ d)
+      → Tied (r .threads) (hears e (reportOf x) (letsGo t owed))
+      (record { abort = x; by = place; members = letsGo t owed .members e } ∷ d)
   tied-some x told = go (q .endpoints e .abort) refl (rw told at (dropped-core .stands e))
     where
       go : (k : Option Abort) → q .endpoints e .abort ≡ k → Both (within stage) (q .threads) e k (some x)
@@ -199,4 +200,5 @@ module _
       go none h B = absurd B
       go (some k) h B =
           tied-still (still-delete e a (endAbort closing e q)) (λ z i. i)
-          (tied-end q dropped-tied e closing k h x (B .endpoint) (B .badge) (record { abort = x; by = place; members = letsGo t owed .members e }) refl)
+          (tied-end q dropped-tied e closing k h x (B .endpoint) (B .badge)
+          (record { abort = x; by = place; members = letsGo t owed .members e }) refl)

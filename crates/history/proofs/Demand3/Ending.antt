@@ -1,5 +1,5 @@
 -- The beginning and the end of an abort, in the machine and in the history at once, keep Core.
-use Prim.Native.Nat.{ℕ, _≤_, _<_}
+use Prim.Native.Nat.{ℕ, suc, _≤_, _<_}
 use mathlib.Core.Path.{_≡_, refl, sym, _∙_, ap, subst}
 use mathlib.Core.Logic.{_⊎_, inl, inr}
 use mathlib.Core.Bool.{Bool, true, false, _&&_}
@@ -85,7 +85,8 @@ module _
   module _
       (M : Mid s) (status : Status) (a : Abort) (z : Aborting) (by : ℕ) (members : List ℕ)
       (was : s .endpoints e .abort ≡ some a)
-      (told : standing e ≡ some z) (soon : by < stage .until) (spent : status ≡ live → a .pending ≡ [])
+      (told : standing e ≡ some z) (soon : by < stage .until) (latest : stage .until ≤ suc by)
+      (spent : status ≡ live → a .pending ≡ [])
       (lives : status ≡ live → s .endpoints e .status ≡ live) where
     abbrev closed : Endpoint
     closed = record { status = status; waiters = s .endpoints e .waiters; abort = none }
@@ -134,6 +135,7 @@ module _
             (record {
               exact = stood-exact stage (s .threads) e a z end-stood;
               by = soon;
+              order = omega (arith, end-stood .began, latest);
               clean = λ t f p. end-clean t f (places t f p);
             }))
         new y (inr i) = inl i

@@ -9,22 +9,24 @@ use native.Mathlib.Omega.{arith}
 use lib.ListN.{length, getElem?}
 use Rattle.calls.specs.declared.Answer.{Answer}
 use Rattle.calls.specs.declared.Call.{Call}
-use Rattle.calls.specs.declared.Call.the-variants.{Receive, Wait, Abort}
+use Rattle.calls.specs.declared.Call.the-variants.{Send, Receive, Wait, Abort}
 use Rattle.machine.specs.Lists.{only, Mem, Distinct, Rising}
 use Rattle.machine.specs.State.{State, Place, Abort as Standing, Line, quiet, pending, awaited}
 use Rattle.machine.specs.Endpoints.{isSending}
 use Rattle.calls.specs.Answers.{plain}
 use Rattle.machine.specs.Sound.{Sound, Queued}
 use Rattle.history.specs.History.{Aborting, Ended, Delivery, NamedLook, AbortCall, Waiting, History, lineName}
-use Rattle.history.specs.History.{waitingIn}
-use Rattle.history.specs.Claim.{In, IsAbort, isSend, isOld, removedBy, less, Reports, Hands, Named, QueuesAt}
+use Rattle.history.specs.History.{Step, waitingIn, isSend}
+use Rattle.history.specs.Queues.{Message, queuesIn}
+use Rattle.history.specs.Claim.{Handing}
+use Rattle.history.specs.Claim.{In, IsAbort, isOld, removedBy, less, Reports, Hands, Named, QueuesAt}
 use Rattle.history.specs.Claim.{WaitsOn, Claim}
 use Rattle.history.specs.Tied.{Tied}
 use Rattle.history.proofs.Sublists.{Apart, map-mem, map-only, distinct-map, entry-grow}
 use Rattle.machine.proofs.Preserved.Ready.{none-some}
 use Rattle.history.proofs.Demand3.Standing.{Stage, waiterCall, callMade, sends-call, LooksExact, Both, Core}
 use Rattle.history.proofs.Demand3.Standing.{stood-exact}
-use Rattle.history.proofs.Demand3.Standing.{isOld-grow}
+use Rattle.history.proofs.Demand3.Standing.{isOld-grow, not-old}
 use Rattle.history.proofs.Demand3.EachLook.{queued-call}
 
 -- A delivery: what the claim says of it, made before now.
@@ -138,6 +140,26 @@ module _ (past : List Call) (c : Call) (a : Answer) (h k : History) (longer : k 
 
 -- The claim
 
+-- What holds of the books.
+
+-- A step: the machine's queues are the history's, and what it hands is its own.
+pub record StepClaims (past : List Call) (h : History) (x : Step) : Type 0 where
+  pub same : x .found ≡ x .kept
+  pub hands : (t : ℕ) (n : Message) → x .handed t ≡ some n → Handing past h x t n
+
+abbrev pub Recorded7 : History → ℕ → ℕ → ℕ → Type 0
+Recorded7 h i b m =
+    (x : Step) × (t : ℕ) × In x (h .books .steps) × (x .place ≡ i)
+    × (x .handed t ≡ some (record { badge = b; message = m }))
+
+pub record Kept (past : List Call) (s : State) (h : History) : Type 0 where
+  pub calls : h .books .calls ≡ past
+  pub queued : h .books .queued ≡ queuesIn s
+  pub steps : (x : Step) → In x (h .books .steps) → StepClaims past h x
+  pub recorded7 :
+      (i e b m : ℕ) (a : Answer) → getElem? past i ≡ some (Send e b m) → getElem? (h .answers) i ≡ some a
+      → a .code ≡ 0 → Recorded7 h i b m
+
 module _ (past : List Call) (s : State) (h : History) (I : Inv past s h) where
   exact : (x : Aborting) → IsAbort h x → LooksExact past (h .now) x
   exact x (inl (e, p)) = go (s .endpoints e .abort) (rw p at (I .core .stands e))
@@ -170,7 +192,7 @@ module _ (past : List Call) (s : State) (h : History) (I : Inv past s h) where
           named t w (Receive e) (QueuesAt e)
           (ap (λ (q : Place). waiterCall q (s .threads t .badge) (s .threads t .message)) p) i (inr refl)
 
-  messages-sent :
+  pub messages-sent :
       (e : ℕ) → h .waiting .messages e ≡ only (λ w. isSend (getElem? past w)) (h .waiting .queues e)
   messages-sent e =
       ap (λ (w : Waiting). w .messages e) (I .waiting)
@@ -212,8 +234,8 @@ module _ (past : List Call) (s : State) (h : History) (I : Inv past s h) where
           (I .sound .queues .on-line t l .0 q))
           i refl
 
-  pub claim : Claim past h
-  claim =
+  pub claim : Kept past s h → Claim past h
+  claim K =
       record {
         no-old-message = λ z i d j q w m. I .given d j .fresh z i q w m;
         reported-ended = λ y i. I .called y i .reports;
@@ -237,4 +259,9 @@ module _ (past : List Call) (s : State) (h : History) (I : Inv past s h) where
         every-abort-call = I .recorded12;
         abort-call-answer = λ y i. I .called y i .answer;
         every-delivery = I .recorded8;
+        no-old-handing =
+            λ z i x j q t n p. not-old past (z .abort) (x .place) (omega (arith, I .core .over z i .order, q));
+        queues-are = λ x i. K .steps x i .same;
+        handed-own = λ x i. K .steps x i .hands;
+        every-handing = K .recorded7;
       }

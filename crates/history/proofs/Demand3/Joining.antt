@@ -27,7 +27,8 @@ use Rattle.history.proofs.Demand3.Leaving.{NobodyComes, leaves-debt, le
 use Rattle.history.proofs.Demand3.Owing.{tied-drop, tied-join, tied-rejoin}
 use Rattle.history.proofs.Demand3.Together.{Gone, walkAt, Going}
 use Rattle.history.proofs.Demand3.EachLook.{Frame, frame-keeps, frame-keep}
-use Rattle.history.proofs.Demand3.OwnAbort.{more-self, walk-keeps, keeps-join, walker, Ran, own-works, own-begins}
+use Rattle.history.proofs.Demand3.OwnAbort.{more-self, walk-keeps, keeps-join, walker, Ran, own-works}
+use Rattle.history.proofs.Demand3.OwnAbort.{own-begins}
 use Rattle.history.proofs.Demand3.OtherAbort.{other-works}
 
 pub leaves-join : (t e : ℕ) (s : State) → NobodyComes s (join t e s)

@@ -222,6 +222,7 @@ module _ (stage : Stage) (m : ℕ) (later : stage .until ≤ m) where
               among = E .among;
             };
         by = omega (arith, O .by);
+        order = O .order;
         clean = λ t e h k. O .clean t e (fewer-sends F t e h .0) (F .live t e h k);
       }
 

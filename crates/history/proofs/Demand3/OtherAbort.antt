@@ -11,7 +11,8 @@ use Rattle.machine.specs.State.{State, nothing, Abort, live, Endpoint}
 use Rattle.machine.specs.Endpoints.{senders, pendingOf, worksAt, endAbort}
 use Rattle.machine.specs.Aborts.{Looked, pendingAt, lookUpTo, beginAfter, finished, lookedOther, workOther}
 use Rattle.history.specs.History.{Aborting, Reported, NamedLook, namedLooks}
-use Rattle.history.specs.Walk.{Walk, Walker, letsGo, hearsBy, reportOf, begins, ends, passes, settles, settle, walk}
+use Rattle.history.specs.Walk.{Walk, Walker, letsGo, hearsBy, reportOf, begins, ends, passes, settles, settle}
+use Rattle.history.specs.Walk.{walk}
 use Rattle.history.specs.Walk.{closes, close}
 use Rattle.machine.proofs.Lists.{put-same, put-again}
 use Rattle.machine.proofs.Preserved.Debts.{live-present, mid-endAbort, endAbort-entry}
@@ -66,10 +67,12 @@ module _
               Core (within stage) (endAbort live e (r .state) .threads)
               (endAbort live e (r .state) .endpoints) f (over .ended))
               (put-again standing e (some x) none)
-              (core-end (within stage) (r .state) (G .core) e (G .mid) live k x place _ was (put-same standing e (some x))
-              (omega arith) (λ i. h) (λ i. lives));
+              (core-end (within stage) (r .state) (G .core) e (G .mid) live k x place _ was
+              (put-same standing e (some x))
+              (omega arith) (omega arith) (λ i. h) (λ i. lives));
           tied =
-              tied-end (r .state) (tied-free (r .state) (G .tied) t free) e live k was x (S .endpoint) (S .badge) _ refl;
+              tied-end (r .state) (tied-free (r .state) (G .tied) t free) e live k was x (S .endpoint) (S .badge) _
+              refl;
         }
 
     settle-over :

@@ -21,7 +21,7 @@ use Rattle.machine.specs.Grants.{Grants}
 use Rattle.machine.specs.Machine.{step}
 use Rattle.machine.specs.Sound.{Sound}
 use Rattle.history.specs.Sorts.{Sort, other, destroys, waits, receives, yields, removes, looks, sortOf}
-use Rattle.history.specs.History.{Waiting, History, isIn, queues?, named, waitingIn}
+use Rattle.history.specs.History.{Books, Waiting, History, isIn, queues?, named, waitingIn}
 use Rattle.history.specs.Outcomes.{Outcome, letGoBy, drops, outcomeOf, outcomeIf}
 use Rattle.history.specs.Recorded.{recorded, told}
 use Rattle.history.specs.Tied.{Tied}
@@ -40,7 +40,7 @@ use Rattle.history.proofs.Demand3.Arrivals.{Simple, turn}
 use Rattle.history.proofs.Demand3.Handing.{TakesFirst, handed-first, takes}
 use Rattle.machine.proofs.Preserved.Steps.{step-sound}
 use Rattle.history.proofs.Demand3.Invariant.{stageOf, Given, Inv, queued-apart}
-use Rattle.history.proofs.Demand3.Recording.{deliveryOf, Duty8, Duty12, Goes, goes}
+use Rattle.history.proofs.Demand3.Recording.{recordedSeen, toldSeen, deliveryOf, Duty8, Duty12, Goes, goes}
 
 -- Calls other than 11 and 12 begin and end no abort; they drop the debts of whom they should.
 outcome-simple : (x : Sort) → Simple x → (b : Bool) (o : Option ℕ) (r : Result) (h : History)
@@ -70,7 +70,7 @@ simple-number (Delete e a) n h = n
 simple-number (Abort e a b) n h = n
 simple-number (Grant t e r b) n h = omega arith
 
-module _ (past : List Call) (s : State) (h : History) (I : Inv past s h) where
+module _ (bk : Books) (past : List Call) (s : State) (h : History) (I : Inv past s h) where
   pub fits : suc (h .now) ≤ suc (length past)
   fits = omega (arith, I .now)
 
@@ -92,7 +92,7 @@ module _ (past : List Call) (s : State) (h : History) (I : Inv past s h) where
   -- A receive that is done.
   hands :
       (e : ℕ) (r : Result) (o : Option ℕ) → TakesFirst s e r
-      → Given (past ++ (Receive e ∷ [])) (recorded (h .since) (drops o r h) (receives e) r h)
+      → Given (past ++ (Receive e ∷ [])) (recordedSeen bk (h .since) (drops o r h) (receives e) r h)
       (deliveryOf e r (waitingIn (h .since) (r .state)) h)
   unfolding recorded
   hands e r o T =
@@ -155,8 +155,9 @@ module _ (past : List Call) (s : State) (h : History) (I : Inv past s h) where
   simple-duty8 :
       (c : Call) (r : Result) (since : ℕ → ℕ) (o : Outcome) (x : Call)
       → ((e : ℕ) → x ≡ Receive e → r .answer .code ≡ 0
-      → Given (past ++ (c ∷ [])) (recorded since o (sortOf c) r h) (deliveryOf e r (waitingIn since (r .state)) h))
-      → Duty8 past s h I c r since o (sortOf x)
+      → Given (past ++ (c ∷ [])) (recordedSeen bk since o (sortOf c) r h)
+      (deliveryOf e r (waitingIn since (r .state)) h))
+      → Duty8 bk past s h I c r since o (sortOf x)
   simple-duty8 c r since o (CreateThread t p) d = tt
   simple-duty8 c r since o (DestroyThread t) d = tt
   simple-duty8 c r since o (SetPriority t p) d = tt
@@ -172,7 +173,7 @@ module _ (past : List Call) (s : State) (h : History) (I : Inv past s h) where
   simple-duty8 c r since o (Grant t e k b) d = tt
 
   simple-duty12 :
-      (c : Call) (r : Result) (since : ℕ → ℕ) (o : Outcome) (x : Sort) → Simple x → Duty12 past s h I c r since o x
+      (c : Call) (r : Result) (since : ℕ → ℕ) (o : Outcome) (x : Sort) → Simple x → Duty12 bk past s h I c r since o x
   simple-duty12 c r since o other n = tt
   simple-duty12 c r since o (destroys t) n = tt
   simple-duty12 c r since o waits n = tt
@@ -189,7 +190,7 @@ module _ (past : List Call) (s : State) (h : History) (I : Inv past s h) where
 
     told-as :
         (since : ℕ → ℕ) → named (queues? (sortOf c) (r .answer .code)) (s .runs) (h .now) (h .since) ≡ since
-        → told c s r h ≡ recorded since (drops who r h) (sortOf c) r h
+        → toldSeen bk c s r h ≡ recordedSeen bk since (drops who r h) (sortOf c) r h
     unfolding told
     told-as since p = rw (p, outcome-simple (sortOf c) n (isAccepted (r .answer)) (s .runs) r h)
 
@@ -210,7 +211,7 @@ module _ (past : List Call) (s : State) (h : History) (I : Inv past s h) where
     no-stray =
         ap (λ (l : List Look). map (λ (v : Look). h .since (v .waiter)) l ++ h .aborts .stray) unlooked ∙ I .stray
 
-    idle-goes : NobodyComes s (r .state) → Sheds s c r → Goes past s h I c r (h .since) (drops who r h)
+    idle-goes : NobodyComes s (r .state) → Sheds s c r → Goes bk past s h I c r (h .since) (drops who r h)
     idle-goes L D =
         record {
           sound = S;
@@ -225,7 +226,7 @@ module _ (past : List Call) (s : State) (h : History) (I : Inv past s h) where
               (λ e p q.
               subst
               (λ (x : Call).
-              Given (past ++ (x ∷ [])) (recorded (h .since) (drops who r h) (sortOf x) r h)
+              Given (past ++ (x ∷ [])) (recordedSeen bk (h .since) (drops who r h) (sortOf x) r h)
               (deliveryOf e r (waitingIn (h .since) (r .state)) h))
               (sym p) (hands e r who (T e p q)));
           duty12 = simple-duty12 c r (h .since) (drops who r h) (sortOf c) n;
@@ -275,7 +276,7 @@ module _ (past : List Call) (s : State) (h : History) (I : Inv past s h) where
               rw (p, map-append, put-same (h .since) (B .caller) (h .now))
               (rising-snoc (map since′ (B .between .endpoints e .waiters)) (h .now) was below)
 
-      block-goes : Sheds s c r → Goes past s h I c r since′ (drops who r h)
+      block-goes : Sheds s c r → Goes bk past s h I c r since′ (drops who r h)
       block-goes D =
           record {
             sound = S;
@@ -298,15 +299,15 @@ module _ (past : List Call) (s : State) (h : History) (I : Inv past s h) where
           no-zero : _≡_ {A = ℕ} 1 0 → ⊥
           no-zero q = omega arith
 
-    pub advance-simple : Arrival s c r → Inv (past ++ (c ∷ [])) (r .state) (told c s r h)
+    pub advance-simple : Arrival s c r → Inv (past ++ (c ∷ [])) (r .state) (toldSeen bk c s r h)
     unfolding named
     advance-simple (idle L q D) =
         subst (Inv (past ++ (c ∷ [])) (r .state))
         (sym (told-as (h .since) (ap (λ (b : Bool). named b (s .runs) (h .now) (h .since)) q)))
-        (goes past s h I c r (h .since) (drops who r h) (idle-goes L D))
+        (goes bk past s h I c r (h .since) (drops who r h) (idle-goes L D))
     advance-simple (blocks B D) =
         subst (Inv (past ++ (c ∷ [])) (r .state)) (sym (told-as (put (h .since) (B .caller) (h .now)) new-name))
-        (goes past s h I c r (put (h .since) (B .caller) (h .now)) (drops who r h) (block-goes B D))
+        (goes bk past s h I c r (put (h .since) (B .caller) (h .now)) (drops who r h) (block-goes B D))
       where
         new-name :
             named (queues? (sortOf c) (r .answer .code)) (s .runs) (h .now) (h .since)
@@ -318,7 +319,8 @@ module _ (past : List Call) (s : State) (h : History) (I : Inv past s h) where
 
   -- Calls 1 to 10, and 13.
   pub advance :
-      (g : Grants) (c : Call) → Simple (sortOf c) → Inv (past ++ (c ∷ [])) (step g s c .state) (told c s (step g s c) h)
+      (g : Grants) (c : Call) → Simple (sortOf c)
+      → Inv (past ++ (c ∷ [])) (step g s c .state) (toldSeen bk c s (step g s c) h)
   advance g c n =
       advance-simple c n (step g s c) (step-sound g s c (I .sound)) (no-looks g s c (simple-number c n))
       (λ e p q. subst (λ (x : Call). TakesFirst s e (step g s x)) (sym p)

@@ -18,7 +18,8 @@ use Rattle.calls.specs.Answers.{counted, isAccepted}
 use Rattle.machine.specs.Aborts.{Looked, pendingAt, lookUpTo, join, begin, ended, lookedOwn, workOwn}
 use Rattle.machine.specs.Sound.{Present}
 use Rattle.history.specs.History.{Aborting, Ended, Reported, NamedLook, namedLooks}
-use Rattle.history.specs.Walk.{Walk, Walker, takesUp, letsGo, hearsBy, begins, ends, passes, settles, settle, walk}
+use Rattle.history.specs.Walk.{Walk, Walker, takesUp, letsGo, hearsBy, begins, ends, passes, settles, settle}
+use Rattle.history.specs.Walk.{walk}
 use Rattle.history.specs.Walk.{closes, close, reportOf, reportIf}
 use Rattle.history.specs.Claim.{In}
 use Rattle.history.specs.Tied.{Tied}
@@ -195,7 +196,8 @@ module _ (stage : Stage) (standing : ℕ → Option Aborting) (t e b : ℕ) wher
             (put-again standing e (some x) none)
             (core-end (within stage) (dropDebt t q)
             (core-leaves (within stage) (suc place) (omega arith) (leaves-dropDebt t q) (G .core)) e
-            (mid-dropDebt q t (G .mid)) live (A .0) x place _ was (put-same standing e (some x)) (omega arith) (λ i. h)
+            (mid-dropDebt q t (G .mid)) live (A .0) x place _ was (put-same standing e (some x)) (omega arith)
+            (omega arith) (λ i. h)
             (λ i. dropDebt-drops q t .status e ∙ lives))
 
         go : (l : List ℕ) → pendingAt e q ≡ l → Ran s a start (ended l t e looks q)

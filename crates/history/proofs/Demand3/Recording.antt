@@ -15,12 +15,13 @@ use Rattle.calls.specs.declared.Call.the-variants.{Receive, Abort}
 use Rattle.machine.specs.Lists.{only, Rising}
 use Rattle.machine.specs.State.{State}
 use Rattle.machine.specs.Results.{Result}
+use Rattle.calls.specs.Answers.{isAccepted}
 use Rattle.machine.specs.Sound.{Sound}
 use Rattle.history.specs.Sorts.{Sort, other, destroys, waits, receives, yields, removes, looks, sortOf}
 use Rattle.history.specs.History.{Ended, Delivery, AbortCall, Waiting, Reported, History, isIn, waitingIn}
-use Rattle.history.specs.History.{namedLooks}
-use Rattle.history.specs.Outcomes.{Outcome}
-use Rattle.history.specs.Recorded.{delivered, deliveredIf, abortCallsOf, recorded}
+use Rattle.history.specs.History.{Books, namedLooks}
+use Rattle.history.specs.Outcomes.{Outcome, outcomeIf}
+use Rattle.history.specs.Recorded.{delivered, deliveredIf, abortCallsOf, recorded, namesAfter}
 use Rattle.history.specs.Claim.{In}
 use Rattle.history.specs.Tied.{Tied}
 use Rattle.history.proofs.Sublists.{entry-below, entry-keep, entry-last, entry-cases, length-grow}
@@ -55,10 +56,18 @@ abortCallOf e a b r w x h =
       behind = w;
     }
 
-module _ (past : List Call) (s : State) (h : History) (I : Inv past s h) (c : Call) (r : Result) (since : ℕ → ℕ)
-    (o : Outcome) where
+-- The history as it is recorded by the machine's own queues: the books are any.
+abbrev pub recordedSeen : Books → (ℕ → ℕ) → Outcome → Sort → Result → History → History
+recordedSeen bk since o k r h = recorded since (waitingIn since (r .state)) bk o k r h
+
+abbrev pub toldSeen : Books → Call → State → Result → History → History
+toldSeen bk c s r h =
+    recordedSeen bk (namesAfter c s r h) (outcomeIf (isAccepted (r .answer)) (sortOf c) (s .runs) r h) (sortOf c) r h
+
+module _ (bk : Books) (past : List Call) (s : State) (h : History) (I : Inv past s h) (c : Call) (r : Result)
+    (since : ℕ → ℕ) (o : Outcome) where
   abbrev k : History
-  k = recorded since o (sortOf c) r h
+  k = recordedSeen bk since o (sortOf c) r h
 
   abbrev w : Waiting
   w = waitingIn since (r .state)

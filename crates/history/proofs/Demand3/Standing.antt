@@ -116,6 +116,7 @@ Both stage threads e (some a) (some x) = Stood stage threads e a x
 pub record Over (stage : Stage) (threads : ℕ → Thread) (endpoints : ℕ → Endpoint) (z : Ended) : Type 0 where
   pub exact : LooksExact (stage .past) (stage .until) (z .abort)
   pub by : z .by < stage .until
+  pub order : z .abort .began ≤ z .by
   pub clean :
       (t f : ℕ) → threads t .place ≡ sending f → endpoints f .status ≡ live
       → isOld (stage .past) (z .abort) (stage .since t) ≡ false
@@ -218,6 +219,7 @@ module _ (stage : Stage) (c : Call) (r : Answer) (fits : stage .until ≤ suc (l
               among = E .among;
             };
         by = O .by;
+        order = O .order;
         clean = λ t f p l. isOld-grow (stage .past) c (z .abort) (stage .since t) k ∙ O .clean t f p l;
       }
 

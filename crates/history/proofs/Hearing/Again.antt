@@ -74,7 +74,7 @@ module _ (m : Grants → State → Call → Result) (t e a b : ℕ) (x : Run) (r
 
   -- The record of the call, where it reports o.
   abbrev call : Option Reported → AbortCall
-  call o = abortCallOf e a b y (waitingIn (h .since) (y .state)) o h
+  call o = abortCallOf e a b y (next .waiting) o h
 
   -- The call comes to o.
   module _ (o : Outcome) (is : outcomeIf (isAccepted (y .answer)) (looks e a b) (x .state .runs) y h ≡ o) where

@@ -24,8 +24,8 @@ use Rattle.history.specs.Tied.{noteIn, noteFrom, Tied}
 use Rattle.history.specs.Heard.{firstCall, atFirst, afterFirst, atSecond, latest, OfAbort, SameAbort}
 use Rattle.machine.proofs.Lists.{clash}
 use Rattle.machine.proofs.Permits.{permitted}
-use Rattle.history.proofs.Demand3.Invariant.{Inv, claim}
-use Rattle.history.proofs.Demand3.Demand.{invariant, notes-first}
+use Rattle.history.proofs.Demand3.Invariant.{Inv, claim, Kept}
+use Rattle.history.proofs.Demand3.Demand.{invariant, notes-first, holds as all-holds}
 use Rattle.history.proofs.Hearing.Sets.{working, heard}
 use Rattle.history.proofs.Hearing.Others.{Knows, knows-still}
 use Rattle.history.proofs.Hearing.Broken.{stands-at, rests}
@@ -76,11 +76,14 @@ unfolding runFrom
 reached-next c R = reached-then (c ∷ []) R
 
 module _ (x : Run) (R : Reached x) where
+  kept-too : Kept (R .calls) (x .state) (x .history)
+  kept-too = subst (λ (y : Run). Kept (R .calls) (y .state) (y .history)) (R .is) (all-holds (R .calls) .kept)
+
   holds : Inv (R .calls) (x .state) (x .history)
   holds = subst (λ (y : Run). Inv (R .calls) (y .state) (y .history)) (R .is) (invariant (R .calls))
 
   claim-at : Claim (R .calls) (x .history)
-  claim-at = claim (R .calls) (x .state) (x .history) holds
+  claim-at = claim (R .calls) (x .state) (x .history) holds kept-too
 
   -- Whoever has the note is answered from it.
   noted-answer :
