@@ -34,8 +34,9 @@
  * Threads. The functions may run at the same time on different memory. While one runs nobody else writes what it was
  * lent, nor reads what it writes: one caller at a time for tables, grants and scratch that are lent together.
  *
- * Numbers. Every function but nazsombet_running answers one of the numbers below. Those of 16 to 29 are refusals: they
- * are tried in the order of the numbers, but 29 right after 20, and they leave the tables and the grants as they were.
+ * Numbers. Every function but nazsombet_running and nazsombet_woken answers one of the numbers below. Those of 16 to 29
+ * are refusals: they are tried in the order of the numbers, but 29 right after 20, and they leave the tables and the
+ * grants as they were.
  */
 #ifndef NAZSOMBET_H
 #define NAZSOMBET_H
@@ -117,6 +118,14 @@ typedef char nazsombet_four_words[sizeof(struct nazsombet_answer) == 16 ? 1 : -1
 /* The answer of nazsombet_running where no thread runs. */
 #define NAZSOMBET_NOBODY 256
 
+/* Outcomes: how a thread's last waiting ended. They stay until the thread blocks again, or is destroyed. */
+#define NAZSOMBET_NO_OUTCOME 0       /* it has not waited since it was created, it waits now, or it is absent */
+#define NAZSOMBET_MESSAGE_TAKEN 1    /* send: a receiver took the message */
+#define NAZSOMBET_MESSAGE_RECEIVED 2 /* receive: a sender came; its badge and message are told too */
+#define NAZSOMBET_MESSAGE_ABORTED 3  /* send: an abort removed the message */
+#define NAZSOMBET_ENDPOINT_GONE 4    /* send, receive: a delete of the endpoint removed the thread from it */
+#define NAZSOMBET_LINE_FIRED 5       /* wait: the line fired */
+
 /*
  * Makes tables and grants fresh, whatever they held: no thread, no endpoint, no pending line, no grant. 0; or 16, if
  * either has another length, and both stay.
@@ -156,6 +165,14 @@ uint32_t nazsombet_write(const struct nazsombet_numbers *call, uint32_t words[3]
  * checked: of unsound ones it answers one of these, of tables that are not 4,096 words 256.
  */
 uint32_t nazsombet_running(const uint32_t *tables, size_t tables_length);
+
+/*
+ * How the last waiting of a thread ended: woken is its outcome, 0 to 5, and with outcome 2 the badge and the message
+ * that it received, else 0 and 0. A host tells them to the thread when it runs again behind a call answered 1. The tables
+ * are not checked: of unsound ones the outcome, badge and message are any words, the latter two 0 but with outcome 2; of
+ * tables that are not 4,096 words, and of a number above 255, all three are 0.
+ */
+void nazsombet_woken(const uint32_t *tables, size_t tables_length, uint32_t thread, uint32_t woken[3]);
 
 #ifdef __cplusplus
 }

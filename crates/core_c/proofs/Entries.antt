@@ -12,7 +12,8 @@ use Rattle.journal.specs.declared.types.Named.{Named}
 use Rattle.journal.specs.Steps.{asNamed, callNamed}
 use Rattle.journal.proofs.Answers.{name-named}
 use Rattle.numbers.specs.Numbers.{callIn}
-use Rattle.core_c.specs.Entries.{Answered, refusal, calledFor, four, asAnswered, answered, writtenFor}
+use Rattle.numbers.specs.Journal.{writtenFor}
+use Rattle.core_c.specs.Entries.{Answered, refusal, calledFor, four, asAnswered, answered}
 
 abbrev calledOf : Answer → Lent → Called
 calledOf a l = record { answer = a; left = l }

@@ -1,27 +1,20 @@
-// The core for C: the five entry points, and who runs, under the names of include/nazsombet.h. A slice passes as a
-// pointer and a length, an array of fixed length as a pointer.
+// The core for C: the five entry points, who runs, and how a thread was woken, under the names of include/nazsombet.h.
+// A slice passes as a pointer and a length, an array of fixed length as a pointer.
 // A call passes as six plain numbers and not as journal words: so every number of 32 bits reaches the core's own range
 // test, and what the reader gives is what a call takes. Numbers that name no call are refused by 18, after 16 and 17.
 ghost use mathlib.Core.Path.{_≡_};
 ghost use mathlib.Core.Option.{none};
 ghost use Rattle.lent_tables.specs.Entries.{lent, Freshened, Checked, Called, freshened, checked, runnerIn};
+ghost use Rattle.lent_tables.specs.Entries.{wokenIn};
 ghost use Rattle.journal.specs.declared.types.Written.{Written};
 ghost use Rattle.journal.specs.Steps.{callNamed};
 ghost use Rattle.numbers.specs.Numbers.{callIn};
-ghost use Rattle.core_c.specs.declared.types.Reading.{Reading};
-ghost use Rattle.core_c.specs.Entries.{Answered, calledFor, answered, reading, writtenFor, runnerNumber};
-
-mod types;
-
-use crate::types::Reading;
+ghost use Rattle.numbers.specs.declared.types.Reading.{Reading};
+ghost use Rattle.numbers.specs.Journal.{reading, writtenFor};
+ghost use Rattle.core_c.specs.Entries.{Answered, calledFor, answered, runnerNumber, three};
 use calls::Answer;
 use calls::Runner;
 use journal::types::Named;
-use journal::types::Read;
-use journal::types::Written;
-
-// That the journal has ended: no code of an answer.
-const ENDED: u32 = 255;
 
 // That no thread runs: no thread's number.
 const NOBODY: u32 = 256;
@@ -94,29 +87,6 @@ pub extern "C" fn nazsombet_call(
     a.code
 }
 
-// Reads the call at a word of the journal.
-fn read(journal: &[u32], at: usize) -> Reading
-    ensures { λ r. ⌜ r ≡ reading (now (journal .entry)) at ⌝ }
-{
-    match journal::read(journal, at) {
-        Read::Found { call, next } => Reading {
-            code: 0,
-            at: next,
-            call: numbers::numbers_of(call),
-        },
-        Read::Refused { code, at } => Reading {
-            code,
-            at,
-            call: [0, 0, 0, 0, 0, 0],
-        },
-        Read::Ended => Reading {
-            code: ENDED,
-            at,
-            call: [0, 0, 0, 0, 0, 0],
-        },
-    }
-}
-
 // Reads the call at a word of the journal, and goes to the first word not yet read.
 #[no_mangle]
 pub extern "C" fn nazsombet_read(journal: &[u32], at: &mut usize, call: &mut [u32; 6]) -> u32
@@ -124,25 +94,11 @@ pub extern "C" fn nazsombet_read(journal: &[u32], at: &mut usize, call: &mut [u3
         (reading (now (journal .entry)) (now (at .entry))) ⌝ }
 {
     let from = *at;
-    let reading = read(journal, from);
+    let reading = numbers::read(journal, from);
     *at = reading.at;
     let numbers = reading.call;
     *call = numbers;
     reading.code
-}
-
-// The words of the call that the numbers name, if they name one.
-fn write(named: Named) -> Written
-    ensures { λ r. ⌜ r ≡ writtenFor (callNamed named) ⌝ }
-{
-    let Named::One(call) = named else {
-        return Written {
-            code: calls::codes::NO_CALL,
-            count: 0,
-            words: [0, 0, 0],
-        };
-    };
-    journal::write(call)
 }
 
 // Writes a call as its journal words.
@@ -152,7 +108,7 @@ pub extern "C" fn nazsombet_write(call: &[u32; 6], words: &mut [u32; 3], count: 
         (writtenFor (callIn (now (call .entry)))) ⌝ }
 {
     let named = numbers::call_in(*call);
-    let written = write(named);
+    let written = numbers::write(named);
     *count = written.count;
     let three = written.words;
     *words = three;
@@ -168,4 +124,13 @@ pub extern "C" fn nazsombet_running(tables: &[u32]) -> u32
         Runner::Nobody => NOBODY,
         Runner::Thread(thread) => thread,
     }
+}
+
+// How a thread's last waiting ended: outcome, badge and message, whatever the words are.
+#[no_mangle]
+pub extern "C" fn nazsombet_woken(tables: &[u32], thread: u32, woken: &mut [u32; 3])
+    ensures { λ _. ⌜ now (woken .exit) ≡ three (wokenIn (now (tables .entry)) thread) ⌝ }
+{
+    let how = lent_tables::how::woken(tables, thread);
+    *woken = [how.outcome, how.badge, how.message];
 }

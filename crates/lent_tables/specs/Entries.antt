@@ -1,4 +1,5 @@
--- What the entry points on the lent memory come to, for all words lent: make fresh, check, take a call, and who runs.
+-- What the entry points on the lent memory come to, for all words lent: make fresh, check, take a call, who runs, and how a
+-- thread was woken.
 use Prim.Native.Nat.{ℕ, zero, suc}
 use mathlib.Core.Path.{_≡_}
 use mathlib.Core.Bool.{Bool, true, false, _&&_}
@@ -11,15 +12,17 @@ use Rattle.calls.specs.declared.Call.{Call}
 use Rattle.calls.specs.declared.Runner.{Runner}
 use Rattle.calls.specs.declared.Runner.the-variants.{Nobody, Thread}
 use Rattle.machine.specs.Lists.{pick}
-use Rattle.machine.specs.State.{State, freshState}
+use Rattle.machine.specs.State.{State, freshState, messageReceived}
 use Rattle.calls.specs.Answers.{plain}
 use Rattle.machine.specs.Grants.{Grants, freshGrants}
 use Rattle.machine.specs.Machine.{step, grantsBy}
+use Rattle.layout.specs.declared.Field.{Field}
 use Rattle.layout.specs.declared.Slot.{Slot}
 use Rattle.layout.specs.Addresses.{tableWords, scratchWords, word, at}
 use Rattle.layout.specs.Words.{image}
 use Rattle.soundness.specs.Tables.{stateOf}
 use Rattle.grants.specs.Memory.{grantWords, grantsOf, grantImage, grantsTest}
+use Rattle.lent_tables.specs.declared.how.Waking.{Waking}
 
 -- "Tables live in 4,096 lent 32-bit words"; the grants in "a second memory of 16,384 words, lent wherever the tables
 -- are"; "a scratch of 256 words is lent beside them".
@@ -116,3 +119,20 @@ asLink w = pick (leb w 256) w 0
 -- Who runs, whatever the words are; nobody in tables not of 4,096 words.
 unfoldable pub runnerIn : List ℕ → Runner
 runnerIn m = pick (eqb (length m) tableWords) (runnerOf (asLink (word m (at Slot.Running)))) Nobody
+
+abbrev pub waking : ℕ → ℕ → ℕ → Waking
+waking o b n = record { outcome = o; badge = b; message = n }
+
+-- How a thread's last waiting ended, by its outcome, badge and message: the last two are told with outcome 2 alone.
+abbrev pub wokenBy : ℕ → ℕ → ℕ → Waking
+wokenBy o b n = pick (eqb o messageReceived) (waking o b n) (waking o 0 0)
+
+abbrev pub threadWord : List ℕ → Field → ℕ → ℕ
+threadWord m f t = word m (at (Slot.Thread f t))
+
+-- The same, whatever the words are; zeros in tables not of 4,096 words, and for a number that is no thread's.
+unfoldable pub wokenIn : List ℕ → ℕ → Waking
+wokenIn m t =
+    pick (eqb (length m) tableWords && leb t 255)
+    (wokenBy (threadWord m Field.Outcome t) (threadWord m Field.Badge t) (threadWord m Field.Message t))
+    (waking 0 0 0)

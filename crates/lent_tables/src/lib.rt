@@ -6,6 +6,7 @@ ghost use Rattle.layout.specs.Addresses.{tableWords};
 ghost use Rattle.soundness.specs.Checks.{goodTest};
 ghost use Rattle.lent_tables.specs.Entries.{lent, zeros, Freshened, Checked, freshened, checked};
 
+pub mod how;
 pub mod who;
 
 // How many words are lent for the tables.

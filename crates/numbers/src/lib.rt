@@ -1,9 +1,20 @@
 // A call as six plain numbers: its number, subject, argument, badge, message and rights. Those that it has not are 0.
+// Named by them, and read from a journal and written to it as them.
 ghost use mathlib.Core.Path.{_≡_};
-ghost use Rattle.journal.specs.Steps.{asNamed};
+ghost use Rattle.journal.specs.Steps.{asNamed, callNamed};
 ghost use Rattle.numbers.specs.Numbers.{withoutRights, callIn, numbersOf};
+ghost use Rattle.numbers.specs.Journal.{reading, writtenFor};
+
+pub mod types;
+
+use crate::types::Reading;
 use calls::Call;
 use journal::types::Named;
+use journal::types::Read;
+use journal::types::Written;
+
+// That the journal has ended: no code of an answer.
+const ENDED: u32 = 255;
 
 // The call without rights that the first five name.
 fn without_rights(numbers: [u32; 6]) -> Named
@@ -84,4 +95,41 @@ pub fn numbers_of(call: Call) -> [u32; 6]
             badge,
         } => [13, thread, endpoint, badge, 0, rights],
     }
+}
+
+// Reads the call at a word of the journal.
+pub fn read(journal: &[u32], at: usize) -> Reading
+    ensures { λ r. ⌜ r ≡ reading (now (journal .entry)) at ⌝ }
+{
+    match journal::read(journal, at) {
+        Read::Found { call, next } => Reading {
+            code: 0,
+            at: next,
+            call: numbers_of(call),
+        },
+        Read::Refused { code, at } => Reading {
+            code,
+            at,
+            call: [0, 0, 0, 0, 0, 0],
+        },
+        Read::Ended => Reading {
+            code: ENDED,
+            at,
+            call: [0, 0, 0, 0, 0, 0],
+        },
+    }
+}
+
+// The words of the call that the numbers name, if they name one.
+pub fn write(named: Named) -> Written
+    ensures { λ r. ⌜ r ≡ writtenFor (callNamed named) ⌝ }
+{
+    let Named::One(call) = named else {
+        return Written {
+            code: calls::codes::NO_CALL,
+            count: 0,
+            words: [0, 0, 0],
+        };
+    };
+    journal::write(call)
 }

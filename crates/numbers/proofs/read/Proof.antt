@@ -1,9 +1,9 @@
 -- By the three answers of the reader.
 use mathlib.Core.Path.{sym, _∙_}
-use Rattle.core_c.specs.Entries.{reading}
+use Rattle.numbers.specs.Journal.{reading}
 use borrow.Author.Needs.{needs}
-use Rattle.core_c.proofs.read.Statement.{statement}
-use Rattle.core_c.proofs.read.Tie as tie
+use Rattle.numbers.proofs.read.Statement.{statement}
+use Rattle.numbers.proofs.read.Tie as tie
 
 read-requires : tie.Need-read-requires
 read-requires c κs = search needs

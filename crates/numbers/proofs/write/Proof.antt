@@ -1,7 +1,7 @@
 -- By whether a call is named.
 use borrow.Author.Needs.{needs}
-use Rattle.core_c.proofs.write.Statement.{statement}
-use Rattle.core_c.proofs.write.Tie as tie
+use Rattle.numbers.proofs.write.Statement.{statement}
+use Rattle.numbers.proofs.write.Tie as tie
 
 enum-known-named : tie.Need-enum-known-named
 enum-known-named c = search needs
