@@ -1,4 +1,4 @@
--- Answers, and who runs.
+-- Answers, who runs, and a thread or level that may be missing.
 use Prim.Native.Nat.{ℕ}
 use mathlib.Core.Bool.{Bool}
 use mathlib.Core.Option.{Option, none, some}
@@ -27,3 +27,8 @@ isAccepted a = leb (a .code) 2
 abbrev pub threadOf : Runner → Option ℕ
 threadOf Nobody = none
 threadOf (Thread t) = some t
+
+-- A thread or a level as a number, where there may be none: 256, which is neither.
+abbrev pub seat : Option ℕ → ℕ
+seat none = 256
+seat (some n) = n

@@ -63,5 +63,8 @@ pub const LAST_ENDPOINT: u32 = 63;
 
 pub const LAST_LINE: u32 = 31;
 
+// The number that stands for no thread and no level.
+pub const NO_SEAT: u32 = 256;
+
 // How many badges there are, and messages: the first number that is neither.
 pub const BADGES: u32 = 0x1000_0000;

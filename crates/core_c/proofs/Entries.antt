@@ -36,7 +36,8 @@ module _ (l : Lent) {x : List ℕ} {code : ℕ} (e : checkedOf code x ≡ checke
       {a : Answer} → (code ≡ 0 → ⊥) → a ≡ plain code → calledOf a (lent (l .tables) (l .grants) x) ≡ calledFor none l
   check-refused h p = refused (p ∙ ap plain (sym (refusal-kept code h)))
 
-  pub none-refused : {a : Answer} → code ≡ 0 → a ≡ plain 18 → calledOf a (lent (l .tables) (l .grants) x) ≡ calledFor none l
+  pub none-refused :
+      {a : Answer} → code ≡ 0 → a ≡ plain 18 → calledOf a (lent (l .tables) (l .grants) x) ≡ calledFor none l
   none-refused h p = refused (p ∙ ap (λ (n : ℕ). plain (refusal n)) (sym h))
 
 -- by whether a call is asNamed

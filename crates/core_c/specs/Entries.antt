@@ -6,8 +6,7 @@ use mathlib.Core.Option.{Option, none, some}
 use Rattle.calls.specs.declared.Answer.{Answer}
 use Rattle.calls.specs.declared.Call.{Call}
 use Rattle.calls.specs.declared.Runner.{Runner}
-use Rattle.calls.specs.declared.Runner.the-variants.{Nobody, Thread}
-use Rattle.calls.specs.Answers.{plain}
+use Rattle.calls.specs.Answers.{plain, threadOf, seat}
 use Rattle.lent_tables.specs.declared.how.Waking.{Waking}
 use Rattle.lent_tables.specs.Entries.{Lent, lent, checked, Called, called}
 use Rattle.numbers.specs.Numbers.{callIn}
@@ -43,8 +42,7 @@ answered l numbers = asAnswered (calledFor (callIn numbers) l)
 
 -- Who runs: the thread's number; 256 where nobody runs.
 abbrev pub runnerNumber : Runner → ℕ
-runnerNumber Nobody = 256
-runnerNumber (Thread t) = t
+runnerNumber r = seat (threadOf r)
 
 -- outcome, badge, message
 abbrev pub three : Waking → List ℕ

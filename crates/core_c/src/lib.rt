@@ -16,9 +16,6 @@ use calls::Answer;
 use calls::Runner;
 use journal::types::Named;
 
-// That no thread runs: no thread's number.
-const NOBODY: u32 = 256;
-
 // Tables of 4,096 words and grants of 16,384 become fresh.
 #[no_mangle]
 pub extern "C" fn nazsombet_fresh(tables: &mut [u32], grants: &mut [u32]) -> u32
@@ -115,13 +112,13 @@ pub extern "C" fn nazsombet_write(call: &[u32; 6], words: &mut [u32; 3], count: 
     written.code
 }
 
-// The thread that runs, 0 to 255, or NOBODY, whatever the words are.
+// The thread that runs, 0 to 255, or 256, whatever the words are.
 #[no_mangle]
 pub extern "C" fn nazsombet_running(tables: &[u32]) -> u32
     ensures { λ r. ⌜ r ≡ runnerNumber (runnerIn (now (tables .entry))) ⌝ }
 {
     match lent_tables::who::running(tables) {
-        Runner::Nobody => NOBODY,
+        Runner::Nobody => calls::codes::NO_SEAT,
         Runner::Thread(thread) => thread,
     }
 }
