@@ -19,7 +19,21 @@
  * words); the library keeps no pointer and no state between two calls, allocates nothing and does no input or output.
  * All that the core knows stands in the tables and the grants: they may be copied, stored and lent again elsewhere, the
  * two together. What the scratch holds does not matter. Nobody but the library is to write tables or grants: a change
- * by hand is found out, by 17, unless it happens to leave them sound.
+ * by hand is found out, by 17, unless it happens to leave them sound. A host need not read their words either: what it
+ * has to know of them it asks by nazsombet_running and nazsombet_woken.
+ *
+ * Releases. Tables and grants that are stored are of one release, NAZSOMBET_RELEASE below: another may have other words
+ * in other places. Nothing in the memory says of which release it is, and that of one may read as a sound memory of
+ * another, with another meaning. Store the release beside them, and lend them to the same release only.
+ *
+ * Making calls. A call is six numbers; the functions nazsombet_send_call, nazsombet_grant_call and so on, one for each
+ * of the thirteen, put each number in its place. struct nazsombet_lent is all the memory that is lent, and
+ * nazsombet_lent_call and so on lend it with its lengths. examples/writers.c makes calls so:
+ *
+ *     static struct nazsombet_lent lent;
+ *     struct nazsombet_answer answer;
+ *     nazsombet_lent_fresh(&lent);
+ *     nazsombet_lent_call(&lent, nazsombet_create_thread_call(3, 100), &answer);
  *
  * Grants. Word 64 * thread + endpoint says what that thread may do at that endpoint: its top four bits are the rights
  * (1 send, 2 receive, 4 delete, 8 abort), its low 28 bits the badge under which it may send. 0 is no grant; a badge
@@ -47,6 +61,9 @@
 #ifdef __cplusplus
 extern "C" {
 #endif
+
+/* Release 7, with the first five of its change requests: a request more, or another release, is another text here. */
+#define NAZSOMBET_RELEASE "7.5"
 
 /* The words of the tables, of the grants and of the scratch. */
 #define NAZSOMBET_TABLES 4096
@@ -168,11 +185,150 @@ uint32_t nazsombet_running(const uint32_t *tables, size_t tables_length);
 
 /*
  * How the last waiting of a thread ended: woken is its outcome, 0 to 5, and with outcome 2 the badge and the message
- * that it received, else 0 and 0. A host tells them to the thread when it runs again behind a call answered 1. The tables
- * are not checked: of unsound ones the outcome, badge and message are any words, the latter two 0 but with outcome 2; of
- * tables that are not 4,096 words, and of a number above 255, all three are 0.
+ * that it received, else 0 and 0. A host tells them to the thread when it runs again after a call that was answered 1.
+ * The tables are not checked: of unsound ones the outcome is any word, and badge and message too, or 0 and 0 where the
+ * outcome is not 2. Of tables that are not 4,096 words, and of a number above 255, all three are 0.
  */
 void nazsombet_woken(const uint32_t *tables, size_t tables_length, uint32_t thread, uint32_t woken[3]);
+
+/* How a thread was woken, by name. */
+struct nazsombet_waking {
+    uint32_t outcome;
+    uint32_t badge;   /* with outcome 2; else 0 */
+    uint32_t message; /* the same */
+};
+
+/* All that is lent. Its first words are the tables', so it may be stored up to the scratch. */
+struct nazsombet_lent {
+    uint32_t tables[NAZSOMBET_TABLES];
+    uint32_t grants[NAZSOMBET_GRANTS];
+    uint32_t scratch[NAZSOMBET_SCRATCH];
+};
+
+/* What follows is compiled with the host: its own code, and none of it is proved. C89 has no inline. */
+#if defined(__cplusplus) || (defined(__STDC_VERSION__) && __STDC_VERSION__ >= 199901L)
+#define NAZSOMBET_INLINE static inline
+#elif defined(__GNUC__)
+#define NAZSOMBET_INLINE static __inline__
+#else
+#define NAZSOMBET_INLINE static
+#endif
+
+/* A call by all of its numbers. */
+NAZSOMBET_INLINE struct nazsombet_numbers nazsombet_any_call(uint32_t number, uint32_t subject, uint32_t argument,
+                                                             uint32_t badge, uint32_t message, uint32_t rights)
+{
+    struct nazsombet_numbers call;
+    call.number = number;
+    call.subject = subject;
+    call.argument = argument;
+    call.badge = badge;
+    call.message = message;
+    call.rights = rights;
+    return call;
+}
+
+/* The thirteen calls, to be taken by nazsombet_call: none of these functions makes its call. */
+NAZSOMBET_INLINE struct nazsombet_numbers nazsombet_create_thread_call(uint32_t thread, uint32_t priority)
+{
+    return nazsombet_any_call(NAZSOMBET_CREATE_THREAD, thread, priority, 0, 0, 0);
+}
+
+NAZSOMBET_INLINE struct nazsombet_numbers nazsombet_destroy_thread_call(uint32_t thread)
+{
+    return nazsombet_any_call(NAZSOMBET_DESTROY_THREAD, thread, 0, 0, 0, 0);
+}
+
+NAZSOMBET_INLINE struct nazsombet_numbers nazsombet_set_priority_call(uint32_t thread, uint32_t priority)
+{
+    return nazsombet_any_call(NAZSOMBET_SET_PRIORITY, thread, priority, 0, 0, 0);
+}
+
+NAZSOMBET_INLINE struct nazsombet_numbers nazsombet_create_endpoint_call(uint32_t endpoint)
+{
+    return nazsombet_any_call(NAZSOMBET_CREATE_ENDPOINT, endpoint, 0, 0, 0, 0);
+}
+
+NAZSOMBET_INLINE struct nazsombet_numbers nazsombet_interrupt_call(uint32_t line)
+{
+    return nazsombet_any_call(NAZSOMBET_INTERRUPT, line, 0, 0, 0, 0);
+}
+
+NAZSOMBET_INLINE struct nazsombet_numbers nazsombet_tick_call(void)
+{
+    return nazsombet_any_call(NAZSOMBET_TICK, 0, 0, 0, 0, 0);
+}
+
+NAZSOMBET_INLINE struct nazsombet_numbers nazsombet_send_call(uint32_t endpoint, uint32_t badge, uint32_t message)
+{
+    return nazsombet_any_call(NAZSOMBET_SEND, endpoint, 0, badge, message, 0);
+}
+
+NAZSOMBET_INLINE struct nazsombet_numbers nazsombet_receive_call(uint32_t endpoint)
+{
+    return nazsombet_any_call(NAZSOMBET_RECEIVE, endpoint, 0, 0, 0, 0);
+}
+
+NAZSOMBET_INLINE struct nazsombet_numbers nazsombet_yield_call(void)
+{
+    return nazsombet_any_call(NAZSOMBET_YIELD, 0, 0, 0, 0, 0);
+}
+
+NAZSOMBET_INLINE struct nazsombet_numbers nazsombet_wait_call(uint32_t line)
+{
+    return nazsombet_any_call(NAZSOMBET_WAIT, line, 0, 0, 0, 0);
+}
+
+NAZSOMBET_INLINE struct nazsombet_numbers nazsombet_delete_call(uint32_t endpoint, uint32_t allowance)
+{
+    return nazsombet_any_call(NAZSOMBET_DELETE, endpoint, allowance, 0, 0, 0);
+}
+
+NAZSOMBET_INLINE struct nazsombet_numbers nazsombet_abort_call(uint32_t endpoint, uint32_t allowance, uint32_t badge)
+{
+    return nazsombet_any_call(NAZSOMBET_ABORT, endpoint, allowance, badge, 0, 0);
+}
+
+NAZSOMBET_INLINE struct nazsombet_numbers nazsombet_grant_call(uint32_t thread, uint32_t endpoint, uint32_t rights,
+                                                               uint32_t badge)
+{
+    return nazsombet_any_call(NAZSOMBET_GRANT, thread, endpoint, badge, 0, rights);
+}
+
+/* The entries on memory lent as a whole: none of them answers 16. */
+NAZSOMBET_INLINE uint32_t nazsombet_lent_fresh(struct nazsombet_lent *lent)
+{
+    return nazsombet_fresh(lent->tables, NAZSOMBET_TABLES, lent->grants, NAZSOMBET_GRANTS);
+}
+
+NAZSOMBET_INLINE uint32_t nazsombet_lent_check(struct nazsombet_lent *lent)
+{
+    return nazsombet_check(lent->tables, NAZSOMBET_TABLES, lent->grants, NAZSOMBET_GRANTS, lent->scratch,
+                           NAZSOMBET_SCRATCH);
+}
+
+NAZSOMBET_INLINE uint32_t nazsombet_lent_call(struct nazsombet_lent *lent, struct nazsombet_numbers call,
+                                              struct nazsombet_answer *answer)
+{
+    return nazsombet_call(lent->tables, NAZSOMBET_TABLES, lent->grants, NAZSOMBET_GRANTS, lent->scratch,
+                          NAZSOMBET_SCRATCH, &call, answer);
+}
+
+NAZSOMBET_INLINE uint32_t nazsombet_lent_running(const struct nazsombet_lent *lent)
+{
+    return nazsombet_running(lent->tables, NAZSOMBET_TABLES);
+}
+
+NAZSOMBET_INLINE struct nazsombet_waking nazsombet_lent_woken(const struct nazsombet_lent *lent, uint32_t thread)
+{
+    struct nazsombet_waking waking;
+    uint32_t words[3];
+    nazsombet_woken(lent->tables, NAZSOMBET_TABLES, thread, words);
+    waking.outcome = words[0];
+    waking.badge = words[1];
+    waking.message = words[2];
+    return waking;
+}
 
 #ifdef __cplusplus
 }

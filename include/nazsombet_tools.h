@@ -39,8 +39,8 @@ extern "C" {
  * 28, out_length is below 160; 18, the numbers name no call; 19, a number of the call is out of its range. With these
  * three *used is 0, and the buffer is as it was.
  */
-uint32_t nazsombet_sentence(uint8_t *out, size_t out_length, const struct nazsombet_numbers *call,
-                            const struct nazsombet_answer *answer, size_t *used);
+uint32_t nazsombet_sentence(const struct nazsombet_numbers *call, const struct nazsombet_answer *answer, uint8_t *out,
+                            size_t out_length, size_t *used);
 
 #ifdef __cplusplus
 }

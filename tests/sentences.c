@@ -128,7 +128,7 @@ static uint32_t ask(size_t length)
         frame[at] = known(at);
     out = frame + MARGIN + turn++ % 8;
     used = SIZE_MAX;
-    uint32_t code = nazsombet_sentence(out, length, &call, &answer, &used);
+    uint32_t code = nazsombet_sentence(&call, &answer, out, length, &used);
     size_t start = (size_t)(out - frame);
     judge(AROUND, stays(0, start) && stays(start + length, sizeof frame));
     judge(LENT, memcmp(&call, &call_before, sizeof call) == 0 && memcmp(&answer, &answer_before, sizeof answer) == 0);

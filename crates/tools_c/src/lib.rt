@@ -38,9 +38,9 @@ fn sentence_named(out: &mut [u8], named: Named, answer: Answer) -> Output
 // Writes the sentence of a call and its answer.
 #[no_mangle]
 pub extern "C" fn nazsombet_sentence(
-    out: &mut [u8],
     call: &[u32; 6],
     answer: &[u32; 4],
+    out: &mut [u8],
     used: &mut usize,
 ) -> u32
     ensures { λ r. ⌜ _≡_ {A = Filed} (record { code = r; used = now (used .exit); out = now (out .exit) })

@@ -1,12 +1,12 @@
 //! The compiled core as the comparison sees it.
 
 use crate::subject::{Core, Memory};
-use core_c::{Answer, Numbers};
+use nazsombet::{Answer, Numbers, Waking};
 use second::{Call, Read, Written};
 
 /// The compiled core, with the memory lent to it.
 #[derive(Default)]
-pub struct Compiled(core_c::Core);
+pub struct Compiled(nazsombet::Core);
 
 /// A call as the core takes it.
 pub fn numbers(call: &Call) -> Numbers {
@@ -43,12 +43,17 @@ impl Core for Compiled {
     }
 
     fn call(&mut self, call: &Call) -> [u32; 4] {
-        let Answer { code, count, badge, message } = self.0.call(&numbers(call));
+        let Answer { code, count, badge, message } = self.0.call(numbers(call));
         [code, count, badge, message]
     }
 
     fn running(&self) -> Option<u32> {
         self.0.running()
+    }
+
+    fn woken(&self, thread: u32) -> [u32; 3] {
+        let Waking { outcome, badge, message } = self.0.woken(thread);
+        [outcome, badge, message]
     }
 
     fn memory(&self) -> Memory<'_> {
@@ -65,18 +70,18 @@ impl Core for Compiled {
     }
 
     fn write(&self, call: &Call) -> Written {
-        let core_c::Written { code, count, words } = core_c::Core::write(numbers(call));
+        let nazsombet::Written { code, count, words } = nazsombet::Core::write(numbers(call));
         Written { code, words, len: count }
     }
 
     fn read(&self, journal: &[u32], at: usize) -> Read {
-        match core_c::Core::read(journal, at) {
-            core_c::Read::Found { call, next } => Read::Call { call: call_of(&call), next },
-            core_c::Read::Refused { code, at: stays } => {
+        match nazsombet::Core::read(journal, at) {
+            nazsombet::Read::Found { call, next } => Read::Call { call: call_of(&call), next },
+            nazsombet::Read::Refused { code, at: stays } => {
                 assert_eq!(stays, at, "the reader stays where the call began");
                 Read::Refused(code)
             }
-            core_c::Read::Ended => Read::Ended,
+            nazsombet::Read::Ended => Read::Ended,
         }
     }
 }

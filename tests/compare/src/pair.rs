@@ -10,9 +10,23 @@ fn memory_of<'a>(tables: &'a [u32], machine: &'a Machine) -> Memory<'a> {
     Memory { tables, grants: machine.grants() }
 }
 
+/// Outcome, badge and message as a host is to hear them; there is no thread 256.
+fn waking(machine: &Machine, thread: u32) -> [u32; 3] {
+    let Ok(thread) = u8::try_from(thread) else {
+        return [0; 3];
+    };
+    let block = machine.thread(thread);
+    match block.outcome {
+        2 => [2, block.badge, block.message],
+        outcome => [outcome.into(), 0, 0],
+    }
+}
+
 /// The core and the second machine, after the same calls.
 pub struct Pair<C> {
     side: Side<C>,
+    /// A number from 0 to 256, another one with each call.
+    turn: u32,
     before: Machine,
     machine: Machine,
     /// The machine's tables as words; its grants are words themselves.
@@ -22,7 +36,7 @@ pub struct Pair<C> {
 impl<C: Core> Pair<C> {
     pub fn new(core: C) -> Pair<C> {
         let (before, machine) = (Machine::fresh(), Machine::fresh());
-        Pair { side: Side::new(core), before, machine, image: vec![0; TABLE] }
+        Pair { side: Side::new(core), turn: 0, before, machine, image: vec![0; TABLE] }
     }
 
     pub fn machine(&self) -> &Machine {
@@ -53,6 +67,7 @@ impl<C: Core> Pair<C> {
         let Answer { code, count, badge, message } = answer;
         self.side.call(call, [code, count, badge, message])?;
         self.same_state("after the call")?;
+        self.same_wakings()?;
         self.side.check(memory_of(&self.image, &self.machine), 0)?;
         Ok(answer)
     }
@@ -62,6 +77,20 @@ impl<C: Core> Pair<C> {
         same("running thread", self.side.core.running(), self.machine.running().map(u32::from))?;
         write_memory(&self.machine, &mut self.image);
         self.side.memory(memory_of(&self.image, &self.machine), when)
+    }
+
+    /// How threads were woken: who made the call, who runs, all that the call woke, and one number more in its turn.
+    fn same_wakings(&mut self) -> Same {
+        self.turn = (self.turn + 1) % 257;
+        let ran = [self.before.running(), self.machine.running()].into_iter().flatten();
+        let woken = self.machine.log().woken.iter().copied();
+        for thread in ran.chain(woken).map(u32::from).chain([self.turn]) {
+            let (core, second) = (self.side.core.woken(thread), waking(&self.machine, thread));
+            if core != second {
+                return same(&format!("how thread {thread} was woken"), core, second);
+            }
+        }
+        Ok(())
     }
 }
 

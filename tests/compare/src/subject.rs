@@ -17,6 +17,9 @@ pub trait Core {
 
     fn running(&self) -> Option<u32>;
 
+    /// How a thread was woken: outcome, badge, message.
+    fn woken(&self, thread: u32) -> [u32; 3];
+
     fn memory(&self) -> Memory<'_>;
 
     /// Puts other words in the place of tables and grants.

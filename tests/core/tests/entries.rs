@@ -1,6 +1,6 @@
 //! The entry points, on document 01's example and at the edges of what they are lent.
 
-use core_c::{Answer, Core, Numbers, Read, Written, GRANTS, SCRATCH, TABLES};
+use nazsombet::{Answer, Core, Numbers, Read, Written, GRANTS, SCRATCH, TABLES};
 
 const JOURNAL: [u32; 27] = [
     0x1101000A, 0x1102000A, 0x11030014, 0x14000000, 0x1D010100, 0x20000008, 0x1D020800, 0x20000000,

@@ -75,6 +75,10 @@ faults! {
     UnsoundGrantsTaken,
     FreshLeavesGrants,
     RightsRefusedByRange,
+    NobodyWoken,
+    SendersBadgeTold,
+    NeighbourWoken,
+    Thread256Woken,
 }
 
 pub struct Faulty {
@@ -309,6 +313,22 @@ impl Core for Faulty {
     fn running(&self) -> Option<u32> {
         let kept = (self.fault == Fault::RunningKept).then_some(0);
         self.machine.running().map(u32::from).or(kept)
+    }
+
+    fn woken(&self, thread: u32) -> [u32; 3] {
+        let t = match (self.fault, u8::try_from(thread)) {
+            (Fault::NeighbourWoken, Ok(t)) => t ^ 1,
+            (_, Ok(t)) => t,
+            (Fault::Thread256Woken, Err(_)) => 0,
+            (_, Err(_)) => return [0; 3],
+        };
+        let block = self.machine.thread(t);
+        match (self.fault, block.outcome) {
+            (Fault::NobodyWoken, _) => [0; 3],
+            (Fault::SendersBadgeTold, outcome) => [outcome.into(), block.badge, block.message],
+            (_, 2) => [2, block.badge, block.message],
+            (_, outcome) => [outcome.into(), 0, 0],
+        }
     }
 
     fn memory(&self) -> Memory<'_> {

@@ -3,7 +3,7 @@
 use crate::figures::{Figures, Step};
 use crate::measure::Work;
 use crate::scenes::{ALL, AT_QUEUE, CALLS, ENDINGS, FILLS, MEMBERS, SENDERS};
-use core_c::GRANTS;
+use nazsombet::GRANTS;
 use std::iter::once;
 
 /// The number of the call with the most instructions.

@@ -2,7 +2,7 @@
 
 use crate::scenes::Scene;
 use comparison::numbers;
-use core_c::{Core, Numbers, Read, GRANTS, TABLES};
+use nazsombet::{Core, Numbers, Read, GRANTS, TABLES};
 use second::Machine;
 use std::hint::black_box;
 use std::time::Instant;
