@@ -20,7 +20,7 @@ fn passes(tables: &[u32], scratch: &mut [u32]) -> bool
     requires { ⌜ (length (now tables) ≡ tableWords) × (now scratch ≡ zeros) ⌝ }
     ensures { λ r. ⌜ r ≡ goodTest (now (tables .entry)) ⌝ }
 {
-    if !sound_words::threads::threads(tables) {
+    if !sound_words::thread_words::threads(tables) {
         return false;
     }
     if !sound_queues::levels::levels(tables, scratch) {

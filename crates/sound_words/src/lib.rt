@@ -2,4 +2,4 @@
 // and the unused words. Each public function answers a test of soundness/specs/Checks.
 pub mod chosen;
 pub mod rest;
-pub mod threads;
+pub mod thread_words;

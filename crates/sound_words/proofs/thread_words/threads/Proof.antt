@@ -8,8 +8,8 @@ use borrow.Author.Needs.{needs}
 use borrow.Author.Tests.{not-true, not-false}
 use Rattle.soundness.specs.Checks.{blockTest}
 use Rattle.soundness.proofs.Every.{all-hold, one-fails}
-use Rattle.sound_words.proofs.threads.threads.Statement.{statement}
-use Rattle.sound_words.proofs.threads.threads.Tie as tie
+use Rattle.sound_words.proofs.thread_words.threads.Statement.{statement}
+use Rattle.sound_words.proofs.thread_words.threads.Tie as tie
 
 abbrev Inv-loop : tie.InvT-loop
 Inv-loop tables t₀ t = (t ≤ 256) × ((k : ℕ) → k < t → blockTest tables k ≡ true)

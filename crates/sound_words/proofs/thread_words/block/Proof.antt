@@ -1,8 +1,8 @@
 -- An absent thread or a present one.
 use borrow.Author.Needs.{needs}
 use Rattle.sound_words.proofs.Numbers.{block-absent, block-present}
-use Rattle.sound_words.proofs.threads.block.Statement.{statement}
-use Rattle.sound_words.proofs.threads.block.Tie as tie
+use Rattle.sound_words.proofs.thread_words.block.Statement.{statement}
+use Rattle.sound_words.proofs.thread_words.block.Tie as tie
 
 thread-requires : tie.Need-thread-requires
 thread-requires c κs = search needs

@@ -1,8 +1,8 @@
 -- A thread on a line is the line's waiter.
 use borrow.Author.Needs.{needs}
 use Rattle.sound_words.proofs.Numbers.{waits-not, waits-line}
-use Rattle.sound_words.proofs.threads.waits.Statement.{statement}
-use Rattle.sound_words.proofs.threads.waits.Tie as tie
+use Rattle.sound_words.proofs.thread_words.waits.Statement.{statement}
+use Rattle.sound_words.proofs.thread_words.waits.Tie as tie
 
 thread-requires : tie.Need-thread-requires
 thread-requires c κs = search needs

@@ -1,8 +1,8 @@
 -- The words of an absent thread are 0.
 use borrow.Author.Needs.{needs}
 use Rattle.soundness.specs.Checks.{absentTest}
-use Rattle.sound_words.proofs.threads.absent.Statement.{statement}
-use Rattle.sound_words.proofs.threads.absent.Tie as tie
+use Rattle.sound_words.proofs.thread_words.absent.Statement.{statement}
+use Rattle.sound_words.proofs.thread_words.absent.Tie as tie
 
 thread-requires : tie.Need-thread-requires
 thread-requires c κs = search needs

@@ -2,8 +2,8 @@
 use borrow.Author.Needs.{needs}
 use borrow.Author.Tests.{not-true, not-false}
 use Rattle.sound_words.proofs.Numbers.{present-not, present-all, place-small}
-use Rattle.sound_words.proofs.threads.present.Statement.{statement}
-use Rattle.sound_words.proofs.threads.present.Tie as tie
+use Rattle.sound_words.proofs.thread_words.present.Statement.{statement}
+use Rattle.sound_words.proofs.thread_words.present.Tie as tie
 
 numbers-requires : tie.Need-numbers-requires
 numbers-requires c κs = search needs

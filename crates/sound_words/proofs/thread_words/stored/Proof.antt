@@ -1,8 +1,8 @@
 -- Outcome, badge and message stand where a thread stores them.
 use borrow.Author.Needs.{needs}
 use Rattle.soundness.specs.Checks.{storedTest}
-use Rattle.sound_words.proofs.threads.stored.Statement.{statement}
-use Rattle.sound_words.proofs.threads.stored.Tie as tie
+use Rattle.sound_words.proofs.thread_words.stored.Statement.{statement}
+use Rattle.sound_words.proofs.thread_words.stored.Tie as tie
 
 thread-requires : tie.Need-thread-requires
 thread-requires c κs = search needs

@@ -1,8 +1,8 @@
 -- What a thread owes, by the three cases of its word.
 use borrow.Author.Needs.{needs}
 use Rattle.sound_words.proofs.Numbers.{owing-nothing, owing-work, owing-note}
-use Rattle.sound_words.proofs.threads.owing.Statement.{statement}
-use Rattle.sound_words.proofs.threads.owing.Tie as tie
+use Rattle.sound_words.proofs.thread_words.owing.Statement.{statement}
+use Rattle.sound_words.proofs.thread_words.owing.Tie as tie
 
 thread-requires : tie.Need-thread-requires
 thread-requires c κs = search needs

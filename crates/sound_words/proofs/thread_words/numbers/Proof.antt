@@ -1,8 +1,8 @@
 -- The numbers of a present thread are in range.
 use borrow.Author.Needs.{needs}
 use Rattle.soundness.specs.Checks.{numbersTest}
-use Rattle.sound_words.proofs.threads.numbers.Statement.{statement}
-use Rattle.sound_words.proofs.threads.numbers.Tie as tie
+use Rattle.sound_words.proofs.thread_words.numbers.Statement.{statement}
+use Rattle.sound_words.proofs.thread_words.numbers.Tie as tie
 
 thread-requires : tie.Need-thread-requires
 thread-requires c κs = search needs
