@@ -164,6 +164,66 @@ fn joiners() -> Words {
     .concat()
 }
 
+/// Server 1 has received lookup 100 of badge 7 and waits for its page; the
+/// badge's holder 2 is gone, and page store 9 has aborted the badge. Answers go
+/// to endpoint 7, where the old holder's line out, 4, waits.
+fn unanswered() -> Words {
+    [
+        endpoint(0),
+        endpoint(7),
+        holder(1, 10, 0, RECEIVE, 0),
+        grant(1, 7, SEND, 7),
+        receive(0),
+        holder(4, 6, 7, RECEIVE, 0),
+        receive(7),
+        holder(2, 5, 0, SEND, 7),
+        send(0, 7, 100), // handed to 1
+        wait(0),
+        grant(2, 0, 0, 0),
+        destroy(2),
+        holder(9, 8, 0, SEND | ABORT, 9),
+        abort(0, 5, 7), // nothing is queued
+    ]
+    .concat()
+}
+
+/// The old holder's line out goes; 5 is the new holder's, 3 the new holder.
+fn plugged_in() -> Words {
+    [destroy(4), holder(5, 6, 7, RECEIVE, 0), holder(3, 9, 0, SEND, 7)].concat()
+}
+
+fn moved_early() -> Words {
+    [
+        unanswered(),
+        plugged_in(),
+        send(0, 7, 300),  // queued: 1 waits for its page
+        interrupt(0),     // the page is there
+        send(7, 7, 1100), // the answer to lookup 100
+        wait(1),
+        receive(7), // 5 has it
+        receive(0), // lookup 300 is received only now
+    ]
+    .concat()
+}
+
+fn moved() -> Words {
+    [
+        unanswered(),
+        send(0, 9, 0), // 9 waits until this is taken
+        interrupt(0),
+        send(7, 7, 1100), // handed to 4
+        receive(0),       // the message of 9, which is woken
+        receive(0),
+        plugged_in(),
+        send(0, 7, 300),  // handed to 1
+        send(7, 7, 1300), // its answer
+        wait(1),
+        wait(2),
+        receive(7), // 5 has it
+    ]
+    .concat()
+}
+
 fn endpoints() -> Words {
     [
         create(1, 10),
@@ -806,6 +866,8 @@ fn journals() -> Vec<(&'static str, Words, &'static [u8])> {
         ("example", example(), &[]),
         ("incident", incident(), &[]),
         ("joiners", joiners(), &[]),
+        ("moved_early", moved_early(), &[]),
+        ("moved", moved(), &[]),
         ("endpoints", endpoints(), &[]),
         ("lines", lines(), &[]),
         ("priorities", priorities(), &[]),
