@@ -30,7 +30,10 @@ calls=$(sed -n -e 's/^[0-9a-f]* <\(.*\)>:$/in \1/p' \
 holds "calls in a loop" "$(echo "$calls" | tsort 2>&1 >/dev/null)" ""
 holds "calls between its functions seen" "$([ -n "$calls" ] && echo yes)" yes
 
-# So the stack is at most all frames together: return addresses, registers saved, locals, and the red zone.
+# So the stack is at most all frames together: return addresses, registers saved, locals, and the red zone. No frame is
+# made in another way than by push and sub; tests/stack.sh measures what is taken.
+holds "frames made in another way" \
+    "$(grep -cE '\<(lea|and|or|xchg|mov)[a-z]* .*,%rsp$|\<add *\$0xffff.*,%rsp$|\<enter\>' "$code")" 0
 frames=$(($(grep -c '^[0-9a-f]* <.*>:$' "$code") * 8 + $(grep -cE '\<push\>' "$code") * 8 + 128))
 for locals in $(sed -n 's/.*sub *\$\(0x[0-9a-f]*\),%rsp$/\1/p' "$code"); do
     frames=$((frames + locals))
@@ -41,6 +44,12 @@ used=$(grep -oE '%xmm[0-9]+' "$code" | sed 's/%xmm//' | sort -n | tail -n 1)
 named=$(sed -n 's/.* use the SSE registers xmm0 to xmm\([0-9]*\), .*/\1/p' include/nazsombet.h)
 holds "the highest SSE register used, $used, is the one that the header names" "$used" "$named"
 holds "wider, x87 and MMX registers" "$(grep -oE '%(ymm|zmm|mm|st)[0-9(]*' "$code" | sort -u | tr '\n' ' ')" ""
+# What a processor with SSE2 and no more has not: SSE3 to SSE4.2, AVX, and counting and moving bits.
+beyond='addsubp|h(add|sub)p|lddqu|mov(ddup|shdup|sldup|ntdqa|be)|pabs|palignr|ph(add|sub|min)|pmaddub|pmulhrsw|pshufb'
+beyond="$beyond|psign|p?blend|dpp|extractps|insertps|mpsadbw|packusdw|pcmp(eqq|gtq|[ei]str)|p(extr|insr)[bdq]"
+beyond="$beyond|p(max|min)(sb|sd|uw|ud)|pmov[sz]x|pmul(dq|ld)|ptest|round[ps]|crc32|popcnt|lzcnt|tzcnt|andn |bextr"
+beyond="$beyond|bls(i|r|msk)|bzhi|p(dep|ext) |rorx|sarx|sh[lr]x|mulx|ad[co]x|v[a-z]+ .*%xmm"
+holds "instructions beyond SSE2" "$(grep -oE "[[:space:]]($beyond)" "$code" | sort -u | tr -d '\n')" ""
 holds "writes below the stack pointer" "$(grep -qE 'mov.*,-0x[0-9a-f]+\(%rsp\)' "$code" && echo yes)" yes
 far=
 for below in $(grep -oE -- '-0x[0-9a-f]+\(%rsp' "$code" | grep -oE '0x[0-9a-f]+' | sort -u); do

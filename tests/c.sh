@@ -6,6 +6,7 @@ cd "$(dirname "$0")/.."
 rt staticlib core_c
 cc -std=c99 -Wall -Wextra -Wpedantic -Werror -Iinclude -o target/host examples/host.c target/staticlib/libcore_c.a
 sh tests/archive.sh
+sh tests/stack.sh
 sh tests/journals.sh target/host
 cd tests
 cargo test --quiet -p core_c
