@@ -2,7 +2,7 @@
 
 use crate::figures::{Figures, Step};
 use crate::measure::Work;
-use crate::scenes::{ALL, AT_QUEUE, CALLS, ENDINGS, FILLS, MEMBERS, SENDERS};
+use crate::scenes::{ALL, AT_QUEUE, CALLS, CHECKED, DEAREST, ENDINGS, FILLS, MEMBERS, SENDERS};
 use nazsombet::GRANTS;
 use std::iter::once;
 
@@ -63,6 +63,16 @@ impl Report<'_> {
     fn ending(&self, members: usize, what: usize) -> &Figures {
         let queues = CALLS.len() * FILLS.len() + AT_QUEUE.len() * SENDERS.len();
         &self.0[queues + ENDINGS.len() * members + what]
+    }
+
+    /// The check of each kind of tables.
+    fn checked(&self, what: usize) -> &Figures {
+        &self.0[self.0.len() - DEAREST.len() - CHECKED.len() + what]
+    }
+
+    /// A call with the most work.
+    fn dearest(&self, what: usize) -> &Figures {
+        &self.0[self.0.len() - DEAREST.len() + what]
     }
 
     /// The calls on tables of one fill.
@@ -192,6 +202,30 @@ impl Report<'_> {
         text
     }
 
+    /// What the check goes through.
+    fn checks(&self, unit: Unit) -> String {
+        let mut text = head(&["Tables", "check"]);
+        for (what, name) in CHECKED.iter().enumerate() {
+            let check = whole((unit.work)(self.checked(what), Work::Check));
+            text += &row([String::from(*name), check].into_iter());
+        }
+        text
+    }
+
+    /// The calls with the most work, beside a pass over what is lent.
+    fn most(&self, unit: Unit) -> String {
+        let mut text = head(&["Call", "check", "step", "call", "pass", "call : pass"]);
+        for (what, name) in DEAREST.iter().enumerate() {
+            let figures = self.dearest(what);
+            let [check, call, pass] =
+                [Work::Check, Work::Call, Work::Pass].map(|work| (unit.work)(figures, work));
+            let cells = [check, (unit.step)(figures, Step::Core), call, pass].map(whole);
+            let over = ratio(call, pass);
+            text += &row(once(String::from(*name)).chain(cells).chain(once(over)));
+        }
+        text
+    }
+
     /// All tables, each under a line that says what it shows.
     pub fn text(&self, counted: bool) -> String {
         let units = &UNITS[..1 + counted as usize];
@@ -217,6 +251,14 @@ impl Report<'_> {
         for &unit in units {
             text += &format!("\n## Steps that end an abort, {}\n\n", unit.name);
             text += &self.endings(unit);
+        }
+        for &unit in units {
+            text += &format!("\n## What the check goes through, {}\n\n", unit.name);
+            text += &self.checks(unit);
+        }
+        for &unit in units {
+            text += &format!("\n## The dearest calls, {}\n\n", unit.name);
+            text += &self.most(unit);
         }
         if counted {
             text += "\n## Reading a call, instructions\n\n";

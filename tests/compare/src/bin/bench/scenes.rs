@@ -1,6 +1,6 @@
 //! The tables and grants that calls are measured on, built by calls.
 
-use second::{memory, write, Call, Machine};
+use second::{aborting_at, memory, owes_at, shown, write, Call, Machine};
 use std::ops::RangeInclusive;
 
 /// Tables and a call on them.
@@ -250,13 +250,86 @@ pub fn ending(members: Option<u32>, what: usize) -> Scene {
     })
 }
 
+/// What the check goes through.
+pub const CHECKED: [&str; 6] = [
+    "no thread",
+    "one thread, running at level 255",
+    "one thread, running at level 0",
+    "255 more, ready at level 0",
+    "255 more, sending at one endpoint",
+    "the same, under an abort that has looked at one",
+];
+
+/// Tables that the check is measured on, under a tick.
+pub fn checked(what: usize) -> Scene {
+    let mut s = Stage(Machine::fresh());
+    let (endpoint, badge) = (ENDPOINT, BADGE);
+    s.endpoint(endpoint);
+    match what {
+        0 | 1 | 2 => (),
+        3 => (1..=255).for_each(|t| s.thread(t, 0)),
+        _ => (1..=255).for_each(|t| s.sender(t, endpoint, badge)),
+    }
+    if what > 0 {
+        s.thread(ACTOR, TOP);
+        s.grant(ACTOR, endpoint, badge);
+    }
+    if what == 5 {
+        s.make(Call::Abort { endpoint, allowance: 1, badge: OTHER });
+    }
+    if what > 1 && what != 3 {
+        s.make(Call::SetPriority { thread: ACTOR, priority: 0 });
+    }
+    s.scene(Call::Tick)
+}
+
+/// The calls with the most work: all of a queue of 255 removed, all looked at
+/// for another badge and then for its own, and one look more of that, with 255
+/// members to note, on memory that no calls lead to.
+pub const DEAREST: [&str; 4] = [
+    "delete, 255 removals",
+    "abort, 255 looks",
+    "abort after another badge's, 509 looks",
+    "the same with 510 looks and 255 notes, on memory that no calls lead to",
+];
+
+/// A call with the most work, by a thread below all other levels.
+pub fn dearest(what: usize) -> Scene {
+    let (endpoint, badge, allowance) = (ENDPOINT, BADGE, 65_535);
+    let under_abort = what > 1;
+    let Scene { machine, words, .. } = checked(if under_abort { 5 } else { 4 });
+    let call = match what {
+        0 => Call::Delete { endpoint, allowance },
+        _ => Call::Abort { endpoint, allowance, badge },
+    };
+    let scene = Stage(machine).scene(call);
+    if what == 3 {
+        unreached(scene, words)
+    } else {
+        scene
+    }
+}
+
+/// The abort at the scene's endpoint is made to begin anew, with all that send
+/// there in its set.
+fn unreached(scene: Scene, mut words: Vec<u32>) -> Scene {
+    let (cursor, first) = (aborting_at(ENDPOINT as u8) + 2, 1);
+    words[cursor] = first + 1;
+    (1..=255).for_each(|t| words[owes_at(t)] = 1 + ENDPOINT);
+    let machine = shown(&words).expect("words with a meaning").with_grants(scene.machine.grants());
+    Scene { machine, words, ..scene }
+}
+
 /// All that is measured: the calls for each fill, then what is done at
-/// queues of each length, then how aborts end.
+/// queues of each length, then how aborts end, what the check goes through and
+/// the calls with the most work.
 pub fn scenes() -> Vec<Scene> {
     let numbers = 1..=CALLS.len() as u32;
     let filled = |&(_, threads)| numbers.clone().map(move |n| scene(n, threads));
     let calls = FILLS.iter().flat_map(filled);
     let queues = SENDERS.iter().flat_map(|&n| (0..AT_QUEUE.len()).map(move |what| queue(n, what)));
     let endings = MEMBERS.iter().flat_map(|&n| (0..ENDINGS.len()).map(move |what| ending(n, what)));
-    calls.chain(queues).chain(endings).collect()
+    let checks = (0..CHECKED.len()).map(checked);
+    let most = (0..DEAREST.len()).map(dearest);
+    calls.chain(queues).chain(endings).chain(checks).chain(most).collect()
 }
