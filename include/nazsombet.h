@@ -21,7 +21,7 @@
  *     and of the tools nazsombet_sentence takes 128.
  *   - have no unwind tables: nothing can be thrown through them, and a debugger sees no frames.
  *   - stand in a section each: linked with -Wl,--gc-sections a host keeps those that it uses and what they call, some
- *     8.6 of 10.9 KB of code for nazsombet_fresh, nazsombet_call and nazsombet_running.
+ *     8.5 of 10.7 KB of code for nazsombet_fresh, nazsombet_call and nazsombet_running.
  * tests/archive.sh and tests/stack.sh try these on the compiled library, but for the direction flag and the sizes.
  *
  * An interrupt during a call. One caller at a time lends the memory: a handler that makes a call while another call is
