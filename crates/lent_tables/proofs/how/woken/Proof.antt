@@ -15,7 +15,8 @@ plain-requires-2 : tie.Need-plain-requires-2
 plain-requires-2 c κs = search needs
 
 returns-2 : tie.Need-returns-2
-returns-2 c = no-thread _ _ (c .before .before .if1 .left) (c .plain2 .ensures) (c .before .if2 .taken)
+returns-2 c =
+    no-thread _ _ (c .before .before .if1 .left) (c .plain2 .ensures) (omega (arith, c .before .if2 .taken))
 
 get-requires : tie.Need-get-requires
 get-requires c κs = search needs
