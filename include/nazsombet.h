@@ -18,7 +18,7 @@
  *     the watermark on a painted stack, with the return address and what is written below the stack pointer,
  *     nazsombet_call takes 384 bytes at most, nazsombet_check takes 192, nazsombet_read takes 96,
  *     nazsombet_fresh takes 64, nazsombet_write takes 32, nazsombet_running takes 16,
- *     and of the tools nazsombet_sentence takes 128.
+ *     nazsombet_woken takes 16, and of the tools nazsombet_sentence takes 128.
  *   - have no unwind tables: nothing can be thrown through them, and a debugger sees no frames.
  *   - stand in a section each: linked with -Wl,--gc-sections a host keeps those that it uses and what they call, some
  *     8.5 of 10.7 KB of code for nazsombet_fresh, nazsombet_call and nazsombet_running.

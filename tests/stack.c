@@ -32,11 +32,11 @@ enum {
     ALL = 65535    /* allowance */
 };
 
-enum entry { FRESH, CHECK, CALL, READ, WRITE, RUNNING, SENTENCE, ENTRIES };
+enum entry { FRESH, CHECK, CALL, READ, WRITE, RUNNING, WOKEN, SENTENCE, ENTRIES };
 
 static const char *const names[ENTRIES] = {
-    "nazsombet_fresh", "nazsombet_check",   "nazsombet_call",     "nazsombet_read",
-    "nazsombet_write", "nazsombet_running", "nazsombet_sentence",
+    "nazsombet_fresh", "nazsombet_check",   "nazsombet_call",  "nazsombet_read",
+    "nazsombet_write", "nazsombet_running", "nazsombet_woken", "nazsombet_sentence",
 };
 
 static void complain(const char *what)
@@ -151,18 +151,19 @@ static uint32_t check(void)
     return ON_STACK(CHECK, nazsombet_check, AT(tables), TABLES, AT(grants), GRANTS, AT(scratch), SCRATCH);
 }
 
-/* A call and all that a host does with it: written, made, told, who runs. */
+/* A call and all that a host does with it: written, made, told, who runs, who woke. */
 static struct nazsombet_answer make(struct nazsombet_numbers call)
 {
     struct nazsombet_answer answer;
-    uint32_t words[3];
+    uint32_t words[3], woken[3];
     uint8_t line[ROOM];
     size_t count;
     ON_STACK(WRITE, nazsombet_write, AT(&call), AT(words), AT(&count));
     ON_STACK(CALL, nazsombet_call, AT(tables), TABLES, AT(grants), GRANTS, AT(scratch), SCRATCH, AT(&call),
              AT(&answer));
-    ON_STACK(SENTENCE, nazsombet_sentence, AT(line), ROOM, AT(&call), AT(&answer), AT(&count));
+    ON_STACK(SENTENCE, nazsombet_sentence, AT(&call), AT(&answer), AT(line), ROOM, AT(&count));
     ON_STACK(RUNNING, nazsombet_running, AT(tables), TABLES);
+    ON_STACK(WOKEN, nazsombet_woken, AT(tables), TABLES, call.subject, AT(woken));
     return answer;
 }
 
