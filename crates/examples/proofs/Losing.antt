@@ -25,6 +25,7 @@ use Rattle.history.specs.History.{Waiting, Step, waitingBy, isIn}
 use Rattle.history.specs.Recorded.{historyBy}
 use Rattle.history.specs.Claim.{Claim, In}
 use Rattle.history.specs.Queues.{Message, nobodyQueued}
+use Rattle.history.specs.Blocks.{noBlocks}
 use Rattle.machine.proofs.Preserved.Ready.{none-some}
 use Rattle.history.proofs.Computed.{computed}
 
@@ -255,9 +256,12 @@ noStep =
     record {
       place = 0;
       before = nobodyQueued;
+      was = waitingBy (λ t. 0) [] nobodyQueued;
       kept = waitingBy (λ t. 0) [] nobodyQueued;
       found = waitingBy (λ t. 0) [] nobodyQueued;
       handed = λ t. none;
+      keptBlocks = noBlocks;
+      foundBlocks = noBlocks;
     }
 
 abbrev latestOf : List Step → Step

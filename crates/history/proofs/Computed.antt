@@ -15,6 +15,7 @@ use Rattle.machine.specs.Machine.{interrupt, leaveTicks, tickFor, tick, sendTo,
 use Rattle.machine.specs.Machine.{receiveFrom, receiveAt, receive, yield, waitAt, wait, grantAt}
 use Rattle.machine.specs.Machine.{grantIf, grant, perform, performUnless, performIf, step}
 use Rattle.history.specs.Queues.{queuesBy, queuesIf}
+use Rattle.history.specs.Blocks.{blocksBy, blocksIf}
 use Rattle.history.specs.History.{named}
 use Rattle.history.specs.Walk.{leftOf, begins, ends, passes, settles, settle, takes, takeLook, walk, takesUp}
 use Rattle.history.specs.Walk.{joinsIn, letsGo, hears, closes, close}
@@ -31,5 +32,6 @@ unfolding put without only below enqueue enqueueFirst unqueue standDown standBac
     tickFor tick sendTo sendUnless sendAt send receiveFrom receiveAt receive yield waitAt wait grantAt grantIf grant
     perform performUnless performIf step lacks regranted grantsAfter named leftOf begins ends passes settles settle
     takes takeLook walk takesUp joinsIn letsGo hears closes close deletes walks abortsBy abortsOf outcomeOf outcomeIf
-    deliveredIf delivered abortCallsOf recorded told runFrom queuesBy queuesIf
+    deliveredIf delivered abortCallsOf recorded told runFrom queuesBy queuesIf blocksBy
+    blocksIf
 computed = tt

@@ -1,5 +1,6 @@
 -- Demand 3: the invariant of a list of calls and its history, call by call, and the theorem.
 pub mod Queued
+pub mod Telling
 pub mod Handings
 pub mod Standing
 pub mod Owing

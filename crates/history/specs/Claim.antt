@@ -8,6 +8,7 @@ use mathlib.Core.Option.{Option, none, some}
 use mathlib.Core.List.{List, [], _∷_}
 use lib.Dec.{eqb, ltb}
 use lib.ListN.{length, getElem?}
+use Rattle.calls.specs.Calls.{numberOf}
 use Rattle.calls.specs.declared.Answer.{Answer}
 use Rattle.calls.specs.declared.Call.{Call}
 use Rattle.calls.specs.declared.Call.the-variants.{CreateThread, DestroyThread, SetPriority, CreateEndpoint}
@@ -99,13 +100,15 @@ QueuesAt e c = ((b : ℕ) × (m : ℕ) × (c ≡ Send e b m)) ⊎ (c ≡ Receive
 abbrev pub WaitsOn : ℕ → Call → Type 0
 WaitsOn l c = c ≡ Wait l
 
--- A handing by the call of this step: the call, its answer, and what it gives.
+-- A handing by the call of this step: the call, its answer, what it gives, and that no message was queued there, so that
+-- who waited longest waited to receive.
 pub record Handing (calls : List Call) (h : History) (x : Step) (t : ℕ) (n : Message) : Type 0 where
   pub call : Call
   pub made : getElem? calls (x .place) ≡ some call
   pub answer : Answer
   pub answered : getElem? (h .answers) (x .place) ≡ some answer
   pub gives : Gives call answer (x .before) t n
+  pub receives : x .was .messages (gives .endpoint) ≡ []
 
 pub record Claim (calls : List Call) (h : History) : Type 0 where
   -- No call made after an abort had ended has handed a receiver a message queued at that endpoint under that badge
@@ -169,6 +172,21 @@ pub record Claim (calls : List Call) (h : History) : Type 0 where
   -- "Queued by a call 7 answered 1 … until a receive takes it, an abort or delete removes its waiter or its thread is
   -- destroyed": after every call the machine's queues and lines are those that the history keeps.
   pub queues-are : (x : Step) → In x (h .books .steps) → x .found ≡ x .kept
+  -- "Waiters are all senders or all receivers": no message stays queued where a receiver waits.
+  pub one-kind :
+      (x : Step) → In x (h .books .steps) → (e : ℕ)
+      → (x .kept .messages e ≡ []) ⊎ (x .kept .messages e ≡ x .kept .queues e)
+  -- After a call 11 answered 0 nobody is queued there.
+  pub emptied :
+      (x : Step) → In x (h .books .steps) → (e n : ℕ) (a : Answer) → getElem? calls (x .place) ≡ some (Delete e n)
+      → getElem? (h .answers) (x .place) ≡ some a → a .code ≡ 0 → x .kept .queues e ≡ []
+  -- Every thread has been told what its calls and those of others came to, and nothing else: outcome, badge and message
+  -- of each block are those that the history keeps.
+  pub blocks-are : (x : Step) → In x (h .books .steps) → x .foundBlocks ≡ x .keptBlocks
+  -- "Badge and message are 0 except for a receive that is done": no other answer hands anything.
+  pub words-zero :
+      (i : ℕ) (c : Call) (a : Answer) → getElem? calls i ≡ some c → getElem? (h .answers) i ≡ some a
+      → ((numberOf c ≡ 8) × (a .code ≡ 0) → ⊥) → (a .badge ≡ 0) × (a .message ≡ 0)
   -- A thread is handed a message where it waits by a call 7 answered 0 alone: that call's own, to who waited longest;
   pub handed-own :
       (x : Step) → In x (h .books .steps) → (t : ℕ) (n : Message) → x .handed t ≡ some n → Handing calls h x t n

@@ -1,8 +1,9 @@
 -- Lists of calls: what has come of a list of calls made in turn from fresh tables, told in the terms of the section
 -- of that name. It reads each call, its answer, who ran when it was made, and the log of looks; from these it keeps who
--- waits where. Of the machine's aborts, of their sets and pending waiters, and of what a thread owes it reads nothing;
--- the machine's queues and the threads' blocks it only sets beside its own, call by call (Step). Here stand what it has
--- and the names of waiters; Walk, Outcomes and Recorded make it.
+-- waits where and what each thread has been told. Of the machine's aborts, of their sets and pending waiters, and of what
+-- a thread owes it reads nothing; the machine's queues and the threads' blocks it only sets beside its own, call by call
+-- (Step), and nothing that it keeps depends on them. Here stand what it has and the names of waiters; Walk, Outcomes and
+-- Recorded make it.
 use Prim.Native.Nat.{ℕ}
 use mathlib.Core.Bool.{Bool, true, false, _||_}
 use mathlib.Core.Option.{Option, none, some}
@@ -17,6 +18,7 @@ use Rattle.machine.specs.State.{State, Line, quiet, pending, awaited}
 use Rattle.machine.specs.Endpoints.{senders}
 use Rattle.machine.specs.Results.{Look}
 use Rattle.history.specs.Queues.{Queues, Message}
+use Rattle.history.specs.Blocks.{Block}
 use Rattle.history.specs.Sorts.{Sort, other, destroys, waits, receives, yields, removes, looks}
 
 -- A waiter's name is the place in the list of its call 7, 8 or 10 answered 1, counted from 0. A message is named as
@@ -94,20 +96,25 @@ pub record Aborts : Type 0 where
   pub debts : Debts
   pub stray : List ℕ
 
--- What a call did to who waits: its place, the queues that the history kept before it; who waits after it by the history,
--- and by the machine's own queues; and whom the call handed what.
+-- What a call did: its place; who waited before it by the history, by thread and by name; who waits after it by the
+-- history, and by the machine's own queues; whom it handed what; and what the threads' blocks tell after it, by the
+-- history and by the machine.
 pub record Step : Type 0 where
   pub place : ℕ
   pub before : Queues
+  pub was : Waiting
   pub kept : Waiting
   pub found : Waiting
   pub handed : ℕ → Option Message
+  pub keptBlocks : ℕ → Block
+  pub foundBlocks : ℕ → Block
 
--- What the history keeps of who waits: the calls in order, the queues that they make, and each call's doing, the latest
--- first.
+-- What the history keeps of who waits: the calls in order, the queues that they make, what the threads have been told,
+-- and each call's doing, the latest first.
 pub record Books : Type 0 where
   pub calls : List Call
   pub queued : Queues
+  pub blocks : ℕ → Block
   pub steps : List Step
 
 pub record History : Type 0 where

@@ -1,5 +1,6 @@
 -- The history of a list of calls, and what is claimed of it.
 pub mod Queues
+pub mod Blocks
 pub mod Sorts
 pub mod History
 pub mod Walk

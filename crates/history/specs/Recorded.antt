@@ -15,6 +15,7 @@ use Rattle.history.specs.Sorts.{Sort, other, destroys, waits, receives, 
 use Rattle.history.specs.History.{Reported, Delivery, Waiting, AbortCall, History, isIn, queues?}
 use Rattle.history.specs.History.{Step, Books, named, waitingBy, waitingIn, namedLooks}
 use Rattle.history.specs.Queues.{Queues, nobodyQueued, queuesAfter, handedTo}
+use Rattle.history.specs.Blocks.{Block, noBlocks, blocksAfter, blocksIn}
 use Rattle.history.specs.Outcomes.{Outcome, outcomeIf}
 
 -- Deliveries and calls 12
@@ -85,6 +86,10 @@ namesAfter c s r h = named (queues? (sortOf c) (r .answer .code)) (s .runs) (h .
 abbrev pub queuedAfter : Call → State → Result → History → Queues
 queuedAfter c s r h = queuesAfter c (s .runs) (r .answer) (r .looks) (h .books .queued)
 
+-- So does what the threads have been told, by who waited besides.
+abbrev pub blocksKept : Call → State → Result → History → ℕ → Block
+blocksKept c s r h = blocksAfter c (s .runs) (r .answer) (r .looks) (h .books .queued) (h .books .blocks)
+
 abbrev pub waitingAfter : Call → State → Result → History → Waiting
 waitingAfter c s r h = waitingBy (namesAfter c s r h) (h .books .calls ++ (c ∷ [])) (queuedAfter c s r h)
 
@@ -93,9 +98,12 @@ stepOf c s r h =
     record {
       place = h .now;
       before = h .books .queued;
+      was = h .waiting;
       kept = waitingAfter c s r h;
       found = waitingIn (namesAfter c s r h) (r .state);
       handed = λ t. handedTo (s .threads t) (r .state .threads t);
+      keptBlocks = blocksKept c s r h;
+      foundBlocks = blocksIn (r .state);
     }
 
 abbrev pub booksAfter : Call → State → Result → History → Books
@@ -103,6 +111,7 @@ booksAfter c s r h =
     record {
       calls = h .books .calls ++ (c ∷ []);
       queued = queuedAfter c s r h;
+      blocks = blocksKept c s r h;
       steps = stepOf c s r h ∷ h .books .steps;
     }
 
@@ -113,7 +122,7 @@ told c s r h =
     (outcomeIf (isAccepted (r .answer)) (sortOf c) (s .runs) r h) (sortOf c) r h
 
 abbrev pub freshBooks : Books
-freshBooks = record { calls = []; queued = nobodyQueued; steps = [] }
+freshBooks = record { calls = []; queued = nobodyQueued; blocks = noBlocks; steps = [] }
 
 abbrev pub freshHistory : History
 freshHistory =

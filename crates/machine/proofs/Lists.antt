@@ -1,13 +1,16 @@
--- Facts about tables and lists of thread numbers: put, without, only, Mem and Distinct.
+-- Facts about tables and lists of thread numbers: put, without, only, first, Mem and
+-- Distinct.
 use Prim.Native.Nat.{ℕ}
 use mathlib.Core.Path.{_≡_, refl, sym, _∙_, ap, subst, fun-ext}
 use mathlib.Core.Logic.{_⊎_, inl, inr, ⊎-elim}
 use mathlib.Core.Bool.{Bool, true, false}
+use mathlib.Core.Option.{Option, some}
 use mathlib.Core.List.{List, [], _∷_, _++_, append-nil}
 use native.Mathlib.Omega.{arith}
 use lib.Dec.{eqb}
+use lib.ListN.{drop}
 use borrow.Author.Tests.{eq-eqb, ne-eqb, eqb-true, eqb-false}
-use Rattle.machine.specs.Lists.{put, without, only, Mem, Distinct}
+use Rattle.machine.specs.Lists.{put, without, only, first, Mem, Distinct}
 
 -- Whether two numbers are equal, with the test's value.
 pub data Same (i j : ℕ) : Type 0 where
@@ -271,3 +274,21 @@ module _ (f : ℕ → Bool) where
       go : (b : Bool) → f x ≡ b → Distinct (only f l) → Distinct (only f (x ∷ l))
       go true e ih = rw (only-hit x l e) ((λ m. d .0 (mem-only x l m .0)), ih)
       go false e ih = rw (only-miss x l e) ih
+
+-- first
+
+pub first-mem : (l : List ℕ) {t : ℕ} → first l ≡ some t → Mem t l
+first-mem [] h = let z : _≡_ {A = ℕ} 0 1 = cc in absurd (omega arith)
+first-mem (x ∷ l) h = inl (cc)
+
+-- Where all pass the test, the first who passes is the first.
+pub first-only :
+    (f : ℕ → Bool) (l : List ℕ) {t : ℕ} → ((u : ℕ) → Mem u l → f u ≡ true) → first (only f l) ≡ some t
+    → first l ≡ some t
+first-only f l all h = ap first (sym (only-all f l all)) ∙ h
+
+-- The list without its first, which does not stand there again.
+pub first-without : (l : List ℕ) (t : ℕ) → first l ≡ some t → Distinct l → without t l ≡ drop 1 l
+first-without [] t h d = absurd (first-mem [] h)
+first-without (x ∷ l) t h d =
+    let z : t ≡ x = cc in ap (λ (y : ℕ). without y (x ∷ l)) z ∙ without-first x l d

@@ -39,8 +39,10 @@ fresh-books =
     record {
       calls = refl;
       queued = refl;
+      blocks = refl;
       steps = λ x i. absurd i;
       recorded7 = λ i e b m a h. no-call refl h;
+      words = λ i c a h. no-call refl h;
     }
 
 fresh : Inv [] freshState freshHistory

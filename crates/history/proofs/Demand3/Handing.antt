@@ -18,12 +18,11 @@ use Rattle.machine.specs.Machine.{receiveFrom, receiveAt, receive, byCaller, pe
 use Rattle.machine.specs.Machine.{step}
 use Rattle.machine.specs.Sound.{Sound, Queued}
 use Rattle.history.specs.History.{isIn}
-use Rattle.machine.proofs.Lists.{put-same, without-first, only-nil, only-hit, only-none}
+use Rattle.machine.proofs.Lists.{put-same, without-first, only-nil, only-hit, only-none, first-mem}
 use Rattle.history.proofs.Sublists.{Apart, mem-isIn, not-isIn, distinct-map}
 use Rattle.machine.proofs.Preserved.Mid.{sound-mid}
 use Rattle.machine.proofs.Preserved.Statuses.{keeps-badge}
 use Rattle.machine.proofs.Preserved.Debts.{dropDebt-drops}
-use Rattle.machine.proofs.Preserved.Ready.{none-some}
 use Rattle.history.proofs.Demand3.Ending.{sender-sends}
 use Rattle.machine.proofs.Running.{choose-keeps}
 
@@ -52,17 +51,13 @@ handed-first since u l d apart =
     stays w = not (isIn w (map since l))
 
 -- The first sender of a queue stands first in it.
-first-mem : (l : List ℕ) (u : ℕ) → first l ≡ some u → Mem u l
-first-mem [] u h = none-some refl h
-first-mem (x ∷ l) u h = inl (cc)
-
 first-sender :
     (s : State) → Sound s → (e u : ℕ) → first (senders (s .threads) (s .endpoints e .waiters)) ≡ some u
     → (rest : List ℕ) × (s .endpoints e .waiters ≡ u ∷ rest) × (s .threads u .place ≡ sending e)
 first-sender s S e u h = go (s .endpoints e .waiters) refl h
   where
     sends : s .threads u .place ≡ sending e
-    sends = sender-sends (sound-mid S) e u (first-mem (senders (s .threads) (s .endpoints e .waiters)) u h)
+    sends = sender-sends (sound-mid S) e u (first-mem (senders (s .threads) (s .endpoints e .waiters)) h)
 
     at-head :
         (x : ℕ) (l : List ℕ) → s .endpoints e .waiters ≡ x ∷ l → first (senders (s .threads) (x ∷ l)) ≡ some u
@@ -74,7 +69,7 @@ first-sender s S e u h = go (s .endpoints e .waiters) refl h
 
     go : (l : List ℕ) → s .endpoints e .waiters ≡ l → first (senders (s .threads) l) ≡ some u
         → (rest : List ℕ) × (s .endpoints e .waiters ≡ u ∷ rest) × (s .threads u .place ≡ sending e)
-    go [] p k = absurd (first-mem [] u (ap first (sym (only-nil (λ t. isSending (s .threads t .place)))) ∙ k))
+    go [] p k = absurd (first-mem [] (ap first (sym (only-nil (λ t. isSending (s .threads t .place)))) ∙ k))
     go (x ∷ l) p k =
         let q = at-head x l p k (S .queues .queued x e .0 (subst (λ (m : List ℕ). Mem x m) (sym p) (inl refl))) in
         (l, p ∙ ap (λ (y : ℕ). y ∷ l) q, sends)

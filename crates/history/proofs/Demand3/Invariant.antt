@@ -7,9 +7,10 @@ use mathlib.Core.Option.{Option, none, some}
 use mathlib.Core.List.{List, [], _∷_, _++_, map}
 use native.Mathlib.Omega.{arith}
 use lib.ListN.{length, getElem?}
+use Rattle.calls.specs.Calls.{numberOf}
 use Rattle.calls.specs.declared.Answer.{Answer}
 use Rattle.calls.specs.declared.Call.{Call}
-use Rattle.calls.specs.declared.Call.the-variants.{Send, Receive, Wait, Abort}
+use Rattle.calls.specs.declared.Call.the-variants.{Send, Receive, Wait, Delete, Abort}
 use Rattle.machine.specs.Lists.{only, Mem, Distinct, Rising}
 use Rattle.machine.specs.State.{State, Place, Abort as Standing, Line, quiet, pending, awaited}
 use Rattle.machine.specs.Endpoints.{isSending}
@@ -18,9 +19,9 @@ use Rattle.machine.specs.Sound.{Sound, Queued}
 use Rattle.history.specs.History.{Aborting, Ended, Delivery, NamedLook, AbortCall, Waiting, History, lineName}
 use Rattle.history.specs.History.{Step, waitingIn, isSend}
 use Rattle.history.specs.Queues.{Message, queuesIn}
-use Rattle.history.specs.Claim.{Handing}
+use Rattle.history.specs.Blocks.{blocksIn}
 use Rattle.history.specs.Claim.{In, IsAbort, isOld, removedBy, less, Reports, Hands, Named, QueuesAt}
-use Rattle.history.specs.Claim.{WaitsOn, Claim}
+use Rattle.history.specs.Claim.{WaitsOn, Handing, Claim}
 use Rattle.history.specs.Tied.{Tied}
 use Rattle.history.proofs.Sublists.{Apart, map-mem, map-only, distinct-map, entry-grow}
 use Rattle.machine.proofs.Preserved.Ready.{none-some}
@@ -142,9 +143,15 @@ module _ (past : List Call) (c : Call) (a : Answer) (h k : History) (longer : k 
 
 -- What holds of the books.
 
--- A step: the machine's queues are the history's, and what it hands is its own.
+-- A step: what the claim says of it, made before now.
 pub record StepClaims (past : List Call) (h : History) (x : Step) : Type 0 where
+  pub place : x .place < length past
   pub same : x .found ≡ x .kept
+  pub kind : (e : ℕ) → (x .kept .messages e ≡ []) ⊎ (x .kept .messages e ≡ x .kept .queues e)
+  pub emptied :
+      (e n : ℕ) (a : Answer) → getElem? past (x .place) ≡ some (Delete e n)
+      → getElem? (h .answers) (x .place) ≡ some a → a .code ≡ 0 → x .kept .queues e ≡ []
+  pub blocks : x .foundBlocks ≡ x .keptBlocks
   pub hands : (t : ℕ) (n : Message) → x .handed t ≡ some n → Handing past h x t n
 
 abbrev pub Recorded7 : History → ℕ → ℕ → ℕ → Type 0
@@ -155,10 +162,14 @@ Recorded7 h i b m =
 pub record Kept (past : List Call) (s : State) (h : History) : Type 0 where
   pub calls : h .books .calls ≡ past
   pub queued : h .books .queued ≡ queuesIn s
+  pub blocks : h .books .blocks ≡ blocksIn s
   pub steps : (x : Step) → In x (h .books .steps) → StepClaims past h x
   pub recorded7 :
       (i e b m : ℕ) (a : Answer) → getElem? past i ≡ some (Send e b m) → getElem? (h .answers) i ≡ some a
       → a .code ≡ 0 → Recorded7 h i b m
+  pub words :
+      (i : ℕ) (c : Call) (a : Answer) → getElem? past i ≡ some c → getElem? (h .answers) i ≡ some a
+      → ((numberOf c ≡ 8) × (a .code ≡ 0) → ⊥) → (a .badge ≡ 0) × (a .message ≡ 0)
 
 module _ (past : List Call) (s : State) (h : History) (I : Inv past s h) where
   exact : (x : Aborting) → IsAbort h x → LooksExact past (h .now) x
@@ -262,6 +273,10 @@ module _ (past : List Call) (s : State) (h : History) (I : Inv past s h) where
         no-old-handing =
             λ z i x j q t n p. not-old past (z .abort) (x .place) (omega (arith, I .core .over z i .order, q));
         queues-are = λ x i. K .steps x i .same;
+        one-kind = λ x i. K .steps x i .kind;
+        emptied = λ x i. K .steps x i .emptied;
+        blocks-are = λ x i. K .steps x i .blocks;
+        words-zero = K .words;
         handed-own = λ x i. K .steps x i .hands;
         every-handing = K .recorded7;
       }

@@ -39,8 +39,7 @@ use Rattle.history.specs.Queues.{Queues, met, awaits, queueAt, lineAt, l
 use Rattle.history.specs.Queues.{queuesIf}
 use Rattle.history.specs.Queues.{queuesAfter, waiterOn, queuesIn}
 use Rattle.machine.proofs.Lists.{Same, same, other, same?, put-all, put-same, put-other, put-self, without-first}
-use Rattle.machine.proofs.Lists.{without-none, only-nil, only-all, mem-only, clash}
-use Rattle.machine.proofs.Preserved.Ready.{none-some}
+use Rattle.machine.proofs.Lists.{without-none, mem-only, first-mem, first-only, first-without, clash}
 use Rattle.machine.proofs.Running.{choose-keeps}
 use Rattle.machine.proofs.Calls.Answers.{refused-state}
 
@@ -84,7 +83,7 @@ turns-choose {e} {s} {q} r A =
 
 -- 12
 
-turns-end : (x : Status) (e : ℕ) (s : State) → Turns e s (s .endpoints e .waiters) (endAbort x e s)
+pub turns-end : (x : Status) (e : ℕ) (s : State) → Turns e s (s .endpoints e .waiters) (endAbort x e s)
 unfolding endAbort note noteAll
 turns-end x e s = go (s .endpoints e .abort)
   where
@@ -109,7 +108,7 @@ unfolding lookAt wakeFrom wake enqueue leaveEndpoint
 turns-look e w s true = turns-put e _ s _ refl refl
 turns-look e w s false = turns-put e _ s _ refl refl
 
-turns-wake : (e w o b m : ℕ) (s : State) → Turns e s (without w (s .endpoints e .waiters)) (wakeFrom e w o b m s)
+pub turns-wake : (e w o b m : ℕ) (s : State) → Turns e s (without w (s .endpoints e .waiters)) (wakeFrom e w o b m s)
 unfolding wakeFrom wake enqueue leaveEndpoint
 turns-wake e w o b m s = turns-put e _ s _ refl refl
 
@@ -317,17 +316,6 @@ follows-line l x s r h k =
 
 -- 7 and 8
 
-first-of : (f : ℕ → Bool) (l : List ℕ) (u : ℕ) → ((t : ℕ) → Mem t l → f t ≡ true) → first (only f l) ≡ some u
-    → Distinct l → without u l ≡ drop 1 l
-first-of f [] u all h d = absurd (none-some (ap first (only-nil f)) h)
-first-of f (x ∷ l) u all h d =
-    let q : some x ≡ some u = ap first (sym (only-all f (x ∷ l) all)) ∙ h in
-    let z : u ≡ x = cc in ap (λ (y : ℕ). without y (x ∷ l)) z ∙ without-first x l d
-
-first-mem : (l : List ℕ) (u : ℕ) → first l ≡ some u → Mem u l
-first-mem [] u h = none-some refl h
-first-mem (x ∷ l) u h = inl (cc)
-
 is-receiving : (p : Place) (e : ℕ) → isReceiving p ≡ true → (p ≡ sending e) ⊎ (p ≡ receiving e) → p ≡ receiving e
 is-receiving p e h (inl k) = absurd (clash h (ap isReceiving k))
 is-receiving p e h (inr k) = k
@@ -337,40 +325,44 @@ is-sending p e h (inl k) = k
 is-sending p e h (inr k) = absurd (clash h (ap isSending k))
 
 module _ (s : State) (S : Sound s) where
-  -- All who are queued receive if one does, and send if one does.
-  all-receive :
-      (e u : ℕ) → first (receivers (s .threads) (s .endpoints e .waiters)) ≡ some u
-      → without u (s .endpoints e .waiters) ≡ drop 1 (s .endpoints e .waiters)
-  all-receive e u h =
-      first-of (λ t. isReceiving (s .threads t .place)) (s .endpoints e .waiters) u
-      (λ t m. all t (S .queues .queued t e .0 m)) h (S .queues .queued-once e)
-    where
-      first-receives : s .threads u .place ≡ receiving e
-      first-receives =
-          let m = mem-only (λ t. isReceiving (s .threads t .place)) u (s .endpoints e .waiters)
-          (first-mem (receivers (s .threads) (s .endpoints e .waiters)) u h) in
-          is-receiving (s .threads u .place) e (m .1) (S .queues .queued u e .0 (m .0))
+  -- All who are queued receive if one does, and send if one does: that one is the first of them.
+  pub first-receives :
+      (e u : ℕ) → first (receivers (s .threads) (s .endpoints e .waiters)) ≡ some u → s .threads u .place ≡ receiving e
+  first-receives e u h =
+      let m =
+      mem-only (λ t. isReceiving (s .threads t .place)) u (s .endpoints e .waiters)
+      (first-mem (receivers (s .threads) (s .endpoints e .waiters)) h) in
+      is-receiving (s .threads u .place) e (m .1) (S .queues .queued u e .0 (m .0))
 
+  first-sends :
+      (e u : ℕ) → first (senders (s .threads) (s .endpoints e .waiters)) ≡ some u → s .threads u .place ≡ sending e
+  first-sends e u h =
+      let m =
+      mem-only (λ t. isSending (s .threads t .place)) u (s .endpoints e .waiters)
+      (first-mem (senders (s .threads) (s .endpoints e .waiters)) h) in
+      is-sending (s .threads u .place) e (m .1) (S .queues .queued u e .0 (m .0))
+
+  pub receiver-longest :
+      (e u : ℕ) → first (receivers (s .threads) (s .endpoints e .waiters)) ≡ some u
+      → first (s .endpoints e .waiters) ≡ some u
+  receiver-longest e u h =
+      first-only (λ t. isReceiving (s .threads t .place)) (s .endpoints e .waiters)
+      (λ t m. all t (S .queues .queued t e .0 m)) h
+    where
       all : (t : ℕ) → Queued s t e → isReceiving (s .threads t .place) ≡ true
-      all t (inl k) = absurd (S .queues .one-kind e t u k first-receives)
+      all t (inl k) = absurd (S .queues .one-kind e t u k (first-receives e u h))
       all t (inr k) = ap isReceiving k
 
-  all-send :
+  pub sender-longest :
       (e u : ℕ) → first (senders (s .threads) (s .endpoints e .waiters)) ≡ some u
-      → without u (s .endpoints e .waiters) ≡ drop 1 (s .endpoints e .waiters)
-  all-send e u h =
-      first-of (λ t. isSending (s .threads t .place)) (s .endpoints e .waiters) u
-      (λ t m. all t (S .queues .queued t e .0 m)) h (S .queues .queued-once e)
+      → first (s .endpoints e .waiters) ≡ some u
+  sender-longest e u h =
+      first-only (λ t. isSending (s .threads t .place)) (s .endpoints e .waiters)
+      (λ t m. all t (S .queues .queued t e .0 m)) h
     where
-      first-sends : s .threads u .place ≡ sending e
-      first-sends =
-          let m = mem-only (λ t. isSending (s .threads t .place)) u (s .endpoints e .waiters)
-          (first-mem (senders (s .threads) (s .endpoints e .waiters)) u h) in
-          is-sending (s .threads u .place) e (m .1) (S .queues .queued u e .0 (m .0))
-
       all : (t : ℕ) → Queued s t e → isSending (s .threads t .place) ≡ true
       all t (inl k) = ap isSending k
-      all t (inr k) = absurd (S .queues .one-kind e u t first-sends k)
+      all t (inr k) = absurd (S .queues .one-kind e u t (first-sends e u h) k)
 
   -- What a call 7 or 8 at e by thread t comes to.
   Meets : ℕ → ℕ → Result → Type 0
@@ -381,24 +373,25 @@ module _ (s : State) (S : Sound s) where
   unfolding block joinEndpoint dropDebt
   joins-tail t e p b m = turns-choose (block t p b m (joinEndpoint t e (dropDebt t s))) (turns-put e _ s _ refl refl)
 
-  takes-first : (t e u o b m : ℕ) → without u (s .endpoints e .waiters) ≡ drop 1 (s .endpoints e .waiters)
+  takes-first : (t e u o b m : ℕ) → first (s .endpoints e .waiters) ≡ some u
       → Turns e s (drop 1 (s .endpoints e .waiters)) (choose (wakeFrom e u o b m (dropDebt t s)))
   unfolding wakeFrom wake enqueue leaveEndpoint dropDebt
   takes-first t e u o b m h =
       turns-choose (wakeFrom e u o b m (dropDebt t s))
-      (subst (λ (q : List ℕ). Turns e s q (wakeFrom e u o b m (dropDebt t s))) h (turns-put e _ s _ refl refl))
+      (subst (λ (q : List ℕ). Turns e s q (wakeFrom e u o b m (dropDebt t s)))
+      (first-without (s .endpoints e .waiters) u h (S .queues .queued-once e)) (turns-put e _ s _ refl refl))
 
   sends-to : (o : Option ℕ) (t e b m : ℕ) → first (receivers (s .threads) (s .endpoints e .waiters)) ≡ o
       → Meets t e (sendTo o t e b m (dropDebt t s))
   unfolding Meets sendTo
   sends-to none t e b m h = joins-tail t e (sending e) b m
-  sends-to (some u) t e b m h = takes-first t e u 2 b m (all-receive e u h)
+  sends-to (some u) t e b m h = takes-first t e u 2 b m (receiver-longest e u h)
 
   receives-from : (o : Option ℕ) (t e : ℕ) → first (senders (s .threads) (s .endpoints e .waiters)) ≡ o
       → Meets t e (receiveFrom o t e (dropDebt t s))
   unfolding Meets receiveFrom
   receives-from none t e h = joins-tail t e (receiving e) 0 0
-  receives-from (some u) t e h = takes-first t e u 1 0 0 (all-send e u h)
+  receives-from (some u) t e h = takes-first t e u 1 0 0 (sender-longest e u h)
 
   sends-unless : (x : Bool) (t e b m : ℕ) → Meets t e (sendUnless x t e b m s)
   unfolding Meets sendUnless

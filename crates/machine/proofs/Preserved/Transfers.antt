@@ -15,11 +15,11 @@ use Rattle.machine.specs.Endpoints.{joinEndpoint, wakeFrom, dropDebt}
 use Rattle.machine.specs.Machine.{createAt, createEndpoint, sendTo, sendUnless, sendAt, send, receiveFrom}
 use Rattle.machine.specs.Machine.{receiveAt, receive}
 use Rattle.machine.specs.Sound.{Sound, Queued}
-use Rattle.machine.proofs.Lists.{put-all, mem-only, only-keep}
+use Rattle.machine.proofs.Lists.{put-all, mem-only, only-keep, first-mem}
 use Rattle.machine.specs.Mid.{Mid}
 use Rattle.machine.proofs.Preserved.Mid.{sound-mid}
 use Rattle.machine.proofs.Preserved.Parts.{At, Site, parts, whole}
-use Rattle.machine.proofs.Preserved.Ready.{none-some, some-one, put-keeps}
+use Rattle.machine.proofs.Preserved.Ready.{none-some, put-keeps}
 use Rattle.machine.proofs.Preserved.Sites.{sets-same}
 use Rattle.machine.proofs.Preserved.Waking.{mid-wakeFrom, mid-blockSend, mid-blockReceive}
 use Rattle.machine.proofs.Preserved.Choosing.{choose-sound}
@@ -70,10 +70,6 @@ endpoint-sound s e S low = go (s .endpoints e .status) refl
     go closing h = S
 
 -- The first of a list.
-
-first-mem : (l : List ℕ) {t : ℕ} → first l ≡ some t → Mem t l
-first-mem [] h = absurd (none-some refl h)
-first-mem (x ∷ l) h = inl (some-one h refl)
 
 first-none : (l : List ℕ) (t : ℕ) → first l ≡ none → Mem t l → ⊥
 first-none [] t h m = m
