@@ -5,3 +5,4 @@ pub mod Wrong
 pub mod Bites
 pub mod Unheard
 pub mod Losing
+pub mod Withholding

@@ -29,7 +29,7 @@ use Rattle.history.specs.Blocks.{noBlocks}
 use Rattle.machine.proofs.Preserved.Ready.{none-some}
 use Rattle.history.proofs.Computed.{computed}
 
-abbrev instead : State → Result → Result
+abbrev pub instead : State → Result → Result
 instead s r = record { state = s; answer = r .answer; looks = r .looks }
 
 -- limbo: an interrupt takes the cursor's waiter out of the queue.
@@ -50,12 +50,12 @@ limbo g s c =
     (pick (eqb (numberOf c) 6 && inLimbo s)
     (instead (found (first (receivers (s .threads) (s .endpoints 0 .waiters))) s) (step g s c)) (step g s c))
 
-abbrev two : List Call → List Call
+abbrev pub two : List Call → List Call
 two l =
     CreateThread 1 10 ∷ CreateThread 2 10 ∷ CreateEndpoint 0 ∷ Grant 1 0 1 7 ∷ Grant 2 0 1 7 ∷ Send 0 7 100
     ∷ Send 0 7 101 ∷ CreateThread 3 20 ∷ Grant 3 0 14 0 ∷ l
 
-abbrev queued0 : Waiting → ℕ
+abbrev pub queued0 : Waiting → ℕ
 queued0 w = length (w .queues 0)
 
 -- queues-are, at the interrupt, and so after whatever comes then.
@@ -224,12 +224,12 @@ scribbler-fails C =
     let q : _≡_ {A = ℕ} 0 (suc 7) = ap badgeOf (H .made) ∙ ap badgeIn7 (H .gives .own) in omega (arith, q)
 
 -- A send answered 0 wakes its receiver with nothing: every-handing.
-abbrev to-waiting : List Call
+abbrev pub to-waiting : List Call
 to-waiting =
     CreateThread 1 30 ∷ CreateEndpoint 0 ∷ Grant 1 0 2 0 ∷ Receive 0 ∷ CreateThread 3 20 ∷ Grant 3 0 1 9
     ∷ Send 0 9 500 ∷ []
 
-endpointIn7 : Call → ℕ
+unfoldable pub endpointIn7 : Call → ℕ
 endpointIn7 (CreateThread t p) = 9
 endpointIn7 (DestroyThread t) = 9
 endpointIn7 (SetPriority t p) = 9
@@ -244,7 +244,7 @@ endpointIn7 (Delete f a) = 9
 endpointIn7 (Abort f a c) = 9
 endpointIn7 (Grant t f r c) = 9
 
-abbrev endpointOf : Option Call → ℕ
+abbrev pub endpointOf : Option Call → ℕ
 endpointOf none = 9
 endpointOf (some c) = endpointIn7 c
 
@@ -264,7 +264,7 @@ noStep =
       foundBlocks = noBlocks;
     }
 
-abbrev latestOf : List Step → Step
+abbrev pub latestOf : List Step → Step
 latestOf [] = noStep
 latestOf (x ∷ l) = x
 
