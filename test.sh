@@ -44,13 +44,14 @@ counted sh tests/journals.sh target/bin/tell told
 counted sh tests/slow.sh txt target/bin/trace
 counted sh tests/slow.sh txt ./nazsombet list
 counted sh tests/slow.sh told target/bin/tell
-counted sh tests/desk.sh
+counted sh tests/slow.sh told ./nazsombet tell
 counted sh tests/documents.sh
 counted sh tests/c.sh
 export NAZSOMBET_BUILT=1
 counted sh tests/damaged.sh
 counted sh tests/compare.sh --seed 1
 counted sh tests/sentences.sh
+counted sh tests/desk.sh
 counted sh tests/worded.sh
 echo "$passed passed, $failed failed"
 test "$failed" -eq 0
