@@ -106,16 +106,6 @@ rising-least x l r w (inr m) = omega (arith, r .0 w m)
 
 -- only, again
 
-pub only-append : (f : ℕ → Bool) (k l : List ℕ) → only f (k ++ l) ≡ only f k ++ only f l
-unfolding only
-only-append f [] l = refl
-only-append f (x ∷ k) l = go (f x) (only-append f k l)
-  where
-    go : (b : Bool) → only f (k ++ l) ≡ only f k ++ only f l
-        → pick b (x ∷ only f (k ++ l)) (only f (k ++ l)) ≡ pick b (x ∷ only f k) (only f k) ++ only f l
-    go true e = ap (λ (r : List ℕ). x ∷ r) e
-    go false e = e
-
 -- Two tests that agree on a list keep the same of it.
 pub only-agree : (f g : ℕ → Bool) (l : List ℕ) → ((u : ℕ) → Mem u l → f u ≡ g u) → only f l ≡ only g l
 unfolding only

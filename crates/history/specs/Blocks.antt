@@ -12,10 +12,10 @@ use Rattle.calls.specs.declared.Call.the-variants.{CreateThread, DestroyThread,
 use Rattle.calls.specs.declared.Call.the-variants.{Interrupt, Tick, Send, Receive, Yield, Wait, Delete, Abort}
 use Rattle.calls.specs.declared.Call.the-variants.{Grant}
 use Rattle.calls.specs.Answers.{isAccepted}
-use Rattle.machine.specs.Lists.{pick, put, first}
+use Rattle.machine.specs.Lists.{put, first}
 use Rattle.machine.specs.State.{State, Thread, noOutcome, messageTaken, messageReceived, messageAborted, endpointGone}
 use Rattle.machine.specs.State.{lineFired}
-use Rattle.machine.specs.Results.{Look}
+use Rattle.machine.specs.Results.{Look, removals}
 use Rattle.history.specs.Queues.{Queues}
 
 pub record Block : Type 0 where
@@ -44,11 +44,6 @@ abbrev pub metBlocks : ℕ → Option ℕ → Block → Option ℕ → Block →
 metBlocks zero u x o y k = tellIf u x k
 metBlocks (suc zero) u x o y k = tellIf o y k
 metBlocks (suc (suc n)) u x o y k = k
-
--- Those whom the looks removed.
-abbrev pub removals : List Look → List ℕ
-removals [] = []
-removals (x ∷ l) = pick (x .removed) (x .waiter ∷ removals l) (removals l)
 
 -- An accepted call by this caller, with its answer and looks, where these wait.
 unfoldable pub blocksBy : Call → Option ℕ → Answer → List Look → Queues → (ℕ → Block) → ℕ → Block

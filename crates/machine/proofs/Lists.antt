@@ -10,7 +10,7 @@ use native.Mathlib.Omega.{arith}
 use lib.Dec.{eqb}
 use lib.ListN.{drop}
 use borrow.Author.Tests.{eq-eqb, ne-eqb, eqb-true, eqb-false}
-use Rattle.machine.specs.Lists.{put, without, only, first, Mem, Distinct}
+use Rattle.machine.specs.Lists.{pick, put, without, only, first, Mem, Distinct}
 
 -- Whether two numbers are equal, with the test's value.
 pub data Same (i j : ℕ) : Type 0 where
@@ -274,6 +274,16 @@ module _ (f : ℕ → Bool) where
       go : (b : Bool) → f x ≡ b → Distinct (only f l) → Distinct (only f (x ∷ l))
       go true e ih = rw (only-hit x l e) ((λ m. d .0 (mem-only x l m .0)), ih)
       go false e ih = rw (only-miss x l e) ih
+
+pub only-append : (f : ℕ → Bool) (k l : List ℕ) → only f (k ++ l) ≡ only f k ++ only f l
+unfolding only
+only-append f [] l = refl
+only-append f (x ∷ k) l = go (f x) (only-append f k l)
+  where
+    go : (b : Bool) → only f (k ++ l) ≡ only f k ++ only f l
+        → pick b (x ∷ only f (k ++ l)) (only f (k ++ l)) ≡ pick b (x ∷ only f k) (only f k) ++ only f l
+    go true e = ap (λ (r : List ℕ). x ∷ r) e
+    go false e = e
 
 -- first
 

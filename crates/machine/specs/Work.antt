@@ -4,12 +4,13 @@ use Prim.Native.Nat.{ℕ, _≤_}
 use mathlib.Core.Path.{_≡_}
 use mathlib.Core.Option.{Option, none, some}
 use mathlib.Core.List.{List, [], _∷_, _++_}
+use lib.Dec.{eqb}
 use lib.ListN.{length}
 use Rattle.calls.specs.declared.Call.{Call}
 use Rattle.calls.specs.declared.Call.the-variants.{CreateThread, DestroyThread, SetPriority, CreateEndpoint}
 use Rattle.calls.specs.declared.Call.the-variants.{Interrupt, Tick, Send, Receive, Yield, Wait, Delete, Abort}
 use Rattle.calls.specs.declared.Call.the-variants.{Grant}
-use Rattle.machine.specs.Lists.{Mem, first}
+use Rattle.machine.specs.Lists.{only, Mem, first}
 use Rattle.machine.specs.State as State
 use Rattle.machine.specs.State.{State}
 use Rattle.machine.specs.Scheduling.{choose}
@@ -64,3 +65,10 @@ pub record GoesLast (g : Grants) (s : State) (c : Call) (t p : ℕ) (running : O
   pub chosen : step g s c .state ≡ choose handed
   pub last : handed .levels p ≡ s .levels p ++ (t ∷ [])
   pub runs : handed .runs ≡ running
+
+-- So with all of these, in their order: each level has behind all who stood there those of them who are of it.
+pub record AllGoLast (g : Grants) (s : State) (c : Call) (woken : List ℕ) : Type 0 where
+  pub handed : State
+  pub chosen : step g s c .state ≡ choose handed
+  pub last : (p : ℕ) → handed .levels p ≡ s .levels p ++ only (λ t. eqb (s .threads t .priority) p) woken
+  pub runs : handed .runs ≡ s .runs

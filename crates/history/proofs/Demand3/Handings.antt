@@ -22,12 +22,12 @@ use Rattle.machine.specs.State.{State, Thread, Place, absent, able, sending, re
 use Rattle.machine.specs.State.{closing, withPlace}
 use Rattle.machine.specs.Scheduling.{enqueue, wake}
 use Rattle.machine.specs.Endpoints.{receivers, leaveEndpoint, wakeFrom, dropDebt}
-use Rattle.machine.specs.Results.{Look}
+use Rattle.machine.specs.Results.{Look, removals}
 use Rattle.machine.specs.Grants.{Grants, barred}
 use Rattle.machine.specs.Machine.{sendTo, sendUnless, sendAt, send, byCaller, perform, performUnless, performIf, step}
 use Rattle.machine.specs.Sound.{Sound}
 use Rattle.history.specs.Queues.{Queues, Message, hasMessage, handedTo, Gives, queuesIn}
-use Rattle.history.specs.Blocks.{Block, bare, worded, tellIf, tellAll, metBlocks, removals, blocksBy, blocksIf}
+use Rattle.history.specs.Blocks.{Block, bare, worded, tellIf, tellAll, metBlocks, blocksBy, blocksIf}
 use Rattle.history.specs.Blocks.{blocksAfter, blockOf, blocksIn}
 use Rattle.machine.proofs.Lists.{put-all, put-same, put-other, Same, same, other, same?, clash}
 use Rattle.machine.proofs.Preserved.Ready.{none-some}

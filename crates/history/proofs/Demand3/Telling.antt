@@ -19,7 +19,7 @@ use Rattle.machine.specs.State.{absentThread}
 use Rattle.machine.specs.Scheduling.{enqueue, unqueue, standDown, wake, block, choose}
 use Rattle.machine.specs.Endpoints.{receivers, senders, joinEndpoint, leaveEndpoint, wakeFrom, dropDebt, noteAll, note}
 use Rattle.machine.specs.Endpoints.{endAbort}
-use Rattle.machine.specs.Results.{Look, Result}
+use Rattle.machine.specs.Results.{Look, Result, removals}
 use Rattle.machine.specs.Sound.{Sound}
 use Rattle.machine.specs.Grants.{Grants, barred}
 use Rattle.machine.specs.Machine.{isRunning, createIf, createThread, leaveReady, leave, destroyIf, destroyThread}
@@ -32,10 +32,11 @@ use Rattle.machine.specs.Aborts.{look, Looked, afterLook, lookUpTo, pendingAt, 
 use Rattle.machine.specs.Aborts.{beginAfter, finished, lookedOther, workOther, underBadge, abortFrom, abortOpen}
 use Rattle.machine.specs.Aborts.{abortAt, abortUnless, abort}
 use Rattle.history.specs.Queues.{waiterOn, queuesIn}
-use Rattle.history.specs.Blocks.{Block, bare, worded, tellIf, tellAll, metBlocks, removals, blocksBy, blocksIf}
+use Rattle.history.specs.Blocks.{Block, bare, worded, tellIf, tellAll, metBlocks, blocksBy, blocksIf}
 use Rattle.history.specs.Blocks.{blocksAfter, blockOf, blocksIn}
 use Rattle.machine.proofs.Lists.{put-all, put-same, put-other, put-self, without-first, clash}
 use Rattle.machine.proofs.Running.{choose-keeps}
+use Rattle.machine.proofs.Woken.{removals-append}
 use Rattle.machine.proofs.Calls.Answers.{refused-state}
 use Rattle.history.proofs.Demand3.Queued.{receiver-longest, sender-longest, turns-wake, turns-end, Turns}
 
@@ -93,16 +94,6 @@ tell-pick false w l x k = refl
 tell-append : (k l : List ℕ) (x : Block) (f : ℕ → Block) → tellAll (k ++ l) x f ≡ tellAll l x (tellAll k x f)
 tell-append [] l x f = refl
 tell-append (t ∷ k) l x f = tell-append k l x (put f t x)
-
-removals-append : (k l : List Look) → removals (k ++ l) ≡ removals k ++ removals l
-removals-append [] l = refl
-removals-append (x ∷ k) l = go (x .removed) (removals-append k l)
-  where
-    go : (b : Bool) → removals (k ++ l) ≡ removals k ++ removals l
-        → pick b (x .waiter ∷ removals (k ++ l)) (removals (k ++ l))
-        ≡ pick b (x .waiter ∷ removals k) (removals k) ++ removals l
-    go true h = ap (λ (r : List ℕ). x .waiter ∷ r) h
-    go false h = h
 
 looks-at : (b : Bool) (e w : ℕ) (s : State) → blocksIn (lookAt b e w s) ≡ pick b (put (blocksIn s) w (bare 3)) (blocksIn s)
 unfolding lookAt

@@ -16,12 +16,12 @@ use Rattle.history.specs.History.{Aborting, Ended, Debts, isIn}
 use Rattle.history.specs.Walk.{Walk, Walker, isNone, leftOf, passes, settles, settle, lookedAt, takes, takeLook}
 use Rattle.history.specs.Claim.{isOld}
 use Rattle.history.specs.Tied.{Tied}
-use Rattle.machine.proofs.Lists.{Same, same, other, same?, put-all, put-same, put-other, mem-left, mem-right, put-again}
+use Rattle.machine.proofs.Lists.{Same, same, other, same?, put-all, put-same, put-other, mem-left, mem-right, put-again, only-append}
 use Rattle.machine.proofs.Lists.{mem-keep, at-tail, inserted-mem, only-keep, distinct-apart, without-hit}
 use Rattle.machine.proofs.Lists.{only-nil, only-hit}
 use Rattle.machine.proofs.Lists.{only-miss, only-none}
 use Rattle.history.proofs.Sublists.{Sub, take, sub-trans, sub-mem, sub-distinct, sub-map, sub-after, sub-without}
-use Rattle.history.proofs.Sublists.{only-append, only-without, isIn-true, mem-isIn, not-isIn, mem-map, map-mem}
+use Rattle.history.proofs.Sublists.{only-without, isIn-true, mem-isIn, not-isIn, mem-map, map-mem}
 use Rattle.history.proofs.Sublists.{map-without}
 use Rattle.machine.specs.Mid.{Mid}
 use Rattle.machine.proofs.Preserved.AbortSteps.{mid-look, steady-look}
