@@ -119,7 +119,7 @@ make_stubs() {
     printf '%s\n' '# four' 'a:' 'b: a io' 'c: a' 'trace: b c' 'd: a' >"$work/stub/crates.txt"
     # shellcheck disable=SC2016  # for the stub
     printf '%s\n' '#!/bin/sh' 'cat >/dev/null' 'echo "told $*"' >"$work/stub/target/bin/tell"
-    printf '%s\n' '#!/bin/sh' 'for i in 1 2 3; do dd bs=25 count=1 2>/dev/null; sleep 1; done' >"$work/slow"
+    printf '%s\n' '#!/bin/sh' 'for i in 1 2 3 4; do dd bs=25 count=1 2>/dev/null; sleep 1; done' >"$work/slow"
     # shellcheck disable=SC2016  # for the stub
     printf '%s\n' '#!/bin/sh' 'for i in a b c trace; do echo "rt: $i proved (1 s)"; done' \
         'cp "$SLOW" target/bin/trace' >"$work/kit/rt"
@@ -132,10 +132,11 @@ status_is "install, from the sources" 0 ./nazsombet install "$work/first"
 make_box "$work/box"
 make_stubs
 cp "$example.words" "$work/secret"
-mkdir "$work/dashed"
+mkdir "$work/dashed" "$work/locked"
 cp "$example.words" "$work/dashed/-n"
 chmod -R a+rX "$work"
 chmod 000 "$work/secret"
+chmod 555 "$work/locked"
 : >"$work/file"
 ln -s "$top" "$work/top"
 ln -s top/nazsombet "$work/link"
@@ -158,6 +159,8 @@ printf '11030064 \0 14070000' >"$work/nul.txt"
 echo 'told -n' >"$work/passed_on"
 echo 'told ' >"$work/not_passed_on"
 echo 'nazsombet 7.99' >"$work/release"
+own=$(awk '$2 == "NAZSOMBET_RELEASE" { gsub(/"/, "", $3); print $3 }' include/nazsombet.h)
+echo "nazsombet ${own:-unknown}" >"$work/own_release"
 : >"$work/empty"
 
 # What the command lists and tells, and what it says of a journal that stops.
@@ -285,6 +288,7 @@ try_help() {
     for command in list tell words hex install; do
         status_is "help $command" 0 desk help "$command"
         shows "^usage: nazsombet $command"
+        judge "the manual page has it not" grep -q "^\.B nazsombet $command " docs/nazsombet.1
         cp "$work/out" "$work/said"
         status_is "$command --help" 0 desk "$command" --help
         output_is "$work/said"
@@ -292,8 +296,10 @@ try_help() {
         complains_of "$command has no option --frob"
     done
     status_is "help of no command" 2 desk help frob
-    status_is "the release" 0 boxed --version
+    status_is "another release" 0 boxed --version
     output_is "$work/release"
+    status_is "the release" 0 desk --version
+    output_is "$work/own_release"
 }
 
 try_places() {
@@ -303,6 +309,8 @@ try_places() {
     complains_of "nazsombet: $work/file: could not be written"
     status_is "a file in the way of a folder" 1 desk install "$work/file/deeper"
     complains_of "nazsombet: $work/file/deeper: could not be written"
+    status_is "a prefix of somebody else" 1 unprivileged install "$work/locked"
+    complains_of "nazsombet: $work/locked: may not be written"
     status_is "no prefix" 2 desk install
     rm -rf "$work/stub/target/bin/trace" "$work/prefix" "$work/source"
     mv "$work/stub/target" "$work/stub/kept"
@@ -358,12 +366,12 @@ try_inverse() {
     done
 }
 
-# 11 MB of text: a second or two of the processor's, some more where others work on it.
+# 11 MB of text: a second or two where the processor is idle.
 try_speed() {
     awk 'BEGIN { for (i = 0; i < 1222222; i++) printf "1%07X\n", i % 65536 * 4096 }' >"$work/long.txt"
     before=$(date +%s)
     status_is "11 MB of words" 0 desk words "$work/long.txt"
-    judge "it takes $(($(date +%s) - before)) s" test "$(($(date +%s) - before))" -le 6
+    judge "it takes $(($(date +%s) - before)) s" test "$(($(date +%s) - before))" -le 20
     judge "another length" test "$(wc -c <"$work/out")" -eq 4888888
 }
 
@@ -378,8 +386,8 @@ try_progress() {
     dd bs=100 count=1 if=tests/journals/long.words of="$work/hundred" 2>/dev/null
     on_terminal "PATH='$work/kit':\$PATH SLOW='$work/slow' sh '$work/stub/nazsombet' list '$work/hundred'"
     judge "crates are not counted" grep -q 'building trace, .*: 2 of 4 crates' "$work/screen"
-    judge "no percentage" grep -q 'hundred: [57][05]%' "$work/screen"
-    judge "progress among the lines" test "$(wc -c <"$work/lines")" -eq 75
+    judge "no percentage" grep -q 'hundred: [1-9][0-9]*%' "$work/screen"
+    judge "progress among the lines" cmp -s "$work/lines" "$work/hundred"
     rm -f "$work/stub/target/bin/trace"
     cp target/bin/trace "$work/slow"
     status_is "no terminal" 0 with_kit list "$example.words"
