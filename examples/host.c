@@ -66,9 +66,7 @@ static void line(size_t index, uint32_t number, const struct nazsombet_answer *a
 
 int main(int argc, char **argv)
 {
-    static uint32_t tables[NAZSOMBET_TABLES];
-    static uint32_t grants[NAZSOMBET_GRANTS];
-    static uint32_t scratch[NAZSOMBET_SCRATCH];
+    static struct nazsombet_lent lent;
     FILE *file = argc < 2 ? stdin : fopen(argv[1], "rb");
     if (file == NULL)
         complain("the journal could not be opened");
@@ -76,7 +74,7 @@ int main(int argc, char **argv)
     unsigned char *bytes = all_bytes(file, &length);
     uint32_t *journal = all_words(bytes, length / 4);
 
-    nazsombet_fresh(tables, NAZSOMBET_TABLES, grants, NAZSOMBET_GRANTS);
+    nazsombet_lent_fresh(&lent);
     printf("n call code count badge message running\n");
     struct nazsombet_numbers call;
     size_t at = 0;
@@ -84,15 +82,15 @@ int main(int argc, char **argv)
     uint32_t code;
     while ((code = nazsombet_read(journal, length / 4, &at, &call)) == NAZSOMBET_DONE) {
         struct nazsombet_answer answer;
-        nazsombet_call(tables, NAZSOMBET_TABLES, grants, NAZSOMBET_GRANTS, scratch, NAZSOMBET_SCRATCH, &call, &answer);
-        line(index, call.number, &answer, nazsombet_running(tables, NAZSOMBET_TABLES));
+        nazsombet_lent_call(&lent, call, &answer);
+        line(index, call.number, &answer, nazsombet_lent_running(&lent));
         index++;
     }
     if (code == NAZSOMBET_ENDED && length % 4 != 0)
         code = NAZSOMBET_NO_CALL;
     if (code != NAZSOMBET_ENDED) {
         struct nazsombet_answer last = {code, 0, 0, 0};
-        line(index, 0, &last, nazsombet_running(tables, NAZSOMBET_TABLES));
+        line(index, 0, &last, nazsombet_lent_running(&lent));
     }
     if (fflush(stdout) != 0)
         complain("the listing could not be written");

@@ -1,7 +1,7 @@
 /*
  * header: what the functions of include/nazsombet.h do that are compiled with a host, in every C and C++ that the
- * header is for: C89 as well, so declarations stand first. Each call by name has the journal words of that call, written
- * here by hand; and the memory lent as a whole is lent with its lengths.
+ * header is for: C89 as well, so declarations stand first. Each call by name has the journal words of that call,
+ * written here by hand; and the memory lent as a whole is lent with its lengths.
  *
  *     sh tests/c.sh
  *

@@ -1,8 +1,8 @@
 #!/bin/sh
 # Builds the library of tools for C and tries on it what include/nazsombet_tools.h says of sentences, linked with the
 # core's, which tests/c.sh builds: AddressSanitizer and UndefinedBehaviorSanitizer watch the C side, known bytes around
-# the buffer the library. Leaves every case with its line in target/sentences.cases. The last line is 'sentences: N
-# passed, M failed', by kinds of judgement; the exit status is 0 only where nothing failed.
+# the buffer the library; then from Rust. Leaves every case with its line in target/sentences.cases. The last line is
+# 'sentences: N passed, M failed', by kinds of judgement; the exit status is 0 only where nothing failed.
 set -eu
 cd "$(dirname "$0")/.."
 tools=target/staticlib/libtools_c.a
@@ -12,5 +12,6 @@ if [ -n "$uses" ]; then
     echo "sentences.sh: $tools uses $uses, and its header says that it uses nothing" >&2
     exit 1
 fi
+(cd bindings/rust && cargo test --quiet --features tools)
 sh tests/sanitized.sh target/sentences tests/sentences.c target/staticlib/libcore_c.a "$tools"
 target/sentences target/sentences.cases
