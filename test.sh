@@ -1,9 +1,10 @@
 #!/bin/sh
 # Runs all tests: the second machine's own; then every crate is proved from nothing, every must-fail edit is tried and
 # every program is run; then the journals are listed, by the program and by the host in C, and told in sentences; the
-# desk's command and the documents' listings are tried; the library is looked at as compiled, tested from Rust, lent
-# damaged tables and grants from C, and compared with the second machine over 2,000,000 calls; sentences are tried from
-# C. The last line is 'N passed, M failed'; the exit status is 0 only where nothing failed.
+# desk's command and the documents' listings are tried; the library is
+# looked at as compiled, tested from Rust, lent damaged tables and grants from C, and compared with the second machine
+# over 2,000,000 calls; a kernel around it is booted in an emulator; sentences are tried from C. At the end it says what
+# was not tried, and why. The last line is 'N passed, M failed'; the exit status is 0 only where nothing failed.
 set -eu
 cd "$(dirname "$0")"
 need() {
@@ -22,14 +23,16 @@ export RT_JOBS="${RT_JOBS:-$(($(nproc) * 3))}"
 passed=0
 failed=0
 log=$(mktemp)
-trap 'rm -f "$log" "$log.code"' EXIT
+trap 'rm -f "$log" "$log.code" "$log.untried"' EXIT
+: >"$log.untried"
 
 # Runs a command whose last line is '... N passed, M failed' and adds the two numbers to the totals. A command that
-# fails and names no failure counts as one.
+# fails and names no failure counts as one. A line 'NAME: not tried: WHY' is said again at the end.
 counted() {
     { code=0; "$@" 2>&1 || code=$?; echo "$code" >"$log.code"; } | tee "$log"
     numbers=$(sed -n 's/^\(.*: \)\{0,1\}\([0-9][0-9]*\) passed, \([0-9][0-9]*\) failed$/\2 \3/p' "$log" | tail -n 1)
     numbers=${numbers:-0 0}
+    grep '^[a-z]*: not tried: ' "$log" >>"$log.untried" || true
     if [ "$(cat "$log.code")" -ne 0 ] && [ "${numbers#* }" -eq 0 ]; then
         numbers="${numbers% *} 1"
     fi
@@ -50,8 +53,10 @@ counted sh tests/c.sh
 export NAZSOMBET_BUILT=1
 counted sh tests/damaged.sh
 counted sh tests/compare.sh --seed 1
+counted sh tests/box.sh
 counted sh tests/sentences.sh
 counted sh tests/desk.sh
 counted sh tests/worded.sh
+cat "$log.untried"
 echo "$passed passed, $failed failed"
 test "$failed" -eq 0

@@ -31,6 +31,8 @@
  * A thread's call. Copy its numbers out of the thread's memory before the call and the answer into it afterwards: what
  * is lent is the kernel's own, and nobody else writes it meanwhile.
  *
+ * A kernel. examples/box is one that keeps to all of this; its README lists what else a kernel has to do.
+ *
  * Memory. The host owns all of it. It lends the tables (4,096 words), the grants (16,384 words) and a scratch (256
  * words); the library keeps no pointer and no state between two calls, allocates nothing and does no input or output.
  * All that the core knows stands in the tables and the grants: they may be copied, stored and lent again elsewhere, the
