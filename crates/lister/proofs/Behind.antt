@@ -20,8 +20,8 @@ use Rattle.journal.specs.Words.{readAt, readFrom}
 use Rattle.journal.proofs.Appended.{moved, read-dropped}
 use Rattle.input.specs.Words.{wordsIn}
 use Rattle.input.proofs.Appended.{no-words}
-use Rattle.lister.specs.declared.Form.{Form}
-use Rattle.lister.specs.Forms.{stopText}
+use Rattle.forms.specs.declared.Form.{Form}
+use Rattle.forms.specs.Forms.{stopText}
 use Rattle.lister.specs.Feeding.{ready}
 use Rattle.lister.proofs.Enough.{Whole, whole-words, read-same, read-all, read-missing}
 use Rattle.journal.specs.Course.{courseFrom}

@@ -12,8 +12,8 @@ use Rattle.lent_tables.specs.Entries.{Lent, lent, Sized, Freshened}
 use Rattle.lent_tables.proofs.Verdict.{fresh-left}
 use Rattle.listing.specs.Line.{header}
 use Rattle.input.specs.Words.{wordsIn}
-use Rattle.lister.specs.declared.Form.{Form}
-use Rattle.lister.specs.declared.Form.the-variants.{Lines, Sentences}
+use Rattle.forms.specs.declared.Form.{Form}
+use Rattle.forms.specs.declared.Form.the-variants.{Lines, Sentences}
 use Rattle.journal.specs.Course.{courseOf}
 use Rattle.lister.specs.Listing.{wholeOf, textOf, listingOf, tellingOf, Prefix}
 use Rattle.lister.specs.Feeding.{Told, fed, ending, fedParts, joined, starting, startingFresh}

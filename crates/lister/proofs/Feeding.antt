@@ -26,8 +26,8 @@ use Rattle.lent_tables.proofs.Runner.{running-image}
 use Rattle.kernel.proofs.InTurn.{called-image}
 use Rattle.input.specs.Words.{wordsIn}
 use Rattle.rows.specs.Taking.{turned}
-use Rattle.lister.specs.declared.Form.{Form}
-use Rattle.lister.specs.Forms.{callText, stopText}
+use Rattle.forms.specs.declared.Form.{Form}
+use Rattle.forms.specs.Forms.{callText, stopText}
 use Rattle.lister.specs.Feeding.{Progress, Told, ready, holding, toldBy, offered, byteTo, fed, ending, endingWith}
 use Rattle.lister.specs.Feeding.{fedParts, joined}
 use Rattle.lister.proofs.Texts.{textFor}

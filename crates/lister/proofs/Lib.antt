@@ -1,5 +1,4 @@
 -- The functions: what they hold, answer and write.
-pub mod Writing
 pub mod Taking
 pub mod Holding
 -- For every division of the bytes the text is that of the whole.

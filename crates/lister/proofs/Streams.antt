@@ -20,10 +20,10 @@ use Rattle.layout.specs.Addresses.{scratchWords}
 use Rattle.lent_tables.specs.Entries.{zeros}
 use Rattle.lent_tables.proofs.Verdict.{zeros-length}
 use Rattle.input.specs.Words.{wordsIn}
-use Rattle.lister.specs.declared.Form.{Form}
+use Rattle.forms.specs.declared.Form.{Form}
 use Rattle.journal.specs.Course.{courseFrom}
 use Rattle.lister.specs.Listing.{Text, wholeOf, Prefix}
-use Rattle.lister.specs.Forms.{stopText}
+use Rattle.forms.specs.Forms.{stopText}
 use Rattle.lister.specs.Feeding.{Told, ready, holding, fed, ending}
 use Rattle.lister.proofs.Enough.{Whole, whole-now, how-many, whole-words, not-over}
 use Rattle.lister.proofs.Texts.{before, stopsWith, textFor}

@@ -27,10 +27,10 @@ use Rattle.rows.specs.declared.Turn.{Turn}
 use Rattle.rows.specs.declared.Turn.the-variants.{Took, Stopped, Over}
 use Rattle.rows.specs.Taking.{Turned, turned}
 use Rattle.rows.proofs.Turn.{the-type}
-use Rattle.lister.specs.declared.Form.{Form}
+use Rattle.forms.specs.declared.Form.{Form}
 use Rattle.lister.specs.declared.Lister.{Lister}
 use Rattle.lister.specs.declared.Fed.{Fed}
-use Rattle.lister.specs.Forms.{callText, stopText}
+use Rattle.forms.specs.Forms.{callText, stopText}
 use Rattle.lister.specs.Feeding.{Progress, Told, toldOf, toldBy, endingWith, ending}
 use Rattle.lister.specs.Buffers.{progressOf, emptied, takesCall, stopping, Feeds}
 

@@ -6,9 +6,9 @@ use Rattle.machine.specs.State.{State}
 use Rattle.machine.specs.Grants.{Grants}
 use Rattle.machine.specs.Machine.{step}
 use Rattle.journal.specs.declared.types.Read.{Read}
-use Rattle.lister.specs.declared.Form.{Form}
+use Rattle.forms.specs.declared.Form.{Form}
 use Rattle.journal.specs.Course.{courseFrom}
-use Rattle.lister.specs.Forms.{callText}
+use Rattle.forms.specs.Forms.{callText}
 use Rattle.lister.specs.Listing.{Text, textIn}
 
 -- A call's text before those of other calls,

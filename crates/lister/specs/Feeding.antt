@@ -14,8 +14,8 @@ use Rattle.input.specs.Words.{littleEndian, wordsIn}
 use Rattle.rows.specs.declared.Turn.{Turn}
 use Rattle.rows.specs.declared.Turn.the-variants.{Took, Stopped, Over}
 use Rattle.rows.specs.Taking.{Turned, turned}
-use Rattle.lister.specs.declared.Form.{Form}
-use Rattle.lister.specs.Forms.{callText, stopText}
+use Rattle.forms.specs.declared.Form.{Form}
+use Rattle.forms.specs.Forms.{callText, stopText}
 
 -- Between two bytes: those of a call that is not yet whole, the next call's index, whether the journal goes on, and the
 -- lent memory.

@@ -6,10 +6,10 @@ use mathlib.Core.List.{List, [], _∷_, _++_}
 use lib.ListN.{length}
 use Rattle.listing.specs.Line.{header}
 use Rattle.input.specs.Words.{wordsIn}
-use Rattle.lister.specs.declared.Form.{Form}
-use Rattle.lister.specs.declared.Form.the-variants.{Lines, Sentences}
+use Rattle.forms.specs.declared.Form.{Form}
+use Rattle.forms.specs.declared.Form.the-variants.{Lines, Sentences}
 use Rattle.journal.specs.Course.{Made, Course, courseOf}
-use Rattle.lister.specs.Forms.{callText, stopText}
+use Rattle.forms.specs.Forms.{callText, stopText}
 
 -- The texts of calls made, one behind the other.
 abbrev pub callTexts : Form → List Made → List ℕ

@@ -13,17 +13,9 @@ ghost use Rattle.input.specs.Words.{wordsIn};
 ghost use Rattle.rows.specs.Taking.{Turned, turned};
 ghost use Rattle.lister.specs.Feeding.{ready, byteTo, fed, ending};
 ghost use Rattle.lister.specs.Buffers.{progressOf, withByte, emptied, stopping, takesCall, Feeds};
-
-mod add;
-
+use forms::Form;
 use journal::words_taken;
 use rows::Turn;
-
-// How a call is told: a line of numbers, or a sentence.
-pub enum Form {
-    Lines,
-    Sentences,
-}
 
 // The bytes held of a call that is not yet whole, the next call's index, whether the journal goes on.
 pub struct Lister {
@@ -106,7 +98,7 @@ fn stop(form: Form, l: Lister, turn: Turn, out: &mut [u8], used: usize) -> Fed
     };
     Fed {
         lister: empty(l, l.index, false),
-        used: add::stop(form, out, used, l.index, code, who),
+        used: forms::stop(form, out, used, l.index, code, who),
     }
 }
 
@@ -157,7 +149,7 @@ fn answer(
     let next = std::num::wrapping_add_u64(l.index, 1);
     Fed {
         lister: empty(l, next, l.going),
-        used: add::call(form, out, used, l.index, call, answer, who),
+        used: forms::call(form, out, used, l.index, call, answer, who),
     }
 }
 
@@ -244,7 +236,7 @@ pub fn finish(form: Form, l: Lister, tables: &[u32], out: &mut [u8]) -> usize
     if l.held == 0 {
         return 0;
     }
-    add::stop(
+    forms::stop(
         form,
         out,
         0,

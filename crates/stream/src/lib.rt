@@ -6,7 +6,7 @@ ghost use lib.ListN.{length};
 
 mod output;
 
-use lister::Form;
+use forms::Form;
 use lister::Lister;
 
 // After a part: the lister, whether another part is to be read, whether the bytes have ended.

@@ -1,5 +1,5 @@
 // Tells the journal that comes on standard input in sentences.
-use lister::Form;
+use forms::Form;
 
 fn main() {
     stream::run(Form::Sentences);

@@ -1,5 +1,5 @@
 // Lists the journal that comes on standard input.
-use lister::Form;
+use forms::Form;
 
 fn main() {
     stream::run(Form::Lines);

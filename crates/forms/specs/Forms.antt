@@ -8,8 +8,8 @@ use Rattle.calls.specs.Calls.{numberOf}
 use Rattle.journal.specs.Rows.{lastRow}
 use Rattle.listing.specs.Line.{lineOf}
 use Rattle.wording.specs.Sentence.{sentence, stopLine}
-use Rattle.lister.specs.declared.Form.{Form}
-use Rattle.lister.specs.declared.Form.the-variants.{Lines, Sentences}
+use Rattle.forms.specs.declared.Form.{Form}
+use Rattle.forms.specs.declared.Form.the-variants.{Lines, Sentences}
 
 -- Of a call with this index and answer, after which this thread runs. A sentence tells neither index nor thread.
 abbrev pub callText : Form → ℕ → Call → Answer → Option ℕ → List ℕ

@@ -1,4 +1,5 @@
-// Texts behind the bytes used of a buffer, in each form; each function answers how many bytes are used then.
+// The forms in which a call is told, and what stops a journal: texts behind the bytes used of a buffer. Each function
+// answers how many bytes are used then.
 ghost use Prim.Native.Nat.{_+_, _≤_};
 ghost use mathlib.Core.Path.{_≡_};
 ghost use mathlib.Core.Bool.{true};
@@ -10,12 +11,17 @@ ghost use Rattle.listing.specs.Line.{lineOf};
 ghost use Rattle.listing.specs.Buffer.{lineRoom};
 ghost use Rattle.wording.specs.Sentence.{sentence, stopLine};
 ghost use Rattle.wording.specs.Entry.{sentenceRoom};
-ghost use Rattle.lister.specs.Forms.{callText, stopText};
-use crate::Form;
+ghost use Rattle.forms.specs.Forms.{callText, stopText};
 use calls::Answer;
 use calls::Call;
 use calls::Runner;
 use listing::Listed;
+
+// How a call is told: a line of numbers, or a sentence.
+pub enum Form {
+    Lines,
+    Sentences,
+}
 
 // A line of numbers.
 fn line(

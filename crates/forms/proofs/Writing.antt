@@ -27,10 +27,10 @@ use Rattle.listing.proofs.Fronts.{front-wrote}
 use Rattle.wording.specs.Sentence.{sentence, stopLine}
 use Rattle.wording.specs.Entry.{sentenceRoom, sentenceFor, stopFor}
 use Rattle.wording.proofs.Entry.{line-for, stop-line-for}
-use Rattle.lister.specs.declared.Form.{Form}
-use Rattle.lister.specs.declared.Form.the-variants.{Lines, Sentences}
-use Rattle.lister.specs.Forms.{callText, stopText}
-use Rattle.lister.proofs.Form.{the-type}
+use Rattle.forms.specs.declared.Form.{Form}
+use Rattle.forms.specs.declared.Form.the-variants.{Lines, Sentences}
+use Rattle.forms.specs.Forms.{callText, stopText}
+use Rattle.forms.proofs.Form.{the-type}
 
 pub line-added :
     (out : List ℕ) (used k : ℕ) → used + lineRoom ≤ length out → k ≡ lineRoom

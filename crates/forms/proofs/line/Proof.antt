@@ -3,9 +3,9 @@ use Prim.Native.Nat.{_+_, _-_}
 use mathlib.Core.Path.{refl}
 use borrow.Author.Needs.{needs}
 use Rattle.listing.specs.Buffer.{lineRoom}
-use Rattle.lister.proofs.Writing.{line-added}
-use Rattle.lister.proofs.add.line.Statement.{statement}
-use Rattle.lister.proofs.add.line.Tie as tie
+use Rattle.forms.proofs.Writing.{line-added}
+use Rattle.forms.proofs.line.Statement.{statement}
+use Rattle.forms.proofs.line.Tie as tie
 
 add-end : tie.Need-add-end
 add-end c = search needs

@@ -1,9 +1,9 @@
 -- By the form.
 use native.Mathlib.Omega.{arith}
 use borrow.Author.Needs.{needs}
-use Rattle.lister.proofs.Writing.{stop-numbers, stop-sentence}
-use Rattle.lister.proofs.add.stop.Statement.{statement}
-use Rattle.lister.proofs.add.stop.Tie as tie
+use Rattle.forms.proofs.Writing.{stop-numbers, stop-sentence}
+use Rattle.forms.proofs.stop.Statement.{statement}
+use Rattle.forms.proofs.stop.Tie as tie
 
 enum-told : tie.Need-enum-told
 enum-told c = search needs

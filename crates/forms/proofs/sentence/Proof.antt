@@ -3,9 +3,9 @@ use Prim.Native.Nat.{_+_, _-_}
 use mathlib.Core.Path.{refl}
 use borrow.Author.Needs.{needs}
 use Rattle.wording.specs.Entry.{sentenceRoom}
-use Rattle.lister.proofs.Writing.{sentence-added}
-use Rattle.lister.proofs.add.sentence.Statement.{statement}
-use Rattle.lister.proofs.add.sentence.Tie as tie
+use Rattle.forms.proofs.Writing.{sentence-added}
+use Rattle.forms.proofs.sentence.Statement.{statement}
+use Rattle.forms.proofs.sentence.Tie as tie
 
 add-end : tie.Need-add-end
 add-end c = search needs

@@ -3,9 +3,9 @@ use Prim.Native.Nat.{_+_, _-_}
 use mathlib.Core.Path.{refl}
 use borrow.Author.Needs.{needs}
 use Rattle.wording.specs.Entry.{sentenceRoom}
-use Rattle.lister.proofs.Writing.{stop-line-added}
-use Rattle.lister.proofs.add.stop_line.Statement.{statement}
-use Rattle.lister.proofs.add.stop_line.Tie as tie
+use Rattle.forms.proofs.Writing.{stop-line-added}
+use Rattle.forms.proofs.stop_line.Statement.{statement}
+use Rattle.forms.proofs.stop_line.Tie as tie
 
 add-end : tie.Need-add-end
 add-end c = search needs

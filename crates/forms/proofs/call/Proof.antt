@@ -1,9 +1,9 @@
 -- By the form.
 use native.Mathlib.Omega.{arith}
 use borrow.Author.Needs.{needs}
-use Rattle.lister.proofs.Writing.{call-line, call-sentence}
-use Rattle.lister.proofs.add.call.Statement.{statement}
-use Rattle.lister.proofs.add.call.Tie as tie
+use Rattle.forms.proofs.Writing.{call-line, call-sentence}
+use Rattle.forms.proofs.call.Statement.{statement}
+use Rattle.forms.proofs.call.Tie as tie
 
 enum-told : tie.Need-enum-told
 enum-told c = search needs

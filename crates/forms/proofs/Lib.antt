@@ -1,0 +1,2 @@
+-- A text behind the bytes used, in each form.
+pub mod Writing
