@@ -16,6 +16,7 @@ need() {
 need rt "the Rattle kit (rattle-kit-5b or newer)"
 need cargo "Rust (1.78 or newer)"
 need cc "a C compiler"
+need c++ "a C++ compiler"
 
 # Edits are tried in batches, and a batch waits for its slowest: three for each processor keep all at work.
 export RT_JOBS="${RT_JOBS:-$(($(nproc) * 3))}"
@@ -40,6 +41,7 @@ counted() {
     failed=$((failed + ${numbers#* }))
 }
 
+counted sh tests/lines.sh
 (cd tests && cargo test --quiet -p second)
 counted rt ci
 counted sh tests/journals.sh target/bin/trace
