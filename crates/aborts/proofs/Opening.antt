@@ -10,14 +10,12 @@ use Rattle.machine.specs.State.{State, Abort, Status, missing, live, closing}
 use Rattle.machine.specs.Endpoints.{underAbort, isAborting, dropDebt}
 use Rattle.machine.specs.Results.{accept}
 use Rattle.calls.specs.Answers.{plain}
-use Rattle.machine.specs.Aborts.{join, workOwn, workOther, underBadge, abortFrom, abortOpen, abortAt, abortUnless}
+use Rattle.machine.specs.Aborts.{workOther, underBadge, abortFrom, abortOpen, abortAt, abortUnless}
 use Rattle.machine.specs.Aborts.{abort}
 use Rattle.machine.specs.Sound.{Sound}
 use Rattle.machine.proofs.Lists.{clash}
 use Rattle.machine.proofs.Preserved.Mid.{sound-mid}
 use Rattle.machine.proofs.Preserved.Debts.{mid-dropDebt, dropDebt-drops}
-use Rattle.machine.proofs.Preserved.AbortSteps.{mid-join}
-use Rattle.machine.proofs.Preserved.Aborts.{running-present, join-status}
 use Rattle.layout.specs.declared.Part.{Part}
 use Rattle.layout.specs.Words.{statusCode, abortCode}
 use Rattle.layout.specs.Shows.{Shows}
@@ -25,46 +23,12 @@ use Rattle.store.specs.Steps.{Shown, Does, Tells}
 use Rattle.store.specs.Store.{IsThread, IsEndpoint}
 use Rattle.store.specs.Readings.{endpointIn}
 use Rattle.queues.specs.Queues.{Chooses}
-use Rattle.debts.specs.Debts.{Says, PairInRange, InCall, underIn, notedIn}
+use Rattle.debts.specs.Debts.{Says, InCall, underIn, notedIn}
 use Rattle.endings.specs.Results.{Calling, Performs, Accepts}
 use Rattle.endings.proofs.Ends.{refused, performs-as, performs-for, performs-after, does-for, shown-for}
-use Rattle.endings.proofs.Conditions.{mid-chooses, running-thread, running-range, running-calls}
-use Rattle.aborts.specs.Aborts.{Open, Joining, Continues, ownBegun, joinedOn, unnoted}
-
--- Joining.
-
-joining-joins : {t e : ℕ} {s : State} → Joining t e s → PairInRange t e s
-joining-joins J = let O = J .opened in running-range (O .mid) (O .runs) (O .endpoint)
-
-joined-open : {t e : ℕ} {s : State} → Joining t e s → Open t e (join t e s)
-unfolding join
-joined-open {t} {e} {s} J =
-    let O = J .opened in
-    record {
-      mid = mid-join t e s (J .stands) (O .mid) (running-present (O .mid) (O .runs));
-      endpoint = O .endpoint;
-      runs = O .runs;
-      status = join-status t e s ∙ O .status;
-    }
-
-module _ {m : List ℕ} {t e : ℕ} where
-  pub joins-asked : Shown m (Joining t e) → Shown m (PairInRange t e)
-  joins-asked S = shown-for S (λ s J. joining-joins J)
-
-  module _ {n : List ℕ} (D : Does m n (PairInRange t e) (join t e)) where
-    pub joined-asked : Shown m (Joining t e) → Shown n (Open t e)
-    joined-asked S =
-        record {
-          state = join t e (S .state);
-          shows = D .shows (S .state) (S .shows) (joining-joins (S .holds));
-          holds = joined-open (S .holds);
-        }
-
-    pub own-joins :
-        {o : List ℕ} {r : Answer} (a : ℕ) → Continues n 0 r (Open t e) (workOwn t e a) o
-        → Performs m o r (Joining t e) (joinedOn t e a)
-    own-joins a C =
-        performs-after (does-for D (λ s J. joining-joins J)) (λ s M J. joined-open J) (C .performs [] refl)
+use Rattle.endings.proofs.Conditions.{mid-chooses, running-thread, running-calls}
+use Rattle.own_aborts.specs.Own.{Open, Joining, Continues, ownBegun, joinedOn}
+use Rattle.aborts.specs.Aborts.{unnoted}
 
 -- By the abort that stands: none, one of this badge, or one of another.
 

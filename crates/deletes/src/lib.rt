@@ -26,7 +26,7 @@ fn remove(tables: &mut [u32], e: usize, allowance: u32) -> u32
         if first == NOBODY {
             return allowance - left;
         }
-        queues::wake_from(tables, e, (first - LINK) as usize, ENDPOINT_GONE, 0, 0);
+        endpoint_queues::wake_from(tables, e, (first - LINK) as usize, ENDPOINT_GONE, 0, 0);
         left -= 1;
     }
     allowance

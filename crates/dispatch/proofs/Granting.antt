@@ -25,7 +25,7 @@ use Rattle.store.specs.Store.{IsThread, IsEndpoint}
 use Rattle.store.specs.Readings.{threadIn, endpointIn}
 use Rattle.endings.specs.Results.{Asked, Performs}
 use Rattle.endings.proofs.Ends.{refused, performs-as, performs-for, shown-for}
-use Rattle.threads.proofs.Places.{code-absent, code-present}
+use Rattle.priorities.proofs.Places.{code-absent, code-present}
 use Rattle.grants.specs.Memory.{grantWords, grantsOf, grantImage}
 use Rattle.grants.proofs.Memory.{image-of}
 use Rattle.dispatch.specs.Steps.{Grantable, Regrants}

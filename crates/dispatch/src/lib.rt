@@ -85,11 +85,11 @@ pub fn carry_out(tables: &mut [u32], grants: &mut [u32], link: u32, c: Call) -> 
         }
         Call::DestroyThread { thread } => threads::destroy_thread(tables, thread as usize),
         Call::SetPriority { thread, priority } => {
-            threads::set_priority(tables, thread as usize, priority)
+            priorities::set_priority(tables, thread as usize, priority)
         }
         Call::CreateEndpoint { endpoint } => create_endpoint(tables, grants, endpoint as usize),
         Call::Interrupt { line } => lines::interrupt(tables, line as usize),
-        Call::Tick => threads::tick(tables),
+        Call::Tick => time_slices::tick(tables),
         Call::Send {
             endpoint,
             badge,
@@ -106,7 +106,7 @@ pub fn carry_out(tables: &mut [u32], grants: &mut [u32], link: u32, c: Call) -> 
             (link - LINK) as usize,
             endpoint as usize,
         ),
-        Call::Yield => threads::yield_running(tables, (link - LINK) as usize),
+        Call::Yield => time_slices::yield_running(tables, (link - LINK) as usize),
         Call::Wait { line } => lines::wait(tables, (link - LINK) as usize, line as usize),
         Call::Delete {
             endpoint,

@@ -11,7 +11,7 @@ pub fn accept(tables: &mut [u32], answer: Answer) -> Answer
     requires { ⌜ Shown (now tables) Chooses ⌝ }
     ensures { λ r. ⌜ Accepts (now (tables .entry)) answer r Chooses (now (tables .exit)) ⌝ }
 {
-    queues::choose(tables);
+    scheduler::choose(tables);
     answer
 }
 
@@ -20,6 +20,6 @@ pub fn done(tables: &mut [u32]) -> Answer
     requires { ⌜ Shown (now tables) Chooses ⌝ }
     ensures { λ r. ⌜ Performs (now (tables .entry)) (now (tables .exit)) r Chooses done ⌝ }
 {
-    queues::choose(tables);
+    scheduler::choose(tables);
     calls::plain(calls::codes::DONE)
 }

@@ -6,3 +6,7 @@ pub mod Bites
 pub mod Unheard
 pub mod Losing
 pub mod Withholding
+-- Journals and their lines.
+pub mod Example
+pub mod Incident
+pub mod Joiners

@@ -14,7 +14,7 @@ use Rattle.calls.specs.declared.Call.the-variants.{Send, Abort, Grant}
 use Rattle.calls.specs.Calls.{inRange}
 use Rattle.journal.specs.declared.types.Named.{Named}
 use Rattle.journal.specs.declared.types.Named.the-variants.{One, Nothing}
-use Rattle.journal.specs.declared.Number.the-variants.{Is, Wrong}
+use Rattle.journal.specs.declared.types.Number.the-variants.{Is, Wrong}
 use Rattle.journal.specs.Steps.{asNamed, callNamed, asNumber}
 use Rattle.journal.specs.Words.{topByte, wordsTaken, unused, numberIn, sendOf, abortOf, grantOf}
 use Rattle.journal.specs.Words.{callOf, callAt, judged, readFrom, readAt}

@@ -8,6 +8,3 @@ pub mod RoundTrip
 pub mod Refusals
 pub mod Appended
 pub mod Answers
-pub mod Example
-pub mod Incident
-pub mod Joiners

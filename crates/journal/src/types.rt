@@ -1,11 +1,16 @@
-// What naming, reading and writing a call answer. A module of its own: `Read` and the function `read` could not stand
-// in one.
+// What naming, reading and writing a call answer.
 use calls::Call;
 
 // The call that words or numbers name, if they name one.
 pub enum Named {
     One(Call),
     Nothing,
+}
+
+// The number in a word of the kind asked for, if it is one.
+pub enum Number {
+    Is(u32),
+    Wrong,
 }
 
 // What the words at a place read as.

@@ -184,7 +184,7 @@ fn show(reading: Read) {
 fn show_at(journal: &[u32], at: usize) {
     place(at);
     text(b":");
-    show(journal::read(journal, at));
+    show(parsing::read(journal, at));
     text(b"\n");
 }
 
@@ -203,7 +203,7 @@ fn taken(top: u32, argument: u32) -> usize
     requires { ⌜ (top < 256) × (argument < 2) ⌝ }
 {
     let journal = [top * 0x0100_0000 + argument, 0x2000_0000, 0x3000_0000];
-    match journal::read(&journal, 0) {
+    match parsing::read(&journal, 0) {
         Read::Found { call: _, next } => next,
         Read::Refused { code, at: _ } => code as usize,
         Read::Ended => 0,
@@ -239,7 +239,7 @@ fn word(w: u32) {
 
 // A line for what a call is written as: code, count and the three words.
 fn show_written(call: Call) {
-    let w = journal::write(call);
+    let w = encoding::write(call);
     number(w.code);
     text(b" ");
     place(w.count);

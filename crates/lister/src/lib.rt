@@ -14,7 +14,7 @@ ghost use Rattle.rows.specs.Taking.{Turned, turned};
 ghost use Rattle.lister.specs.Feeding.{ready, byteTo, fed, ending};
 ghost use Rattle.lister.specs.Buffers.{progressOf, withByte, emptied, stopping, takesCall, Feeds};
 use forms::Form;
-use journal::words_taken;
+use parsing::words_taken;
 use rows::Turn;
 
 // The bytes held of a call that is not yet whole, the next call's index, whether the journal goes on.

@@ -26,7 +26,7 @@ fn without_rights(numbers: [u32; 6]) -> Named
             badge: numbers[3],
             message: numbers[4],
         });
-        return journal::if_unused(numbers[2], call);
+        return decoding::if_unused(numbers[2], call);
     }
     if numbers[0] == 12 {
         let call = Named::One(Call::Abort {
@@ -34,10 +34,10 @@ fn without_rights(numbers: [u32; 6]) -> Named
             allowance: numbers[2],
             badge: numbers[3],
         });
-        return journal::if_unused(numbers[4], call);
+        return decoding::if_unused(numbers[4], call);
     }
-    let call = journal::short_call(numbers[0], numbers[1], numbers[2]);
-    journal::if_unused(numbers[3], journal::if_unused(numbers[4], call))
+    let call = decoding::short_call(numbers[0], numbers[1], numbers[2]);
+    decoding::if_unused(numbers[3], decoding::if_unused(numbers[4], call))
 }
 
 // The call that six numbers name. A grant's subject is the thread, its argument the endpoint.
@@ -51,7 +51,7 @@ pub fn call_in(numbers: [u32; 6]) -> Named
             rights: numbers[5],
             badge: numbers[3],
         });
-        return journal::if_unused(numbers[4], call);
+        return decoding::if_unused(numbers[4], call);
     }
     // Before the call is made of the others: it then stays in registers.
     if numbers[5] != 0 {
@@ -101,7 +101,7 @@ pub fn numbers_of(call: Call) -> [u32; 6]
 pub fn read(journal: &[u32], at: usize) -> Reading
     ensures { λ r. ⌜ r ≡ reading (now (journal .entry)) at ⌝ }
 {
-    match journal::read(journal, at) {
+    match parsing::read(journal, at) {
         Read::Found { call, next } => Reading {
             code: 0,
             at: next,
@@ -131,5 +131,5 @@ pub fn write(named: Named) -> Written
             words: [0, 0, 0],
         };
     };
-    journal::write(call)
+    encoding::write(call)
 }

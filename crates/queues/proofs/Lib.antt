@@ -1,7 +1,4 @@
 -- The lemmas of the queues, in the order to read them. The proof of a function stands in a folder of its name.
 pub mod Changed
 pub mod Joining
-pub mod Passing
 pub mod Leaving
-pub mod Marking
-pub mod Choosing

@@ -1,5 +1,5 @@
 // A reader of the journal: it refers to the journal and holds a word number. The functions over it are thin, for the
-// borrow checker covers none of them: `journal::read`, which takes slice and number, does the work.
+// borrow checker covers none of them: `parsing::read`, which takes slice and number, does the work.
 use journal::types::Read;
 ghost use mathlib.Core.Path.{_≡_};
 ghost use Rattle.journal.specs.Words.{readAt};
@@ -20,7 +20,7 @@ pub fn new<'a>(journal: &'a [u32], at: usize) -> Reader<'a>
 pub fn next<'a>(reader: Reader<'a>) -> Read
     ensures { λ r. ⌜ r ≡ readAt (now (reader .entry .journal)) (reader .entry .at) ⌝ }
 {
-    journal::read(reader.journal, reader.at)
+    parsing::read(reader.journal, reader.at)
 }
 
 // The next call of a reader at a word of the journal, for callers that hold no reader.

@@ -21,9 +21,9 @@ use Rattle.queues.proofs.Joining.{shown-next, and-then}
 use Rattle.endings.specs.Results.{Asked, Performs}
 use Rattle.endings.proofs.Ends.{refused, performs-as, performs-after, does-for}
 use Rattle.endings.proofs.Conditions.{created-loose}
-use Rattle.threads.specs.Threads.{PriorityInRange}
-use Rattle.threads.proofs.Runner.{mid-apart, apart-chooses, apart-thread, apart-enqueue}
-use Rattle.threads.proofs.Places.{code-absent, code-present}
+use Rattle.priorities.specs.Priorities.{PriorityInRange}
+use Rattle.endings.proofs.Runner.{mid-apart, apart-chooses, apart-thread, apart-enqueue}
+use Rattle.priorities.proofs.Places.{code-absent, code-present}
 
 -- What the call asks.
 abbrev Given : ℕ → ℕ → State → Type 0

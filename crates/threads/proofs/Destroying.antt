@@ -26,8 +26,8 @@ use Rattle.queues.proofs.Joining.{shown-next, and-then}
 use Rattle.endings.specs.Results.{Asked, Performs}
 use Rattle.endings.proofs.Ends.{refused, performs-as, performs-after, does-for, shown-for}
 use Rattle.threads.specs.Threads.{Goes, leaving}
-use Rattle.threads.proofs.Runner.{mid-apart, apart-chooses, apart-thread, apart-leave}
-use Rattle.threads.proofs.Places.{code-absent, code-present}
+use Rattle.endings.proofs.Runner.{mid-apart, apart-chooses, apart-thread, apart-leave}
+use Rattle.priorities.proofs.Places.{code-absent, code-present}
 use Rattle.threads.proofs.Leaving.{mid-goes}
 
 -- What the call asks.

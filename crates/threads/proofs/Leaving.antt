@@ -27,8 +27,9 @@ use Rattle.queues.specs.Queues.{InLevel, InEndpoint}
 use Rattle.debts.specs.Debts.{Says}
 use Rattle.endings.proofs.Ends.{shown-for}
 use Rattle.endings.proofs.Conditions.{present-thread, ready-stands, queued-waits}
-use Rattle.threads.specs.Threads.{readyIn, Able, leavingReady, CanLeave, Goes, leaving}
-use Rattle.threads.proofs.Places.{able-idle, able-runs}
+use Rattle.priorities.specs.Priorities.{readyIn}
+use Rattle.threads.specs.Threads.{Able, leavingReady, CanLeave, Goes, leaving}
+use Rattle.priorities.proofs.Places.{able-idle, able-runs}
 
 -- An able thread leaves its level's queue, or stops running.
 module _ {m : List ℕ} {t : ℕ} {b : Bool} (R : Says m (IsThread t) b (readyIn t)) where

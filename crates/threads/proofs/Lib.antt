@@ -1,8 +1,4 @@
--- The lemmas of the calls on threads, in the order to read them. A function's proof stands in a folder of its name.
-pub mod Runner
-pub mod Places
+-- The lemmas of create and destroy, in the order to read them. A function's proof stands in a folder of its name.
 pub mod Leaving
 pub mod Creating
 pub mod Destroying
-pub mod Prioritising
-pub mod Ticking

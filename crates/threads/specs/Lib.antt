@@ -1,2 +1,2 @@
--- What the inner steps of the calls on threads ask and do.
+-- What leaving its place asks and does.
 pub mod Threads

@@ -1,22 +1,12 @@
--- What the inner steps of the calls on threads ask of the state that the memory shows, and what they do to it.
+-- What leaving its place asks of the state that the memory shows, and what it does to it.
 use Prim.Native.Nat.{ℕ, _≤_}
 use mathlib.Core.Path.{_≡_}
-use mathlib.Core.Bool.{Bool, _&&_, not}
 use mathlib.Core.Option.{some}
 use Rattle.machine.specs.State.{State, Place, absent, able, sending, receiving, waiting}
-use Rattle.machine.specs.Machine.{isAble, isRunning, leaveReady, leave, moveReady, tickFor}
-use Rattle.machine.specs.Sound.{Sound, Present}
+use Rattle.machine.specs.Machine.{isRunning, leaveReady, leave}
 use Rattle.layout.specs.declared.Field.{Field}
 use Rattle.store.specs.Readings.{threadIn}
 use Rattle.queues.specs.Queues.{InLevel, InEndpoint}
-
--- The numbers of create and set priority: a thread and a priority.
-abbrev pub PriorityInRange : ℕ → ℕ → Type 0
-PriorityInRange t p = (t ≤ 255) × (p ≤ 255)
-
--- Whether t is ready: able, and not the one that runs.
-abbrev pub readyIn : ℕ → State → Bool
-readyIn t s = isAble (s .threads t .place) && not (isRunning t (s .runs))
 
 -- An able thread t runs, or stands in its level's queue.
 pub record Able (t : ℕ) (s : State) : Type 0 where
@@ -42,16 +32,3 @@ pub record Goes (t code : ℕ) (s : State) : Type 0 where
 
 abbrev pub leaving : ℕ → State → State
 leaving t s = leave (s .threads t .place) t s
-
--- A present thread gets a priority in range.
-pub record Changes (t p : ℕ) (s : State) : Type 0 where
-  pub sound : Sound s
-  pub present : Present s t
-  pub level : p ≤ 255
-
-abbrev pub changing : ℕ → ℕ → State → State
-changing t p s = moveReady (readyIn t s) t p s
-
--- The tick of whoever runs.
-abbrev pub tickingFor : State → State
-tickingFor s = tickFor (s .runs) s

@@ -34,11 +34,11 @@ fn hand(tables: &mut [u32], t: usize, e: usize, badge: u32, message: u32) -> Ans
 {
     let link = debts::first_at(tables, e, codes::RECEIVING + e as u32);
     if link == NOBODY {
-        queues::join_endpoint(tables, t, e);
+        endpoint_queues::join_endpoint(tables, t, e);
         return waiting::suspend(tables, t, codes::SENDING + e as u32, badge, message);
     }
     let outcome = calls::codes::MESSAGE_RECEIVED;
-    queues::wake_from(tables, e, (link - LINK) as usize, outcome, badge, message);
+    endpoint_queues::wake_from(tables, e, (link - LINK) as usize, outcome, badge, message);
     endings::done(tables)
 }
 
@@ -70,7 +70,7 @@ fn take_from(tables: &mut [u32], e: usize, u: usize) -> Answer
 {
     let badge = store::thread(tables, Field::Badge, u);
     let message = store::thread(tables, Field::Message, u);
-    queues::wake_from(tables, e, u, calls::codes::MESSAGE_TAKEN, 0, 0);
+    endpoint_queues::wake_from(tables, e, u, calls::codes::MESSAGE_TAKEN, 0, 0);
     let answer = Answer {
         code: calls::codes::DONE,
         count: 0,
@@ -87,7 +87,7 @@ fn take(tables: &mut [u32], t: usize, e: usize) -> Answer
 {
     let link = debts::first_at(tables, e, codes::SENDING + e as u32);
     if link == NOBODY {
-        queues::join_endpoint(tables, t, e);
+        endpoint_queues::join_endpoint(tables, t, e);
         return waiting::suspend(tables, t, codes::RECEIVING + e as u32, 0, 0);
     }
     take_from(tables, e, (link - LINK) as usize)

@@ -1,0 +1,2 @@
+-- The lemmas of the looks.
+pub mod Looks

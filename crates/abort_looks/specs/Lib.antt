@@ -1,0 +1,2 @@
+-- What the looks of an abort ask and come to.
+pub mod Looks

@@ -1,0 +1,2 @@
+-- What a change of priority asks and does.
+pub mod Priorities

@@ -1,0 +1,2 @@
+-- The lemmas of the choice of who runs.
+pub mod Choosing

@@ -1,0 +1,2 @@
+-- The lemmas of tick and yield.
+pub mod Ticking

@@ -1,0 +1,2 @@
+-- What a tick does.
+pub mod Ticks
