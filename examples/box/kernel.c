@@ -27,7 +27,7 @@ struct context {
 
 static struct context contexts[THREADS];
 static uint8_t stacks[THREADS][4096] __attribute__((aligned(16)));
-static uint32_t tables[NAZSOMBET_TABLES], grants[NAZSOMBET_GRANTS], scratch[NAZSOMBET_SCRATCH];
+static struct nazsombet_lent lent;
 static uint32_t current; /* the thread that was left last */
 
 volatile uint32_t inside = 1;          /* the kernel works, not a thread */
@@ -137,9 +137,9 @@ static uint32_t make(const struct nazsombet_numbers *call, struct nazsombet_answ
     for (size_t i = 0; i < 4 * count; i++)
         put(JOURNAL, words[i / 4] >> 8 * (i % 4));
     step(calls % STEPPED == 0);
-    nazsombet_call(tables, NAZSOMBET_TABLES, grants, NAZSOMBET_GRANTS, scratch, NAZSOMBET_SCRATCH, call, answer);
+    nazsombet_lent_call(&lent, *call, answer);
     step(0);
-    say_row(call, answer, nazsombet_running(tables, NAZSOMBET_TABLES));
+    say_row(call, answer, nazsombet_lent_running(&lent));
     __asm__ volatile("cli");
     if (answer->code == NAZSOMBET_UNSOUND)
         finish(1, "tables or grants are not sound\n");
@@ -148,9 +148,8 @@ static uint32_t make(const struct nazsombet_numbers *call, struct nazsombet_answ
     return answer->code;
 }
 
-static void host(uint32_t number, uint32_t subject, uint32_t argument, uint32_t badge, uint32_t rights)
+static void host(struct nazsombet_numbers call)
 {
-    struct nazsombet_numbers call = {number, subject, argument, badge, 0, rights};
     struct nazsombet_answer answer;
     if (make(&call, &answer) != NAZSOMBET_DONE)
         finish(1, "a call of the host's was refused\n");
@@ -227,14 +226,14 @@ void note(const struct frame *frame)
 static void settle(void)
 {
     for (;;) {
-        uint32_t runs = nazsombet_running(tables, NAZSOMBET_TABLES);
+        uint32_t runs = nazsombet_lent_running(&lent);
         if (ticks > 0) {
             ticks--;
-            host(NAZSOMBET_TICK, 0, 0, 0, 0);
+            host(nazsombet_tick_call());
         } else if (lines != 0) {
             uint32_t line = __builtin_ctz(lines);
             lines &= lines - 1;
-            host(NAZSOMBET_INTERRUPT, line, 0, 0, 0);
+            host(nazsombet_interrupt_call(line));
         } else if (runs == NAZSOMBET_NOBODY) {
             idle++;
             __asm__ volatile("sti; hlt; cli" : : : "memory");
@@ -251,11 +250,10 @@ static struct frame *go_on(struct frame *frame)
     settle();
     struct context *t = &contexts[current];
     if (t->waits) {
-        uint32_t woken[3];
-        nazsombet_woken(tables, NAZSOMBET_TABLES, current, woken);
-        t->waits->outcome = woken[0];
-        t->waits->answer.badge = woken[1];
-        t->waits->answer.message = woken[2];
+        struct nazsombet_waking woken = nazsombet_lent_woken(&lent, current);
+        t->waits->outcome = woken.outcome;
+        t->waits->answer.badge = woken.badge;
+        t->waits->answer.message = woken.message;
         t->waits = 0;
     }
     *frame = t->frame;
@@ -323,18 +321,18 @@ static void set_devices(void)
 static void set_threads(void)
 {
     for (uint32_t endpoint = LOOKUPS; endpoint <= DRAWER; endpoint++)
-        host(NAZSOMBET_CREATE_ENDPOINT, endpoint, 0, 0, 0);
-    host(NAZSOMBET_CREATE_THREAD, LINE_OUT, PRINTING, 0, 0);
-    host(NAZSOMBET_CREATE_THREAD, SERVER, SERVING, 0, 0);
-    host(NAZSOMBET_CREATE_THREAD, STORE, STORES, 0, 0);
-    host(NAZSOMBET_CREATE_THREAD, SECOND_STORE, SECOND, 0, 0);
-    host(NAZSOMBET_GRANT, LINE_OUT, PRINT, 0, NAZSOMBET_RIGHT_RECEIVE);
-    host(NAZSOMBET_GRANT, SERVER, LOOKUPS, 0, NAZSOMBET_RIGHT_RECEIVE);
-    host(NAZSOMBET_GRANT, SERVER, PRINT, 0, NAZSOMBET_RIGHT_SEND);
-    host(NAZSOMBET_GRANT, STORE, LOOKUPS, STORES_BADGE, NAZSOMBET_RIGHT_SEND + NAZSOMBET_RIGHT_ABORT);
-    host(NAZSOMBET_GRANT, STORE, TOGETHER, 0, NAZSOMBET_RIGHT_SEND);
-    host(NAZSOMBET_GRANT, SECOND_STORE, LOOKUPS, 0, NAZSOMBET_RIGHT_ABORT);
-    host(NAZSOMBET_GRANT, SECOND_STORE, TOGETHER, 0, NAZSOMBET_RIGHT_RECEIVE);
+        host(nazsombet_create_endpoint_call(endpoint));
+    host(nazsombet_create_thread_call(LINE_OUT, PRINTING));
+    host(nazsombet_create_thread_call(SERVER, SERVING));
+    host(nazsombet_create_thread_call(STORE, STORES));
+    host(nazsombet_create_thread_call(SECOND_STORE, SECOND));
+    host(nazsombet_grant_call(LINE_OUT, PRINT, NAZSOMBET_RIGHT_RECEIVE, 0));
+    host(nazsombet_grant_call(SERVER, LOOKUPS, NAZSOMBET_RIGHT_RECEIVE, 0));
+    host(nazsombet_grant_call(SERVER, PRINT, NAZSOMBET_RIGHT_SEND, 0));
+    host(nazsombet_grant_call(STORE, LOOKUPS, NAZSOMBET_RIGHT_SEND + NAZSOMBET_RIGHT_ABORT, STORES_BADGE));
+    host(nazsombet_grant_call(STORE, TOGETHER, NAZSOMBET_RIGHT_SEND, 0));
+    host(nazsombet_grant_call(SECOND_STORE, LOOKUPS, NAZSOMBET_RIGHT_ABORT, 0));
+    host(nazsombet_grant_call(SECOND_STORE, TOGETHER, NAZSOMBET_RIGHT_RECEIVE, 0));
     for (uint32_t t = LINE_OUT; t <= SECOND_STORE; t++)
         begin(t);
 }
@@ -345,7 +343,7 @@ void boot(void)
     set_gates();
     set_devices();
     say(LISTING, "n call code count badge message running\n");
-    nazsombet_fresh(tables, NAZSOMBET_TABLES, grants, NAZSOMBET_GRANTS);
+    nazsombet_lent_fresh(&lent);
     set_threads();
     leave(go_on(&first));
 }

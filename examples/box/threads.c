@@ -15,48 +15,37 @@ static volatile uint32_t aside; /* the first store has stepped aside */
 
 /* ---- Calls ---- */
 
-static struct request ask(uint32_t number, uint32_t subject, uint32_t argument, uint32_t badge, uint32_t message,
-                          uint32_t rights)
+static struct request ask(struct nazsombet_numbers call)
 {
-    struct request request = {{number, subject, argument, badge, message, rights}, {0, 0, 0, 0}, 0};
+    struct request request = {call, {0, 0, 0, 0}, 0};
     __asm__ volatile("int %0" : : "i"(CALL), "D"(&request) : "memory");
     return request;
 }
 
 static struct request send(uint32_t endpoint, uint32_t badge, uint32_t message)
 {
-    return ask(NAZSOMBET_SEND, endpoint, 0, badge, message, 0);
+    return ask(nazsombet_send_call(endpoint, badge, message));
 }
 
 static struct request receive(uint32_t endpoint)
 {
-    return ask(NAZSOMBET_RECEIVE, endpoint, 0, 0, 0, 0);
+    return ask(nazsombet_receive_call(endpoint));
 }
 
 static void wait(uint32_t line)
 {
-    ask(NAZSOMBET_WAIT, line, 0, 0, 0, 0);
+    ask(nazsombet_wait_call(line));
 }
 
 static uint32_t abort_lookups(uint32_t badge, uint32_t allowance)
 {
-    return ask(NAZSOMBET_ABORT, LOOKUPS, allowance, badge, 0, 0).answer.code;
+    return ask(nazsombet_abort_call(LOOKUPS, allowance, badge)).answer.code;
 }
 
-/* The stores alone make these, which are the host's. */
-static void grant(uint32_t thread, uint32_t endpoint, uint32_t badge, uint32_t rights)
-{
-    ask(NAZSOMBET_GRANT, thread, endpoint, badge, 0, rights);
-}
-
+/* The stores alone make this, and other calls of the host. */
 static void set_priority(uint32_t thread, uint32_t priority)
 {
-    ask(NAZSOMBET_SET_PRIORITY, thread, priority, 0, 0, 0);
-}
-
-static void destroy(uint32_t thread)
-{
-    ask(NAZSOMBET_DESTROY_THREAD, thread, 0, 0, 0, 0);
+    ask(nazsombet_set_priority_call(thread, priority));
 }
 
 /* ---- Writers, server, line-out ---- */
@@ -106,7 +95,7 @@ static void writer(uint32_t number)
         if (lookup.answer.code == NAZSOMBET_BLOCKED && lookup.outcome != NAZSOMBET_MESSAGE_TAKEN)
             wrong += lookup.outcome != NAZSOMBET_MESSAGE_ABORTED || plug[number].plugged;
         if (n % 4 == 3)
-            ask(NAZSOMBET_YIELD, 0, 0, 0, 0, 0);
+            ask(nazsombet_yield_call());
         if (n % 8 == 5)
             wrong += send(64, badge, 0).answer.code != NAZSOMBET_RANGE; /* no such endpoint: it is in no journal */
     }
@@ -154,8 +143,8 @@ static void plug_in(uint32_t writer, uint32_t badge)
         plug[t].badge = badge;
         plug[t].holder = holder[badge];
         plug[t].plugged = 1;
-        ask(NAZSOMBET_CREATE_THREAD, t, LOW, 0, 0, 0);
-        grant(t, LOOKUPS, badge, NAZSOMBET_RIGHT_SEND);
+        ask(nazsombet_create_thread_call(t, LOW));
+        ask(nazsombet_grant_call(t, LOOKUPS, NAZSOMBET_RIGHT_SEND, badge));
     }
     for (uint32_t t = first; t < first + EACH; t++)
         set_priority(t, WRITING);
@@ -167,13 +156,13 @@ static void unplug(uint32_t writer, uint32_t badge)
     uint32_t first = FIRST_WRITER + EACH * writer, next = first;
     for (uint32_t t = first; t < first + EACH; t++) {
         plug[t].plugged = 0;
-        grant(t, LOOKUPS, 0, 0);
-        grant(t, DRAWER, 0, NAZSOMBET_RIGHT_RECEIVE);
+        ask(nazsombet_grant_call(t, LOOKUPS, 0, 0));
+        ask(nazsombet_grant_call(t, DRAWER, NAZSOMBET_RIGHT_RECEIVE, 0));
     }
     send(TOGETHER, 0, badge); /* the second store is above: it has called before this one goes on */
     while (abort_lookups(badge, 1) == NAZSOMBET_BROKEN_OFF) {
         if (moves % 4 == 0 && next < first + EACH)
-            destroy(next++); /* perhaps the one that is to be looked at next */
+            ask(nazsombet_destroy_thread_call(next++)); /* perhaps the one that is to be looked at next */
         if (moves % 4 == 3) {
             aside = 1;
             set_priority(STORE, ASIDE); /* the second store ends the abort, and this one has the note */
@@ -187,12 +176,12 @@ static void unplug(uint32_t writer, uint32_t badge)
 static void clear(uint32_t writer)
 {
     uint32_t first = FIRST_WRITER + EACH * writer;
-    grant(STORE, DRAWER, 0, NAZSOMBET_RIGHT_DELETE);
-    while (ask(NAZSOMBET_DELETE, DRAWER, 1, 0, 0, 0).answer.code == NAZSOMBET_BROKEN_OFF)
+    ask(nazsombet_grant_call(STORE, DRAWER, NAZSOMBET_RIGHT_DELETE, 0));
+    while (ask(nazsombet_delete_call(DRAWER, 1)).answer.code == NAZSOMBET_BROKEN_OFF)
         ;
-    ask(NAZSOMBET_CREATE_ENDPOINT, DRAWER, 0, 0, 0, 0); /* which takes all grants there */
+    ask(nazsombet_create_endpoint_call(DRAWER)); /* which takes all grants there */
     for (uint32_t t = first; t < first + EACH; t++)
-        destroy(t);
+        ask(nazsombet_destroy_thread_call(t));
 }
 
 static void store(void)
