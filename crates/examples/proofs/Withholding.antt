@@ -38,9 +38,9 @@ answersAs n f g s c =
 abbrev pub done11 : Answer → Answer
 done11 a = record { code = 0; count = a .count; badge = 0; message = 0 }
 
-pub leaver-fails : Claim (two (Delete 0 1 ∷ [])) (historyBy (answersAs 11 done11) (two (Delete 0 1 ∷ []))) → ⊥
+pub quitter-fails : Claim (two (Delete 0 1 ∷ [])) (historyBy (answersAs 11 done11) (two (Delete 0 1 ∷ []))) → ⊥
 unfolding computed answersAs
-leaver-fails C = omega (arith, ap length (C .emptied _ (inl refl) 0 1 _ refl refl refl))
+quitter-fails C = omega (arith, ap length (C .emptied _ (inl refl) 0 1 _ refl refl refl))
 
 -- With two senders queued a third is answered 0: its message goes to the first of them, whose own is lost. handed-own:
 -- a message was queued there.
@@ -71,7 +71,8 @@ holder g s c =
 
 pub holder-fails : Claim (two (Receive 0 ∷ [])) (historyBy holder (two (Receive 0 ∷ []))) → ⊥
 unfolding computed holder
-holder-fails C = go (C .one-kind (latestOf (historyBy holder (two (Receive 0 ∷ [])) .books .steps)) (inl refl) 0) refl refl
+holder-fails C =
+    go (C .one-kind (latestOf (historyBy holder (two (Receive 0 ∷ [])) .books .steps)) (inl refl) 0) refl refl
   where
     go : {l k : List ℕ} → (l ≡ []) ⊎ (l ≡ k) → length l ≡ 2 → length k ≡ 3 → ⊥
     go (inl h) p q = omega (arith, ap length h)
@@ -99,7 +100,8 @@ abbrev removed-two : List Call
 removed-two = two (Abort 0 5 7 ∷ [])
 
 pub liar-fails :
-    Claim removed-two (historyBy (meddles 12 (λ s. setThread 1 (withPlace able 1 0 0 (s .threads 1)) s)) removed-two) → ⊥
+    Claim removed-two (historyBy (meddles 12 (λ s. setThread 1 (withPlace able 1 0 0 (s .threads 1)) s)) removed-two)
+    → ⊥
 unfolding computed meddles
 liar-fails C = omega (arith, ap (λ (k : ℕ → Block). k 1 .outcome) (C .blocks-are _ (inl refl)))
 

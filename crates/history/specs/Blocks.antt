@@ -1,6 +1,6 @@
--- What the threads' blocks tell, kept from calls, answers, callers, looks and who waits: "both parties that were blocked
--- are woken with an outcome … Blocking resets the outcome to 0. Only a blocked sender and a thread with outcome 2 store
--- a badge and message".
+-- What the threads' blocks tell, kept from calls, answers, callers, looks and who waits: "both parties that were
+-- blocked are woken with an outcome … Blocking resets the outcome to 0. Only a blocked sender and a thread with outcome
+-- 2 store a badge and message".
 use Prim.Native.Nat.{ℕ, zero, suc}
 use mathlib.Core.Bool.{Bool, true, false}
 use mathlib.Core.Option.{Option, none, some}

@@ -100,8 +100,8 @@ QueuesAt e c = ((b : ℕ) × (m : ℕ) × (c ≡ Send e b m)) ⊎ (c ≡ Receive
 abbrev pub WaitsOn : ℕ → Call → Type 0
 WaitsOn l c = c ≡ Wait l
 
--- A handing by the call of this step: the call, its answer, what it gives, and that no message was queued there, so that
--- who waited longest waited to receive.
+-- A handing by the call of this step: the call, its answer, what it gives, and that no message was queued there, so
+-- that who waited longest waited to receive.
 pub record Handing (calls : List Call) (h : History) (x : Step) (t : ℕ) (n : Message) : Type 0 where
   pub call : Call
   pub made : getElem? calls (x .place) ≡ some call

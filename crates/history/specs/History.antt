@@ -1,9 +1,9 @@
 -- Lists of calls: what has come of a list of calls made in turn from fresh tables, told in the terms of the section
 -- of that name. It reads each call, its answer, who ran when it was made, and the log of looks; from these it keeps who
--- waits where and what each thread has been told. Of the machine's aborts, of their sets and pending waiters, and of what
--- a thread owes it reads nothing; the machine's queues and the threads' blocks it only sets beside its own, call by call
--- (Step), and nothing that it keeps depends on them. Here stand what it has and the names of waiters; Walk, Outcomes and
--- Recorded make it.
+-- waits where and what each thread has been told. Of the machine's aborts, of their sets and pending waiters, and of
+-- what a thread owes it reads nothing; the machine's queues and the threads' blocks it only sets beside its own, call
+-- by call (Step), and nothing that it keeps depends on them. Here stand what it has and the names of waiters; Walk,
+-- Outcomes and Recorded make it.
 use Prim.Native.Nat.{ℕ}
 use mathlib.Core.Bool.{Bool, true, false, _||_}
 use mathlib.Core.Option.{Option, none, some}

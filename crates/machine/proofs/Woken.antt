@@ -214,7 +214,8 @@ unfolding endAbort note noteAll
 waiters-end x e s = go (s .endpoints e .abort)
   where
     go : (o : Option State.Abort)
-        → put (note o e s .endpoints) e (record { status = x; waiters = s .endpoints e .waiters; abort = none }) e .waiters
+        → put (note o e s .endpoints) e (record { status = x; waiters = s .endpoints e .waiters; abort = none }) e
+        .waiters
         ≡ s .endpoints e .waiters
     go o = ap (λ (y : State.Endpoint). y .waiters) (put-same (note o e s .endpoints) e _)
 

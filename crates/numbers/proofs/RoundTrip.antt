@@ -1,5 +1,5 @@
--- The six numbers of a call name that call: what the reader gives, a call takes, and the writer too. And six numbers that
--- name a call are that call's own.
+-- The six numbers of a call name that call: what the reader gives, a call takes, and the writer too. And six numbers
+-- that name a call are that call's own.
 use Prim.Native.Nat.{ℕ, zero, suc, _<_}
 use mathlib.Core.Path.{_≡_, refl, sym, ap}
 use mathlib.Core.Option.{Option, none, some, Option·some-injective}
@@ -100,7 +100,8 @@ module _ (s a b m r : ℕ) where
       (unused-own r (unused m (some (Abort s a b))) (λ x. 12 ∷ s ∷ a ∷ b ∷ m ∷ x ∷ [])
       (unused-own m (some (Abort s a b)) (λ x. 12 ∷ s ∷ a ∷ b ∷ x ∷ 0 ∷ []) (own (Abort s a b))))
       (unused-own m (some (Grant s a r b)) (λ x. 13 ∷ s ∷ a ∷ b ∷ x ∷ r ∷ []) (own (Grant s a r b)))
-      (λ k. more (suc (suc (suc (suc (suc (suc (suc (suc (suc (suc (suc (suc (suc (suc k)))))))))))))) (omega arith) refl)
+      (λ k.
+      more (suc (suc (suc (suc (suc (suc (suc (suc (suc (suc (suc (suc (suc (suc k)))))))))))))) (omega arith) refl)
 
 -- Six numbers that name a call are that call's own; so no two lists of six name the same call.
 pub named-numbers :

@@ -38,7 +38,9 @@ use Rattle.history.proofs.Demand3.Telling.{blocks-step}
 
 -- Who has outcome 2 in a block that nobody was told with outcome 2 had it before.
 
-put-two : (k : ℕ → Block) (t : ℕ) (x : Block) → (x .outcome ≡ 2 → ⊥) → (u : ℕ) → put k t x u .outcome ≡ 2 → put k t x u ≡ k u
+put-two :
+    (k : ℕ → Block) (t : ℕ) (x : Block) → (x .outcome ≡ 2 → ⊥) → (u : ℕ) → put k t x u .outcome ≡ 2
+    → put k t x u ≡ k u
 put-two k t x n = put-all (λ u y. y .outcome ≡ 2 → y ≡ k u) k t x (λ h. absurd (n h)) (λ u m h. refl)
 
 if-two :
@@ -114,11 +116,13 @@ by-two (Interrupt l) o a looks q k u h = inl (if-two (q .lines l) (bare 5) k (λ
 by-two Tick o a looks q k u h = inl refl
 by-two (Send e b m) o a looks q k u h = sent-two e b m a (a .code) refl o q k u h
 by-two (Receive e) o a looks q k u h =
-    inl (met-two (a .code) (first (q .queues e)) (bare 1) o (bare 0) k (λ j. omega (arith, j)) (λ j. omega (arith, j)) u h)
+    inl
+    (met-two (a .code) (first (q .queues e)) (bare 1) o (bare 0) k (λ j. omega (arith, j)) (λ j. omega (arith, j)) u h)
 by-two Yield o a looks q k u h = inl refl
 by-two (Wait l) o a looks q k u h =
     inl (met-two (a .code) none (bare 0) o (bare 0) k (λ j. omega (arith, j)) (λ j. omega (arith, j)) u h)
-by-two (Delete e n) o a looks q k u h = inl (all-two (take (a .count) (q .queues e)) (bare 4) k (λ j. omega (arith, j)) u h)
+by-two (Delete e n) o a looks q k u h =
+    inl (all-two (take (a .count) (q .queues e)) (bare 4) k (λ j. omega (arith, j)) u h)
 by-two (Abort e n b) o a looks q k u h = inl (all-two (removals looks) (bare 3) k (λ j. omega (arith, j)) u h)
 by-two (Grant t e r b) o a looks q k u h = inl refl
 

@@ -223,7 +223,9 @@ module _ (past : List Call) (g : Grants) (s : State) (h : History) (c : Call) (I
             ap (λ (d : Call). step g s d .state .endpoints e .waiters) p
             ∙ empties g s e n (ap (λ (d : Call). step g s d .answer .code) (sym p) ∙ z)
 
-        none-sent : (t : ℕ) (n : Message) (G : Gives c (r .answer) (queuesIn s) t n) → h .waiting .messages (G .endpoint) ≡ []
+        none-sent :
+            (t : ℕ) (n : Message) (G : Gives c (r .answer) (queuesIn s) t n)
+            → h .waiting .messages (G .endpoint) ≡ []
         none-sent t n G =
             let d : step g s (Send (G .endpoint) (n .badge) (n .message)) .answer .code ≡ 0 =
             ap (λ (x : Call). step g s x .answer .code) (sym (G .own)) ∙ ap (λ (x : Answer). x .code) (G .done) in

@@ -95,7 +95,9 @@ tell-append : (k l : List ℕ) (x : Block) (f : ℕ → Block) → tellAll (k ++
 tell-append [] l x f = refl
 tell-append (t ∷ k) l x f = tell-append k l x (put f t x)
 
-looks-at : (b : Bool) (e w : ℕ) (s : State) → blocksIn (lookAt b e w s) ≡ pick b (put (blocksIn s) w (bare 3)) (blocksIn s)
+looks-at :
+    (b : Bool) (e w : ℕ) (s : State)
+    → blocksIn (lookAt b e w s) ≡ pick b (put (blocksIn s) w (bare 3)) (blocksIn s)
 unfolding lookAt
 looks-at true e w s = wakes-from e w 3 0 0 s
 looks-at false e w s = refl

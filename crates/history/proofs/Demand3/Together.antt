@@ -16,7 +16,8 @@ use Rattle.history.specs.History.{Aborting, Ended, Debts, isIn}
 use Rattle.history.specs.Walk.{Walk, Walker, isNone, leftOf, passes, settles, settle, lookedAt, takes, takeLook}
 use Rattle.history.specs.Claim.{isOld}
 use Rattle.history.specs.Tied.{Tied}
-use Rattle.machine.proofs.Lists.{Same, same, other, same?, put-all, put-same, put-other, mem-left, mem-right, put-again, only-append}
+use Rattle.machine.proofs.Lists.{Same, same, other, same?, put-all, put-same, put-other, mem-left, mem-right, put-again}
+use Rattle.machine.proofs.Lists.{only-append}
 use Rattle.machine.proofs.Lists.{mem-keep, at-tail, inserted-mem, only-keep, distinct-apart, without-hit}
 use Rattle.machine.proofs.Lists.{only-nil, only-hit}
 use Rattle.machine.proofs.Lists.{only-miss, only-none}
