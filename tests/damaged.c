@@ -80,6 +80,7 @@ static struct room tables_room, grants_room, scratch_room;
 static struct room wrong_tables_room, wrong_grants_room, wrong_scratch_room;
 static struct nazsombet_numbers *call;
 static struct nazsombet_answer *answer;
+static uint32_t *woken;
 
 /* Calls and answers end at a guard page too. */
 static void make_rooms(void)
@@ -92,6 +93,7 @@ static void make_rooms(void)
     wrong_scratch_room = room(SCRATCH + 1);
     call = (void *)(room(1).end - sizeof *call / sizeof(uint32_t));
     answer = (void *)(room(1).end - sizeof *answer / sizeof(uint32_t));
+    woken = room(1).end - 3;
 }
 
 /* So many words behind a room's first guard page or before its last. */
@@ -297,6 +299,21 @@ static void try_call(uint32_t checked, struct nazsombet_numbers numbers)
     }
 }
 
+/* How a thread was woken, each in its turn, is what its words say; all is 0 of two numbers that are no thread's. */
+static void expect_woken(const uint32_t *tables, size_t length)
+{
+    static uint32_t turn;
+    uint32_t thread = turn++ % (THREADS + 2);
+    uint32_t told[3] = {0, 0, 0};
+    if (length == TABLES && thread < THREADS) {
+        const uint32_t *outcome = tables + 10 * thread + 3;
+        memcpy(told, outcome, *outcome == NAZSOMBET_MESSAGE_RECEIVED ? sizeof told : sizeof *told);
+    }
+    memset(woken, 0xA5, sizeof told);
+    nazsombet_woken(tables, length, thread > THREADS ? UINT32_MAX : thread, woken);
+    expect(memcmp(woken, told, sizeof told) == 0, "how a thread was woken");
+}
+
 static uint32_t try_check(void)
 {
     uint32_t *tables = lent_tables();
@@ -308,6 +325,7 @@ static uint32_t try_check(void)
     expect(zeroed(scratch), "the scratch after the check");
     uint32_t running = nazsombet_running(tables, TABLES);
     expect(running <= NAZSOMBET_NOBODY, "the thread that runs");
+    expect_woken(tables, TABLES);
     return code;
 }
 
@@ -672,6 +690,7 @@ static void try_lengths(struct memory t, struct memory g, struct memory s)
         expect(nazsombet_fresh(t.lent, t.length, g.lent, g.length) == NAZSOMBET_LENGTH, "make fresh");
     if (t.length != TABLES)
         expect(nazsombet_running(t.lent, t.length) == NAZSOMBET_NOBODY, "the thread that runs");
+    expect_woken(t.lent, t.length);
     for (int n = 0; n < 3; n++)
         expect(memcmp(all[n]->lent, all[n]->copy, all[n]->length * sizeof(uint32_t)) == 0, "what was lent");
     kind->refused++;
