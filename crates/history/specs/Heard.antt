@@ -1,5 +1,5 @@
--- All who joined an abort hear its end, for every list of calls: a thread that works on an abort does so until the abort
--- ends and has a note of it then, whatever others do, and when it calls again it begins no abort.
+-- All who joined an abort hear its end, for every list of calls: a thread that works on an abort does so until the
+-- abort ends and has a note of it then, whatever others do, and when it calls again it begins no abort.
 use Prim.Native.Nat.{ℕ, _≤_}
 use mathlib.Core.Path.{_≡_}
 use mathlib.Core.Bool.{true, false}

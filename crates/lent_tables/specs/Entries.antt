@@ -1,5 +1,5 @@
--- What the entry points on the lent memory come to, for all words lent: make fresh, check, take a call, who runs, and how a
--- thread was woken.
+-- What the entry points on the lent memory come to, for all words lent: make fresh, check, take a call, who runs, and
+-- how a thread was woken.
 use Prim.Native.Nat.{ℕ, zero, suc}
 use mathlib.Core.Path.{_≡_}
 use mathlib.Core.Bool.{Bool, true, false, _&&_}

@@ -182,4 +182,5 @@ same-abort w r A =
 
     W : Works (w .thread) (w .endpoint) (w .badge) r (afterFirst step w .history)
     W =
-        broken-works (atFirst step w) B t e (w .once) b r (A .call) (A .caller) (A .broken-off) (A .recorded) (A .reports)
+        broken-works (atFirst step w) B t e (w .once) b r (A .call) (A .caller) (A .broken-off) (A .recorded)
+        (A .reports)
