@@ -1,6 +1,6 @@
 #!/bin/sh
 # Runs all tests: the second machine's own; then every crate is proved from nothing, every must-fail edit is tried and
-# every program is run; then the journals are listed, by the program and by the host in C, and told in sentences; the
+# every program is run; then the journals are listed, by the program and by the host in C, and told in sentences, plain and numbered; the
 # desk's command and the documents' listings are tried; programs are run as compiled in several ways; the library is
 # looked at as compiled, tested from Rust, lent damaged tables and grants from C, and compared with the second machine
 # over 2,000,000 calls; a kernel around it is booted in an emulator; sentences are tried from C. At the end it says what
@@ -46,10 +46,12 @@ counted sh tests/lines.sh
 counted rt ci
 counted sh tests/journals.sh target/bin/trace
 counted sh tests/journals.sh target/bin/tell told
+counted sh tests/journals.sh target/bin/tell numbered -n
 counted sh tests/slow.sh txt target/bin/trace
 counted sh tests/slow.sh txt ./nazsombet list
 counted sh tests/slow.sh told target/bin/tell
 counted sh tests/slow.sh told ./nazsombet tell
+counted sh tests/slow.sh numbered target/bin/tell -n
 counted sh tests/documents.sh
 counted sh tests/compiled.sh
 counted sh tests/c.sh

@@ -1,8 +1,8 @@
 #!/bin/sh
 # documents.sh: every listing and telling that a document shows is what the program writes. A listing is a block that
-# begins with the listing's header, a telling one that begins with a sentence; what stands last in backquotes before the
-# block is the journal's file, or its words. The last line is 'documents: N passed, M failed'; the exit status is 0 only
-# where nothing failed.
+# begins with the listing's header, a telling one that begins with a sentence, a numbered telling one that begins with a
+# numbered sentence; what stands last in backquotes before the block is the journal's file, or its words. The last line
+# is 'documents: N passed, M failed'; the exit status is 0 only where nothing failed.
 set -u
 cd "$(dirname "$0")/.." || exit 2
 work=$(mktemp -d) || exit 2
@@ -10,7 +10,8 @@ trap 'rm -rf "$work"' EXIT
 passed=0
 failed=0
 
-# Each listing (.list) and telling (.tell) of a document to a file of its own, with what it is of in a file beside it.
+# Each listing (.list), telling (.tell) and numbered telling (.numbered) of a document to a file of its own, with what it
+# is of in a file beside it.
 for document in README.md docs/*.md; do
     awk -v out="$work/$(basename "$document" .md)" '
         /^```/ { if (inside) { inside = 0; if (file) close(file); file = ""; next } inside = 1; first = 1; next }
@@ -18,6 +19,7 @@ for document in README.md docs/*.md; do
             form = ""
             if ($0 == "n call code count badge message running") form = "list"
             if ($0 ~ /^[A-Z][a-z]+[ a-z0-9]*: [a-z0-9, ]+\.$/) form = "tell"
+            if ($0 ~ /^[0-9]+(, [a-z0-9 ]+)?: [A-Z][a-z]+[ a-z0-9]*: [a-z0-9, ]+; [a-z0-9 ]+ runs\.$/) form = "numbered"
             if (form) { n++; file = out "." n "." form; print of > (out "." n ".of") }
         }
         inside { first = 0; if (file) print > file; next }
@@ -25,13 +27,22 @@ for document in README.md docs/*.md; do
     ' "$document"
 done
 
-for shown in "$work"/*.list "$work"/*.tell; do
+# The program that tells or lists on standard input in the form of the first argument.
+write() {
+    case $1 in
+    list) ./nazsombet list ;;
+    tell) ./nazsombet tell ;;
+    numbered) target/bin/tell -n ;;
+    esac
+}
+
+for shown in "$work"/*.list "$work"/*.tell "$work"/*.numbered; do
     form=${shown##*.}
     of=$(cat "${shown%.*}.of")
     # shellcheck disable=SC2086  # the words stand apart by blanks
     case $of in
-    *.words) ./nazsombet "$form" "$of" >"$work/written" ;;
-    *) ./nazsombet words $of | ./nazsombet "$form" >"$work/written" ;;
+    *.words) write "$form" <"$of" >"$work/written" ;;
+    *) ./nazsombet words $of | write "$form" >"$work/written" ;;
     esac
     if cmp -s "$shown" "$work/written"; then
         passed=$((passed + 1))

@@ -1,15 +1,18 @@
 #!/bin/sh
-# journals.sh PROGRAM [told]: runs the program `trace`, or `tell` if told, on every journal of tests/journals and
-# compares what it writes with the listings, or the tellings, there. Each journal comes once as a file and once byte by
-# byte, so that words arrive in pieces. The last line is 'journals: N passed, M failed'; the exit status is 0 only where
-# nothing failed.
+# journals.sh PROGRAM [FORM [ARGUMENT...]]: runs the program, with these arguments, on every journal of tests/journals and
+# compares what it writes with the file of the form there: txt, a listing, if no form is named; told, a telling;
+# numbered, a numbered telling. Each journal comes once as a file and once byte by byte, so that words arrive in pieces.
+# The last line is 'journals: N passed, M failed'; the exit status is 0 only where nothing failed.
 set -u
+folder=$(dirname "$0")/journals
+program=${1:-}
 form=${2:-txt}
-if [ ! -x "${1:-}" ] || { [ "$form" != txt ] && [ "$form" != told ]; }; then
-    echo "usage: journals.sh PROGRAM [told], the path of the program trace, or of tell" >&2
+if [ ! -x "$program" ] || [ ! -f "$folder/example.$form" ]; then
+    echo "usage: journals.sh PROGRAM [FORM [ARGUMENT...]], as journals.sh target/bin/tell numbered -n" >&2
     exit 2
 fi
-folder=$(dirname "$0")/journals
+shift
+[ $# -eq 0 ] || shift
 listing=$(mktemp) || exit 2
 trap 'rm -f "$listing"' EXIT
 passed=0
@@ -18,9 +21,9 @@ for journal in "$folder"/*.words; do
     expected=${journal%.words}.$form
     name=$(basename "$journal" .words)
     wrong=
-    "$1" <"$journal" >"$listing"
+    "$program" "$@" <"$journal" >"$listing"
     cmp -s "$listing" "$expected" || wrong="$wrong as a file"
-    dd bs=1 if="$journal" 2>/dev/null | "$1" >"$listing"
+    dd bs=1 if="$journal" 2>/dev/null | "$program" "$@" >"$listing"
     cmp -s "$listing" "$expected" || wrong="$wrong byte by byte"
     if [ -z "$wrong" ]; then
         passed=$((passed + 1))

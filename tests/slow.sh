@@ -1,11 +1,11 @@
 #!/bin/sh
-# slow.sh FORM COMMAND...: the command lists (FORM txt) or tells (FORM told) a journal that comes by a slow pipe: the
-# lines of the example's first calls must be there while the pipe is open and the others have not come. The last line is
-# 'slow: N passed, M failed'; the exit status is 0 only where nothing failed.
+# slow.sh FORM COMMAND...: the command lists (FORM txt) or tells (FORM told, or numbered) a journal that comes by a slow
+# pipe: the lines of the example's first calls must be there while the pipe is open and the others have not come. The
+# last line is 'slow: N passed, M failed'; the exit status is 0 only where nothing failed.
 set -u
 example=$(dirname "$0")/journals/example
 if [ $# -lt 2 ] || [ ! -f "$example.$1" ]; then
-    echo "usage: slow.sh FORM COMMAND..., as slow.sh txt target/bin/trace, or slow.sh told target/bin/tell" >&2
+    echo "usage: slow.sh FORM COMMAND..., as slow.sh txt target/bin/trace, or slow.sh numbered target/bin/tell -n" >&2
     exit 2
 fi
 expected=$example.$1

@@ -27,8 +27,9 @@ use Rattle.listing.proofs.Fronts.{front-wrote}
 use Rattle.wording.specs.Sentence.{sentence, stopLine}
 use Rattle.wording.specs.Entry.{sentenceRoom, sentenceFor, stopFor}
 use Rattle.wording.proofs.Entry.{line-for, stop-line-for}
+use Rattle.numbered.specs.Numbered.{numberedSentence, numberedStop}
 use Rattle.forms.specs.declared.Form.{Form}
-use Rattle.forms.specs.declared.Form.the-variants.{Lines, Sentences}
+use Rattle.forms.specs.declared.Form.the-variants.{Lines, Sentences, Numbered}
 use Rattle.forms.specs.Forms.{callText, stopText}
 use Rattle.forms.proofs.Form.{the-type}
 
@@ -94,32 +95,50 @@ row i call a running = record { index = i; call = call; answer = a; running = ru
 in-lines : (f : Form) → OneOf (0 ∷ []) (tagOf the-type f) → Lines ≡ f
 in-lines Lines t = refl
 in-lines Sentences t = absurd (omega (arith, t))
+in-lines Numbered t = absurd (omega (arith, t))
 
 in-sentences : (f : Form) → OneOf (1 ∷ []) (tagOf the-type f) → Sentences ≡ f
 in-sentences Lines t = absurd (omega (arith, t))
 in-sentences Sentences t = refl
+in-sentences Numbered t = absurd (omega (arith, t))
 
-module _ {out out′ : List ℕ} {used n : ℕ} (f : Form) (i : ℕ) (running : Option ℕ) where
-  pub call-line :
-      (c : Call) (a : Answer) (number : ℕ) → OneOf (0 ∷ []) (tagOf the-type f) → number ≡ numberOf c
-      → Wrote out used (lineOf (row i number a running)) n out′ → Wrote out used (callText f i c a running) n out′
-  call-line c a number t e =
-      wrote-is
-      (ap (λ (k : ℕ). lineOf (row i k a running)) e ∙ ap (λ (g : Form). callText g i c a running) (in-lines f t))
+in-numbered : (f : Form) → OneOf (2 ∷ []) (tagOf the-type f) → Numbered ≡ f
+in-numbered Lines t = absurd (omega (arith, t))
+in-numbered Sentences t = absurd (omega (arith, t))
+in-numbered Numbered t = refl
 
-  pub call-sentence :
-      (c : Call) (a : Answer) → OneOf (1 ∷ []) (tagOf the-type f)
-      → Wrote out used (sentence c a) n out′ → Wrote out used (callText f i c a running) n out′
-  call-sentence c a t = wrote-is (ap (λ (g : Form). callText g i c a running) (in-sentences f t))
+module _ {out out′ : List ℕ} {used n : ℕ} (f : Form) (i : ℕ) (runs : Option ℕ) where
+  module _ (ran : Option ℕ) (c : Call) (a : Answer) where
+    pub call-line :
+        (number : ℕ) → OneOf (0 ∷ []) (tagOf the-type f) → number ≡ numberOf c
+        → Wrote out used (lineOf (row i number a runs)) n out′ → Wrote out used (callText f i ran c a runs) n out′
+    call-line number t e =
+        wrote-is
+        (ap (λ (k : ℕ). lineOf (row i k a runs)) e ∙ ap (λ (g : Form). callText g i ran c a runs) (in-lines f t))
+
+    pub call-sentence :
+        OneOf (1 ∷ []) (tagOf the-type f)
+        → Wrote out used (sentence c a) n out′ → Wrote out used (callText f i ran c a runs) n out′
+    call-sentence t = wrote-is (ap (λ (g : Form). callText g i ran c a runs) (in-sentences f t))
+
+    pub call-numbered :
+        OneOf (2 ∷ []) (tagOf the-type f)
+        → Wrote out used (numberedSentence i ran c a runs) n out′ → Wrote out used (callText f i ran c a runs) n out′
+    call-numbered t = wrote-is (ap (λ (g : Form). callText g i ran c a runs) (in-numbered f t))
 
   pub stop-numbers :
       (code : ℕ) (a : Answer) → OneOf (0 ∷ []) (tagOf the-type f) → a ≡ plain code
-      → Wrote out used (lineOf (row i 0 a running)) n out′ → Wrote out used (stopText f i code running) n out′
+      → Wrote out used (lineOf (row i 0 a runs)) n out′ → Wrote out used (stopText f i code runs) n out′
   stop-numbers code a t e =
       wrote-is
-      (ap (λ (b : Answer). lineOf (row i 0 b running)) e ∙ ap (λ (g : Form). stopText g i code running) (in-lines f t))
+      (ap (λ (b : Answer). lineOf (row i 0 b runs)) e ∙ ap (λ (g : Form). stopText g i code runs) (in-lines f t))
 
   pub stop-sentence :
       (code : ℕ) → OneOf (1 ∷ []) (tagOf the-type f)
-      → Wrote out used (stopLine code) n out′ → Wrote out used (stopText f i code running) n out′
-  stop-sentence code t = wrote-is (ap (λ (g : Form). stopText g i code running) (in-sentences f t))
+      → Wrote out used (stopLine code) n out′ → Wrote out used (stopText f i code runs) n out′
+  stop-sentence code t = wrote-is (ap (λ (g : Form). stopText g i code runs) (in-sentences f t))
+
+  pub stop-numbered :
+      (code : ℕ) → OneOf (2 ∷ []) (tagOf the-type f)
+      → Wrote out used (numberedStop i code runs) n out′ → Wrote out used (stopText f i code runs) n out′
+  stop-numbered code t = wrote-is (ap (λ (g : Form). stopText g i code runs) (in-numbered f t))

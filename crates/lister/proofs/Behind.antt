@@ -77,7 +77,8 @@ module _ (f : Form) (bytes more : List ℕ) (v : Whole bytes) (n i : ℕ) (g : G
   -- Whole bytes that are a call give its text.
   pub text-taken :
       (c : Call) (next : ℕ) → readAt (wordsIn bytes) 0 ≡ Found c next
-      → textOn f (suc n) i (bytes ++ more) g s ≡ before (textFor f i c g s) (textOn f n (suc i) more (grantsBy g s c) (step g s c .state))
+      → textOn f (suc n) i (bytes ++ more) g s
+      ≡ before (textFor f i c g s) (textOn f n (suc i) more (grantsBy g s c) (step g s c .state))
   unfolding courseFrom
   text-taken c next e =
       let k = length more % 4 in

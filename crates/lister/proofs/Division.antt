@@ -1,4 +1,4 @@
--- The listing and the telling of a journal do not depend on how its bytes are divided into parts.
+-- The listing and the tellings of a journal do not depend on how its bytes are divided into parts.
 use Prim.Native.Nat.{ℕ, suc, _%_, _^_, _<_}
 use mathlib.Core.Path.{_≡_, refl, sym, ap, subst, _∙_}
 use mathlib.Core.List.{List, [], _++_, append-assoc}
@@ -13,14 +13,14 @@ use Rattle.lent_tables.proofs.Verdict.{fresh-left}
 use Rattle.listing.specs.Line.{header}
 use Rattle.input.specs.Words.{wordsIn}
 use Rattle.forms.specs.declared.Form.{Form}
-use Rattle.forms.specs.declared.Form.the-variants.{Lines, Sentences}
+use Rattle.forms.specs.declared.Form.the-variants.{Lines, Sentences, Numbered}
 use Rattle.journal.specs.Course.{courseOf}
-use Rattle.lister.specs.Listing.{wholeOf, textOf, listingOf, tellingOf, Prefix}
+use Rattle.lister.specs.Listing.{wholeOf, textOf, listingOf, tellingOf, numberedOf, Prefix}
 use Rattle.lister.specs.Feeding.{Told, fed, ending, fedParts, joined, starting, startingFresh}
 use Rattle.lister.proofs.Feeding.{following, fed-append, parts-joined}
 use Rattle.lister.proofs.Streams.{Streams, streams}
 
--- In either form.
+-- In each form.
 
 -- All that is told, with what is written at the end.
 abbrev ended : Form → Told → List ℕ
@@ -120,3 +120,28 @@ pub no-more-told :
     → Prefix (fedParts Sentences parts (startingFresh m) .text) (tellingOf (joined parts ++ behind))
 unfolding tellingOf
 no-more-told parts behind m z few = a-front Sentences m z parts behind few
+
+-- In numbered sentences, which have none either.
+
+-- For every division of the bytes into parts the bytes written, with those at the end, are the numbered telling of the
+-- whole.
+pub every-division-numbered :
+    (parts : List (List ℕ)) (m : Lent) → Sized m → length (joined parts) < 2 ^ 64
+    → fedParts Numbered parts (startingFresh m) .text
+    ++ ending Numbered (fedParts Numbered parts (startingFresh m) .after)
+    ≡ numberedOf (joined parts)
+unfolding numberedOf
+every-division-numbered parts m z few = in-parts Numbered m z parts few .whole
+
+-- After each part every call whose words are all there is told at once: the text so far begins with their sentences.
+pub at-once-numbered :
+    (parts : List (List ℕ)) (m : Lent) → Sized m → length (joined parts) < 2 ^ 64
+    → Prefix (textOf Numbered (joined parts) .calls) (fedParts Numbered parts (startingFresh m) .text)
+at-once-numbered parts m z few = in-parts Numbered m z parts few .begun
+
+-- After each part nothing is written that the whole numbered telling would not have, whatever bytes come behind.
+pub no-more-numbered :
+    (parts : List (List ℕ)) (behind : List ℕ) (m : Lent) → Sized m → length (joined parts ++ behind) < 2 ^ 64
+    → Prefix (fedParts Numbered parts (startingFresh m) .text) (numberedOf (joined parts ++ behind))
+unfolding numberedOf
+no-more-numbered parts behind m z few = a-front Numbered m z parts behind few

@@ -83,7 +83,8 @@ on held i g s x = record { held = held; index = i; going = true; lent = lent (im
 module _ (f : Form) (b : ℕ) (held : List ℕ) (i : ℕ) (g : Grants) (s : State) (x : List ℕ) where
   abbrev offers : Bool → Told
   offers t =
-      pick t (toldBy f (turned (readAt (wordsIn (held ++ (b ∷ []))) 0) (lent (image s) (grantImage g) x)) (on held i g s x))
+      pick t
+      (toldBy f (turned (readAt (wordsIn (held ++ (b ∷ []))) 0) (lent (image s) (grantImage g) x)) (on held i g s x))
       (holding (held ++ (b ∷ [])) (on held i g s x))
 
   -- Bytes that are not ready are held,
@@ -101,29 +102,34 @@ module _ (f : Form) (b : ℕ) (held : List ℕ) (i : ℕ) (g : Grants) (s : Stat
       ap offers e ∙ ap (λ (k : Read). toldBy f (turned k (lent (image s) (grantImage g) x)) (on held i g s x)) j
 
 -- What a call tells that was answered so.
-abbrev callTold : Form → ℕ → Call → Called → ℕ → Option ℕ → Told
-callTold f i c k next running =
+abbrev callTold : Form → ℕ → Option ℕ → Call → Called → ℕ → Option ℕ → Told
+callTold f i ran c k next runs =
     record {
       after = record { held = []; index = next; going = true; lent = k .left };
-      text = callText f i c (k .answer) running;
+      text = callText f i ran c (k .answer) runs;
     }
 
 -- A call that was read tells its text, and the lister goes on with the tables and grants after it.
 abbrev pub takenTold : Form → ℕ → Call → Grants → State → Told
-takenTold f i c g s = record { after = on [] (suc i) (grantsBy g s c) (step g s c .state) zeros; text = textFor f i c g s }
+takenTold f i c g s = record {
+  after = on [] (suc i) (grantsBy g s c) (step g s c .state) zeros;
+  text = textFor f i c g s;
+}
 
 pub call-told :
-    (f : Form) (c : Call) (next : ℕ) (held : List ℕ) (i : ℕ) (g : Grants) (s : State) (x : List ℕ) → SoundGrants g → Sound s
-    → length x ≡ scratchWords → i + 1 < 2 ^ 64
+    (f : Form) (c : Call) (next : ℕ) (held : List ℕ) (i : ℕ) (g : Grants) (s : State) (x : List ℕ)
+    → SoundGrants g → Sound s → length x ≡ scratchWords → i + 1 < 2 ^ 64
     → toldBy f (turned (Found c next) (lent (image s) (grantImage g) x)) (on held i g s x) ≡ takenTold f i c g s
 call-told f c next held i g s x G S n h =
     let s′ = step g s c .state in
     let k : Called = stepped g s c in
+    let ran = threadOf (runnerIn (image s)) in
     let index : (i + 1) % 2 ^ 64 ≡ suc i = omega (arith, h) in
-    ap (λ (k : Called). callTold f i c k ((i + 1) % 2 ^ 64) (threadOf (runnerIn (k .left .tables))))
+    ap (λ (k : Called). callTold f i ran c k ((i + 1) % 2 ^ 64) (threadOf (runnerIn (k .left .tables))))
     (called-image g s x c G S n)
-    ∙ ap (λ (j : ℕ). callTold f i c k j (threadOf (runnerIn (image s′)))) index
-    ∙ ap (λ (running : Option ℕ). callTold f i c k (suc i) running) (running-image s′ (step-sound g s c S))
+    ∙ ap (λ (j : ℕ). callTold f i ran c k j (threadOf (runnerIn (image s′)))) index
+    ∙ ap (λ (runs : Option ℕ). callTold f i ran c k (suc i) runs) (running-image s′ (step-sound g s c S))
+    ∙ ap (λ (r : Option ℕ). callTold f i r c k (suc i) (s′ .runs)) (running-image s S)
 
 -- A refusal stops the journal with its text.
 abbrev pub stopped : ℕ → Grants → State → List ℕ → Progress

@@ -88,7 +88,16 @@ module _ (f : Form) where
       })
 
 -- One byte more: it is held with the others or, as the last byte of a call, gives its text.
-module _ (f : Form) (b : ℕ) (bytes held : List ℕ) (n i : ℕ) (g : Grants) (s : State) (x : List ℕ) (G : SoundGrants g) (S : Sound s)
+module _
+    (f : Form)
+    (b : ℕ)
+    (bytes held : List ℕ)
+    (n i : ℕ)
+    (g : Grants)
+    (s : State)
+    (x : List ℕ)
+    (G : SoundGrants g)
+    (S : Sound s)
     (k : length x ≡ scratchWords)
   where
     -- the bytes held and this one

@@ -20,7 +20,7 @@ use Rattle.journal.specs.declared.types.Read.the-variants.{Found, Refused, Ende
 use Rattle.journal.specs.Words.{readAt}
 use Rattle.journal.proofs.RoundTrip.{writes-what-was-read}
 use Rattle.texts.specs.Buffer.{Wrote}
-use Rattle.texts.proofs.Writing.{wrote-nothing}
+use Rattle.texts.proofs.Writing.{wrote-nothing, wrote-is}
 use Rattle.lent_tables.specs.Entries.{Lent, runnerIn}
 use Rattle.input.specs.Words.{wordsIn}
 use Rattle.rows.specs.declared.Turn.{Turn}
@@ -119,17 +119,18 @@ module _ (f : Form) (l : Lister) (out : List ℕ) (used : ℕ) where
         → _≡_ {A = Turned} (record { turn = turn; left = m′ })
         (turned (readAt (wordsIn (take (l .held) (l .bytes))) 0) m)
         → (c : Call) (a : Answer) (who : Runner) (next : ℕ) → turn ≡ Took c a who next
+        → (ran : Runner) → ran ≡ runnerIn (m .tables)
         → (index : ℕ) → index ≡ (l .index + 1) % 2 ^ 64
         → (k : Lister) → k ≡ emptied l index (l .going)
-        → (n : ℕ) → Wrote out used (callText f (l .index) c a (threadOf who)) n out′
+        → (n : ℕ) → Wrote out used (callText f (l .index) (threadOf ran) c a (threadOf who)) n out′
         → Feeds (takesCall f (progressOf l m)) out used (fedTo k n) m′ out′
-    call-answered turn e c a who next found index one k is n w =
+    call-answered turn e c a who next found ran before index one k is n w =
         subst (λ (o : Told). Feeds o out used (fedTo k n) m′ out′)
         (ap (λ (t : Turn). toldOf f t m′ (progressOf l m)) (sym found) ∙ turn-told turn e)
         (record {
           after =
               ap (λ (j : Lister). progressOf j m′) (is ∙ ap (λ (i : ℕ). emptied l i (l .going)) one);
-          text = w;
+          text = wrote-is (ap (λ (r : Runner). callText f (l .index) (threadOf r) c a (threadOf who)) before) w;
         })
 
 -- The end.

@@ -21,7 +21,7 @@ stopsWith text = record { calls = []; stop = text }
 
 -- The text of a call made in a state.
 abbrev pub textFor : Form → ℕ → Call → Grants → State → List ℕ
-textFor f i c g s = callText f i c (step g s c .answer) (step g s c .state .runs)
+textFor f i c g s = callText f i (s .runs) c (step g s c .answer) (step g s c .state .runs)
 
 abbrev pub textFrom : Form → ℕ → ℕ → Read → ℕ → List ℕ → Grants → State → Text
 textFrom f k n r i journal g s = textIn f k (courseFrom n r i journal g s)

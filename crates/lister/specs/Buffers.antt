@@ -16,6 +16,10 @@ use Rattle.lister.specs.declared.Lister.{Lister}
 use Rattle.lister.specs.declared.Fed.{Fed}
 use Rattle.lister.specs.Feeding.{Progress, Told, toldOf, toldBy}
 
+-- The code's PER_BYTE: room for the text of a call, a quarter for each byte of its first word.
+abbrev pub perByte : ℕ
+perByte = 56
+
 -- The bytes held are the first of the struct's twelve.
 abbrev pub progressOf : Lister → Lent → Progress
 progressOf l m = record { held = take (l .held) (l .bytes); index = l .index; going = l .going; lent = m }

@@ -1,6 +1,6 @@
 -- The lister: it is fed the bytes of a journal one by one, and a part of them is their fold. How its text comes to be
--- `listingOf` or `tellingOf` of all bytes is known by the theorems of proofs/Division; these definitions are for
--- reading contracts.
+-- `listingOf`, `tellingOf` or `numberedOf` of all bytes is known by the theorems of proofs/Division; these definitions
+-- are for reading contracts.
 use Prim.Native.Nat.{ℕ, _+_, _*_, _%_, _^_}
 use mathlib.Core.Bool.{Bool, true, false, _&&_}
 use mathlib.Core.List.{List, [], _∷_, _++_}
@@ -42,12 +42,13 @@ holding bytes s =
       text = [];
     }
 
--- The text of a call taken, or of what stops the journal. Bytes that are ready are never over.
+-- The text of a call taken, before which whoever runs in the lent memory ran, or of what stops the journal. Bytes that
+-- are ready are never over.
 abbrev pub toldOf : Form → Turn → Lent → Progress → Told
 toldOf f (Took c a who next) m s =
     record {
       after = record { held = []; index = (s .index + 1) % 2 ^ 64; going = s .going; lent = m };
-      text = callText f (s .index) c a (threadOf who);
+      text = callText f (s .index) (threadOf (runnerIn (s .lent .tables))) c a (threadOf who);
     }
 toldOf f (Stopped code who) m s =
     record {

@@ -1,4 +1,4 @@
--- The listing of a journal, and its telling: from all its bytes to all bytes of its text.
+-- The listing of a journal, its telling and its numbered telling: from all its bytes to all bytes of its text.
 use Prim.Native.Nat.{ℕ, zero, suc, _%_}
 use mathlib.Core.Path.{_≡_}
 use mathlib.Core.Option.{Option, none, some}
@@ -7,14 +7,14 @@ use lib.ListN.{length}
 use Rattle.listing.specs.Line.{header}
 use Rattle.input.specs.Words.{wordsIn}
 use Rattle.forms.specs.declared.Form.{Form}
-use Rattle.forms.specs.declared.Form.the-variants.{Lines, Sentences}
+use Rattle.forms.specs.declared.Form.the-variants.{Lines, Sentences, Numbered}
 use Rattle.journal.specs.Course.{Made, Course, courseOf}
 use Rattle.forms.specs.Forms.{callText, stopText}
 
 -- The texts of calls made, one behind the other.
 abbrev pub callTexts : Form → List Made → List ℕ
 callTexts f [] = []
-callTexts f (x ∷ l) = callText f (x .index) (x .call) (x .answer) (x .runs) ++ callTexts f l
+callTexts f (x ∷ l) = callText f (x .index) (x .ran) (x .call) (x .answer) (x .runs) ++ callTexts f l
 
 -- "1 to 3 odd bytes after calls that all read, with 18": of so many odd bytes
 abbrev pub oddText : Form → ℕ → ℕ → Option ℕ → List ℕ
@@ -48,6 +48,10 @@ listingOf bytes = header ++ wholeOf (textOf Lines bytes)
 -- Sentences have no header: empty input gives nothing.
 unfoldable pub tellingOf : List ℕ → List ℕ
 tellingOf bytes = wholeOf (textOf Sentences bytes)
+
+-- Numbered sentences have none either.
+unfoldable pub numberedOf : List ℕ → List ℕ
+numberedOf bytes = wholeOf (textOf Numbered bytes)
 
 -- The bytes b begin with the bytes a.
 pub record Prefix (a b : List ℕ) : Type 0 where

@@ -1,5 +1,5 @@
-// Lists a journal whose bytes come in parts, however they are divided, in lines of numbers or in sentences: each call
-// is told with its last byte.
+// Lists a journal whose bytes come in parts, however they are divided, in each form: every call is told with its last
+// byte.
 ghost use Prim.Native.Nat.{_+_, _*_, _≤_, _<_};
 ghost use mathlib.Core.Path.{_≡_};
 ghost use mathlib.Core.Bool.{true};
@@ -7,15 +7,19 @@ ghost use mathlib.Core.List.{[]};
 ghost use lib.ListN.{length, replicate, take};
 ghost use Rattle.lent_tables.specs.Entries.{Lent, lent};
 ghost use Rattle.texts.specs.Buffer.{Counts, Wrote};
-ghost use Rattle.wording.specs.Entry.{sentenceRoom};
 ghost use Rattle.journal.specs.Words.{readAt};
 ghost use Rattle.input.specs.Words.{wordsIn};
+ghost use Rattle.forms.specs.Forms.{textRoom};
 ghost use Rattle.rows.specs.Taking.{Turned, turned};
 ghost use Rattle.lister.specs.Feeding.{ready, byteTo, fed, ending};
 ghost use Rattle.lister.specs.Buffers.{progressOf, withByte, emptied, stopping, takesCall, Feeds};
+ghost use Rattle.lister.specs.Buffers.{perByte};
 use forms::Form;
 use parsing::words_taken;
 use rows::Turn;
+
+// Room for each byte of a journal: a call has four at least.
+pub const PER_BYTE: usize = forms::ROOM / 4;
 
 // The bytes held of a call that is not yet whole, the next call's index, whether the journal goes on.
 pub struct Lister {
@@ -85,8 +89,8 @@ fn empty(l: Lister, index: u64, going: bool) -> Lister
 
 // Ends a turn that took no call: the text that stops the journal; nothing where it is over.
 fn stop(form: Form, l: Lister, turn: Turn, out: &mut [u8], used: usize) -> Fed
-    requires { ⌜ used + sentenceRoom ≤ length (now out) ⌝ }
-    ensures { λ r. ⌜ (r .lister .held ≡ 0) × (r .lister .bytes ≡ l .bytes) × (r .used ≤ used + sentenceRoom) ⌝ }
+    requires { ⌜ used + textRoom ≤ length (now out) ⌝ }
+    ensures { λ r. ⌜ (r .lister .held ≡ 0) × (r .lister .bytes ≡ l .bytes) × (r .used ≤ used + textRoom) ⌝ }
     ensures { λ r. ⌜ ((m : Lent) →
         Feeds (stopping form turn (progressOf l m)) (now (out .entry)) used r m (now (out .exit))) ⌝ }
 {
@@ -127,14 +131,15 @@ fn answer(
     out: &mut [u8],
     used: usize,
 ) -> Fed
-    requires { ⌜ (l .held ≤ 12) × (length (l .bytes) ≡ 12) × (used + sentenceRoom ≤ length (now out)) ⌝ }
-    ensures { λ r. ⌜ (r .lister .held ≡ 0) × (r .lister .bytes ≡ l .bytes) × (r .used ≤ used + sentenceRoom) ⌝ }
+    requires { ⌜ (l .held ≤ 12) × (length (l .bytes) ≡ 12) × (used + textRoom ≤ length (now out)) ⌝ }
+    ensures { λ r. ⌜ (r .lister .held ≡ 0) × (r .lister .bytes ≡ l .bytes) × (r .used ≤ used + textRoom) ⌝ }
     ensures { λ r. ⌜ Feeds
         (takesCall form
         (progressOf l (lent (now (tables .entry)) (now (grants .entry)) (now (scratch .entry)))))
         (now (out .entry)) used r
         (lent (now (tables .exit)) (now (grants .exit)) (now (scratch .exit))) (now (out .exit)) ⌝ }
 {
+    let ran = lent_tables::who::running(tables);
     let taken = turn(l, tables, grants, scratch);
     let Turn::Took {
         call,
@@ -149,7 +154,7 @@ fn answer(
     let next = std::num::wrapping_add_u64(l.index, 1);
     Fed {
         lister: empty(l, next, l.going),
-        used: forms::call(form, out, used, l.index, call, answer, who),
+        used: forms::call(form, out, used, l.index, ran, call, answer, who),
     }
 }
 
@@ -164,9 +169,10 @@ fn byte(
     out: &mut [u8],
     used: usize,
 ) -> Fed
-    requires { ⌜ (from .held < 12) × (length (from .bytes) ≡ 12) × (used + (from .held + 1) * 40 ≤ length (now out)) ⌝ }
+    requires { ⌜ (from .held < 12) × (length (from .bytes) ≡ 12)
+        × (used + (from .held + 1) * perByte ≤ length (now out)) ⌝ }
     ensures { λ r. ⌜ (r .lister .held < 12) × (length (r .lister .bytes) ≡ 12) ⌝ }
-    ensures { λ r. ⌜ r .used + r .lister .held * 40 ≤ used + (from .held + 1) * 40 ⌝ }
+    ensures { λ r. ⌜ r .used + r .lister .held * perByte ≤ used + (from .held + 1) * perByte ⌝ }
     ensures { λ r. ⌜ Feeds
         (byteTo form byte
         (progressOf from (lent (now (tables .entry)) (now (grants .entry)) (now (scratch .entry)))))
@@ -196,7 +202,7 @@ pub fn feed(
     out: &mut [u8],
 ) -> Fed
     requires { ⌜ (l .held < 12) × (length (l .bytes) ≡ 12)
-        × ((l .held + length (now part)) * 40 ≤ length (now out)) ⌝ }
+        × ((l .held + length (now part)) * perByte ≤ length (now out)) ⌝ }
     ensures { λ r. ⌜ (r .lister .held < 12) × (length (r .lister .bytes) ≡ 12) ⌝ }
     ensures { λ r. ⌜ Counts (r .used) (now (out .exit)) ⌝ }
     ensures { λ r. ⌜ Feeds
@@ -225,7 +231,7 @@ pub fn feed(
 
 // The bytes have ended: those still held make no call.
 pub fn finish(form: Form, l: Lister, tables: &[u32], out: &mut [u8]) -> usize
-    requires { ⌜ (l .held < 12) × (length (l .bytes) ≡ 12) × (sentenceRoom ≤ length (now out)) ⌝ }
+    requires { ⌜ (l .held < 12) × (length (l .bytes) ≡ 12) × (textRoom ≤ length (now out)) ⌝ }
     ensures { λ r. ⌜ Counts r (now (out .exit)) ⌝ }
     ensures { λ r. ⌜ Wrote (now (out .entry)) 0 (ending form (progressOf l (lent (now (tables .entry)) [] []))) r
         (now (out .exit)) ⌝ }

@@ -3,7 +3,7 @@
 ghost use mathlib.Core.Path.{_≡_};
 ghost use Rattle.texts.specs.Buffer.{Room, Wrote, Counts};
 ghost use Rattle.texts.specs.Filed.{Filed};
-ghost use Rattle.wording.specs.Sentence.{sentence, stopLine};
+ghost use Rattle.wording.specs.Sentence.{clause, sentence, stopClause, stopLine};
 ghost use Rattle.wording.specs.Entry.{sentenceFor, stopFor};
 use calls::Answer;
 use calls::Call;
@@ -16,16 +16,24 @@ pub const ROOM: usize = 160;
 // That the buffer has no room for every line.
 pub const SHORT: u32 = 28;
 
+// What was asked and what came of it, at a place of the buffer; the next place.
+pub fn clause(out: &mut [u8], at: usize, call: Call, answer: Answer) -> usize
+    requires { ⌜ Room (now out) at (clause call answer) ⌝ }
+    ensures { λ r. ⌜ Wrote (now (out .entry)) at (clause call answer) r (now (out .exit)) ⌝ }
+{
+    let colon = requests::request(out, at, call);
+    let outcome_at = texts::say(out, colon, b": ");
+    let details_at = outcomes::outcome(out, outcome_at, answer.code);
+    let number = calls::number(call);
+    outcomes::details(out, details_at, number, answer)
+}
+
 // The line at the front of the buffer; its length.
 fn line(out: &mut [u8], call: Call, answer: Answer) -> usize
     requires { ⌜ Room (now out) 0 (sentence call answer) ⌝ }
     ensures { λ r. ⌜ Wrote (now (out .entry)) 0 (sentence call answer) r (now (out .exit)) ⌝ }
 {
-    let colon = requests::request(out, 0, call);
-    let outcome_at = texts::say(out, colon, b": ");
-    let details_at = outcomes::outcome(out, outcome_at, answer.code);
-    let number = calls::number(call);
-    let end = outcomes::details(out, details_at, number, answer);
+    let end = clause(out, 0, call, answer);
     texts::say(out, end, b".\n")
 }
 
@@ -48,13 +56,21 @@ pub fn sentence(out: &mut [u8], call: Call, answer: Answer) -> Output
     }
 }
 
+// That the journal does not go on, at a place of the buffer; the next place.
+pub fn stop_clause(out: &mut [u8], at: usize, code: u32) -> usize
+    requires { ⌜ Room (now out) at (stopClause code) ⌝ }
+    ensures { λ r. ⌜ Wrote (now (out .entry)) at (stopClause code) r (now (out .exit)) ⌝ }
+{
+    let outcome_at = texts::say(out, at, b"The journal does not go on: ");
+    outcomes::outcome(out, outcome_at, code)
+}
+
 // The line of a word that the journal does not go on with, at the front of the buffer; its length.
 fn stop_line(out: &mut [u8], code: u32) -> usize
     requires { ⌜ Room (now out) 0 (stopLine code) ⌝ }
     ensures { λ r. ⌜ Wrote (now (out .entry)) 0 (stopLine code) r (now (out .exit)) ⌝ }
 {
-    let outcome_at = texts::say(out, 0, b"The journal does not go on: ");
-    let next = outcomes::outcome(out, outcome_at, code);
+    let next = stop_clause(out, 0, code);
     texts::say(out, next, b".\n")
 }
 

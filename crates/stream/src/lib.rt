@@ -1,4 +1,4 @@
-// A journal from standard input to standard output: listed, or told in sentences. Its words come little-endian; a word
+// A journal from standard input to standard output, listed or told in a form. Its words come little-endian; a word
 // that does not read as a call, and odd bytes at the end, stop it with a last line.
 ghost use Prim.Native.Nat.{_<_};
 ghost use mathlib.Core.Path.{_≡_};
@@ -9,6 +9,15 @@ mod output;
 use forms::Form;
 use lister::Lister;
 
+// So many bytes of a journal are read at once.
+const PART: usize = 512;
+
+// Before them eleven may be held, of a call that is not yet whole.
+const HELD: usize = 11;
+
+// Room for the text of them all.
+const TEXT: usize = (HELD + PART) * lister::PER_BYTE;
+
 // After a part: the lister, whether another part is to be read, whether the bytes have ended.
 struct Stage {
     lister: Lister,
@@ -16,8 +25,7 @@ struct Stage {
     ended: bool,
 }
 
-// Lists a part and writes its text. There is room for it: 40 bytes for each byte of the part, and for each of the
-// eleven that may be held.
+// Lists a part and writes its text.
 fn list(
     form: Form,
     l: Lister,
@@ -29,7 +37,7 @@ fn list(
     requires { ⌜ (l .held < 12) × (length (l .bytes) ≡ 12) × (length (now part) < 513) ⌝ }
     ensures { λ r. ⌜ (r .lister .held < 12) × (length (r .lister .bytes) ≡ 12) ⌝ }
 {
-    let mut out = [0u8; 20920];
+    let mut out = [0u8; TEXT];
     let fed = lister::feed(form, l, part, tables, grants, scratch, &mut out);
     let used = fed.used;
     let shown = output::show(&out[..used]);
@@ -46,7 +54,7 @@ fn turn(form: Form, l: Lister, tables: &mut [u32], grants: &mut [u32], scratch: 
     requires { ⌜ (l .held < 12) × (length (l .bytes) ≡ 12) ⌝ }
     ensures { λ r. ⌜ (r .lister .held < 12) × (length (r .lister .bytes) ≡ 12) ⌝ }
 {
-    let mut part = [0u8; 512];
+    let mut part = [0u8; PART];
     let got = libc::read(libc::STDIN_FILENO, &mut part);
     if got < 0 {
         output::complain(b"nazsombet: standard input could not be read\n");
@@ -71,7 +79,7 @@ fn turn(form: Form, l: Lister, tables: &mut [u32], grants: &mut [u32], scratch: 
 fn finish(form: Form, l: Lister, tables: &[u32])
     requires { ⌜ (l .held < 12) × (length (l .bytes) ≡ 12) ⌝ }
 {
-    let mut out = [0u8; sentences::ROOM];
+    let mut out = [0u8; forms::ROOM];
     let n = lister::finish(form, l, tables, &mut out);
     output::show(&out[..n]);
 }
@@ -81,6 +89,7 @@ fn begin(form: Form) -> bool {
     match form {
         Form::Lines => output::header(),
         Form::Sentences => true,
+        Form::Numbered => true,
     }
 }
 

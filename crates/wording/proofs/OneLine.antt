@@ -43,12 +43,12 @@ digit-printable d h =
     and-eq-true-iff (leb 32 d) (leb d 126) .1
     (le-leb 32 d (omega (arith, leb-true 48 d (k .0))), le-leb d 126 (omega (arith, leb-true d 57 (k .1))))
 
-decimal-printable : (n : ℕ) → all isPrintable (decimal n) ≡ true
+pub decimal-printable : (n : ℕ) → all isPrintable (decimal n) ≡ true
 decimal-printable n = all-wider isDigit isPrintable (decimal n) digit-printable (decimal-digits n)
 
 -- The parts
 
-request-printable : (c : Call) → all isPrintable (request c) ≡ true
+pub request-printable : (c : Call) → all isPrintable (request c) ≡ true
 unfolding request bytes
 request-printable (CreateThread t p) = simp (all-append, decimal-printable)
 request-printable (DestroyThread t) = simp (all-append, decimal-printable)
@@ -68,7 +68,7 @@ cause-printable : (n : ℕ) → all isPrintable (cause n) ≡ true
 unfolding bytes
 cause-printable n = each-cause (all isPrintable) n refl refl
 
-outcome-printable : (n : ℕ) → all isPrintable (outcome n) ≡ true
+pub outcome-printable : (n : ℕ) → all isPrintable (outcome n) ≡ true
 unfolding bytes outcome
 outcome-printable zero = refl
 outcome-printable (suc zero) = refl
@@ -80,7 +80,7 @@ detail-printable :
 detail-printable asked name n h =
     detail-cases asked name n (λ (l : List ℕ). all isPrintable l ≡ true) (simp (all-append, h, decimal-printable)) refl
 
-details-printable : (call : ℕ) (a : Answer) → all isPrintable (details call a) ≡ true
+pub details-printable : (call : ℕ) (a : Answer) → all isPrintable (details call a) ≡ true
 unfolding bytes details
 details-printable call a =
     let count = detail-printable (asksCount call (a .code)) (bytes ", count ") (a .count) refl in

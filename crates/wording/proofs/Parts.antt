@@ -11,7 +11,7 @@ use Rattle.calls.specs.Calls.{numberOf}
 use Rattle.texts.specs.Text.{bytes}
 use Rattle.texts.specs.Decimal.{decimal}
 use Rattle.wording.specs.Sentence.{request, cause, outcome, detail, asksCount, asksMessage, details}
-use Rattle.wording.specs.Sentence.{sentence, stopLine}
+use Rattle.wording.specs.Sentence.{clause, sentence, stopClause, stopLine}
 use Rattle.wording.proofs.Causes.{NoneOf}
 
 -- From each part on, by the call's number.
@@ -29,12 +29,26 @@ pub sentence-is : (c : Call) (a : Answer) → sentence c a ≡ request c ++ from
 unfolding sentence
 sentence-is c a = simp append-assoc
 
-abbrev pub stopOutcome : ℕ → List ℕ
-stopOutcome code = outcome code ++ bytes ".\n"
+-- The same without the full stop.
 
-pub stop-is : (code : ℕ) → stopLine code ≡ bytes "The journal does not go on: " ++ stopOutcome code
+abbrev pub outcomeSaid : ℕ → Answer → List ℕ
+outcomeSaid call a = outcome (a .code) ++ details call a
+
+abbrev pub colonSaid : ℕ → Answer → List ℕ
+colonSaid call a = bytes ": " ++ outcomeSaid call a
+
+pub clause-is : (c : Call) (a : Answer) → clause c a ≡ request c ++ colonSaid (numberOf c) a
+clause-is c a = simp append-assoc
+
+-- A line is its clause and a full stop.
+
+pub sentence-ends : (c : Call) (a : Answer) → sentence c a ≡ clause c a ++ bytes ".\n"
+unfolding sentence
+sentence-ends c a = refl
+
+pub stop-ends : (code : ℕ) → stopLine code ≡ stopClause code ++ bytes ".\n"
 unfolding stopLine
-stop-is code = simp append-assoc
+stop-ends code = refl
 
 abbrev pub detailCount : ℕ → Answer → List ℕ
 detailCount call a = detail (asksCount call (a .code)) (bytes ", count ") (a .count)

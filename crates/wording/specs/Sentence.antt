@@ -84,10 +84,18 @@ details call a =
     ++ detail (asksMessage call (a .code)) (bytes ", badge ") (a .badge)
     ++ detail (asksMessage call (a .code)) (bytes ", message ") (a .message)
 
+-- What was asked and what came of it.
+abbrev pub clause : Call → Answer → List ℕ
+clause c a = request c ++ bytes ": " ++ outcome (a .code) ++ details (numberOf c) a
+
 -- The line, ended by a newline.
 unfoldable pub sentence : Call → Answer → List ℕ
-sentence c a = request c ++ bytes ": " ++ outcome (a .code) ++ details (numberOf c) a ++ bytes ".\n"
+sentence c a = clause c a ++ bytes ".\n"
 
--- The line of a word that the journal does not go on with, by the reader's number.
+-- That the journal does not go on, by the reader's number.
+abbrev pub stopClause : ℕ → List ℕ
+stopClause code = bytes "The journal does not go on: " ++ outcome code
+
+-- The line of a word that it does not go on with.
 unfoldable pub stopLine : ℕ → List ℕ
-stopLine code = bytes "The journal does not go on: " ++ outcome code ++ bytes ".\n"
+stopLine code = stopClause code ++ bytes ".\n"

@@ -33,5 +33,5 @@ pub use steer::{Profile, Rng, Steer};
 pub use sweep::{read_tables, report_lengths, report_tables, sum, sweep, Counts, CHANGES, TABLES};
 pub use tables::{Abort, Bond, Endpoint, Line, Phase, Place, Thread};
 pub use tally::{Step, Tally};
-pub use telling::{sentence, telling};
+pub use telling::{numbered_telling, sentence, telling};
 pub use words::{aborting_at, memory, owes_at, shown, sound_words, word_name, write_memory, TABLE};

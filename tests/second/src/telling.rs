@@ -9,11 +9,48 @@ pub fn telling(bytes: &[u8]) -> String {
         .into_iter()
         .map(|turn| match turn {
             Turn::Made { call, answer, .. } => sentence(&call, &answer),
-            Turn::Stopped { code, .. } => {
-                format!("The journal does not go on: {}.\n", outcome(code))
-            }
+            Turn::Stopped { code, .. } => stop_line(code),
         })
         .collect()
+}
+
+/// The same with each call's index, who makes it and who runs then.
+pub fn numbered_telling(bytes: &[u8]) -> String {
+    let mut text = String::new();
+    let mut ran = None;
+    for (index, turn) in turns(bytes).into_iter().enumerate() {
+        let (heading, line, running) = match turn {
+            Turn::Made { call, answer, running } => {
+                (format!("{index}, {}", caller(&call, ran)), sentence(&call, &answer), running)
+            }
+            Turn::Stopped { code, running } => (index.to_string(), stop_line(code), running),
+        };
+        let clause = line.trim_end_matches(".\n");
+        text += &format!("{heading}: {clause}; {} runs.\n", named(running));
+        ran = running;
+    }
+    text
+}
+
+/// Who makes a call: its caller if it is a thread's, which ran before it, else the host.
+fn caller(call: &Call, ran: Option<u8>) -> String {
+    match call {
+        Call::Send { .. }
+        | Call::Receive { .. }
+        | Call::Yield
+        | Call::Wait { .. }
+        | Call::Delete { .. }
+        | Call::Abort { .. } => named(ran),
+        _ => String::from("host"),
+    }
+}
+
+fn named(thread: Option<u8>) -> String {
+    thread.map_or(String::from("nobody"), |thread| format!("thread {thread}"))
+}
+
+fn stop_line(code: u32) -> String {
+    format!("The journal does not go on: {}.\n", outcome(code))
 }
 
 /// The line of a call and its answer, whatever their numbers.

@@ -1,6 +1,6 @@
 //! Lines of docs/SENTENCES.md, letter by letter, and the longest line.
 
-use second::{sentence, telling, Answer, Call};
+use second::{numbered_telling, sentence, telling, Answer, Call};
 
 const SEND: Call = Call::Send { endpoint: 0, badge: 7, message: 101 };
 const GRANT: Call = Call::Grant { thread: 255, endpoint: 63, rights: 15, badge: (1 << 28) - 1 };
@@ -58,4 +58,20 @@ fn journals_that_stop() {
         telling(&0x1440_0000_u32.to_le_bytes()),
         "The journal does not go on: refused by 19, number out of range.\n"
     );
+}
+
+#[test]
+fn numbered_lines() {
+    let words = [0x1900_0000_u32, 0x1103_0064, 0x1104_0032, 0x1800_0000, 0x1600_0000, 0x1440_0000];
+    let bytes: Vec<u8> = words.iter().flat_map(|word| word.to_le_bytes()).collect();
+    assert_eq!(
+        numbered_telling(&bytes),
+        "0, nobody: Yield: refused by 20, no thread runs; nobody runs.\n\
+         1, host: Create thread 3 with priority 100: done; thread 3 runs.\n\
+         2, host: Create thread 4 with priority 50: done; thread 3 runs.\n\
+         3, thread 3: Receive at endpoint 0: refused by 29, lacks right or badge; thread 3 runs.\n\
+         4, host: Tick: done; thread 3 runs.\n\
+         5: The journal does not go on: refused by 19, number out of range; thread 3 runs.\n"
+    );
+    assert_eq!(numbered_telling(&[]), "");
 }

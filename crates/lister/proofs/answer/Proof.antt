@@ -7,6 +7,15 @@ use Rattle.lister.proofs.Taking.{taken-ranged, left-answered, call-answ
 use Rattle.lister.proofs.answer.Statement.{statement}
 use Rattle.lister.proofs.answer.Tie as tie
 
+abbrev before-turn : tie.After-turn → tie.After-running
+before-turn c = c .before .before .before .before
+
+abbrev start : tie.After-turn → tie.Start
+start c = before-turn c .before .before .before .before .before .before
+
+running-requires : tie.Need-running-requires
+running-requires c κs = search needs
+
 turn-requires : tie.Need-turn-requires
 turn-requires c κs = search needs
 
@@ -33,7 +42,7 @@ returns c =
     let at-stop = c .before .before in
     let at-match = at-stop .before .before in
     let at-turn = at-match .before .before .before .before .before .before .before in
-    let args = at-turn .before .before .before .before .before .before .before .before .args in (
+    let args = start at-turn .args in (
       at-stop .stop .ensures .0,
       left-answered (args .form) (args .l) (args .out .now) (args .used)
           (lent (args .tables .now) (args .grants .now) (args .scratch .now)) _ _
@@ -50,7 +59,7 @@ call-requires : tie.Need-call-requires
 call-requires c κs =
     let at-taken = c .before .before .before .before in
     let at-turn = at-taken .before .before .before .before .before .before .before .before in
-    let at-start = at-turn .before .before .before .before .before .before .before .before in (
+    let at-start = start at-turn in (
       at-start .pre .2,
       taken-ranged _ _ _ (at-turn .turn .result) _ _ _ _ (at-turn .turn .ensures) (at-taken .taken .given .1),
     )
@@ -74,12 +83,13 @@ returns-2 c =
     let at-wrapping-add-u64 = at-empty .before in
     let at-taken = at-wrapping-add-u64 .before .before in
     let at-turn = at-taken .before .before .before .before .before .before .before .before in
-    let args = at-turn .before .before .before .before .before .before .before .before .args in
+    let args = start at-turn .args in
     let now-empty = at-empty .empty .ensures in (
       (ap (λ (k : Lister). k .held) now-empty, ap (λ (k : Lister). k .bytes) now-empty, at-call .call .ensures .0),
       call-answered (args .form) (args .l) (args .out .now) (args .used)
-          (lent (args .tables .now) (args .grants .now) (args .scratch .now)) _ _ (at-turn .turn .result) (at-turn .turn .ensures) _ _ _ _
-          (at-taken .taken .given .1) _ (at-wrapping-add-u64 .wrapping-add-u64 .ensures) _ now-empty _
+          (lent (args .tables .now) (args .grants .now) (args .scratch .now)) _ _ (at-turn .turn .result)
+          (at-turn .turn .ensures) _ _ _ _ (at-taken .taken .given .1) _ (before-turn at-turn .running .ensures)
+          _ (at-wrapping-add-u64 .wrapping-add-u64 .ensures) _ now-empty _
           (at-call .call .ensures .1),
     )
 
@@ -87,6 +97,7 @@ pub answer-spec : {M : Type 1} → statement M
 answer-spec =
     tie.close
     (tie.spec
+    running-requires
     turn-requires
     enum-known-taken
     stop-requires

@@ -48,8 +48,8 @@ returns c =
       (at-start .pre .0, at-start .pre .1),
       (
         omega arith,
-        stays (args .form) (args .from) (args .byte) (lent (args .tables .now) (args .grants .now) (args .scratch .now)) (args .out .now)
-            (args .used)
+        stays (args .form) (args .from) (args .byte)
+            (lent (args .tables .now) (args .grants .now) (args .scratch .now)) (args .out .now) (args .used)
             (opposite (args .from .going) (c .if1 .taken)),
       ),
     )
@@ -87,7 +87,8 @@ returns-2 c =
       (
         omega (arith, one at-hold),
         not-yet (args .from) (args .byte) (at-start .pre .0) (at-start .pre .1) _ (at-hold .hold .ensures)
-            (args .form) (lent (args .tables .now) (args .grants .now) (args .scratch .now)) (args .out .now) (args .used) going no,
+            (args .form) (lent (args .tables .now) (args .grants .now) (args .scratch .now)) (args .out .now)
+            (args .used) going no,
       ),
     )
 
@@ -127,8 +128,8 @@ returns-3 c =
       (
         omega (arith, told .0 .0, told .0 .2, one at-hold, four at-if2),
         now-taken (args .from) (args .byte) (at-start .pre .0) (at-start .pre .1) _ (at-hold .hold .ensures)
-            (args .form) (lent (args .tables .now) (args .grants .now) (args .scratch .now)) (args .out .now) (args .used) going
-            (yes at-if2) _ _ _
+            (args .form) (lent (args .tables .now) (args .grants .now) (args .scratch .now)) (args .out .now)
+            (args .used) going (yes at-if2) _ _ _
             (told .1),
       ),
     )

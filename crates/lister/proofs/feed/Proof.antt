@@ -7,7 +7,7 @@ use borrow.Author.Needs.{needs}
 use Rattle.lent_tables.specs.Entries.{lent}
 use Rattle.texts.proofs.Writing.{counts}
 use Rattle.lister.specs.Feeding.{fed}
-use Rattle.lister.specs.Buffers.{progressOf, Feeds}
+use Rattle.lister.specs.Buffers.{progressOf, Feeds, perByte}
 use Rattle.lister.proofs.Holding.{none-fed, one-fed, all-fed}
 use Rattle.lister.proofs.feed.Statement.{statement}
 use Rattle.lister.proofs.feed.Tie as tie
@@ -17,7 +17,7 @@ Inv-loop form part tables₀ grants₀ scratch₀ out₀ at₀ i₀ tables grant
     (length tables ≡ length tables₀) × (length grants ≡ length grants₀) × (length scratch ≡ length scratch₀)
     × (length out ≡ length out₀)
     × (at .lister .held < 12) × (length (at .lister .bytes) ≡ 12)
-    × (at .used + at .lister .held * 40 ≤ (at₀ .lister .held + i) * 40)
+    × (at .used + at .lister .held * perByte ≤ (at₀ .lister .held + i) * perByte)
     × (i ≤ length part)
     × Feeds (fed form (take i part) (progressOf (at₀ .lister) (lent tables₀ grants₀ scratch₀))) out₀ 0 at
     (lent tables grants scratch) out
@@ -37,7 +37,8 @@ loop-holds c =
       at-start .pre .1,
       search needs,
       search needs,
-      none-fed (args .form) (args .l) (lent (args .tables .now) (args .grants .now) (args .scratch .now)) (args .out .now),
+      none-fed (args .form) (args .l) (lent (args .tables .now) (args .grants .now) (args .scratch .now))
+          (args .out .now),
     )
 
 shared-slice-read-byte : tie.Need-shared-slice-read-byte Inv-loop μ-loop
@@ -69,8 +70,8 @@ loop-again c =
       at-byte .byte .ensures .0 .1,
       search needs,
       search needs,
-      one-fed (args .form) (args .l) (lent (args .tables .now) (args .grants .now) (args .scratch .now)) (args .out .now) (args .part .now)
-          (loop .i)
+      one-fed (args .form) (args .l) (lent (args .tables .now) (args .grants .now) (args .scratch .now))
+          (args .out .now) (args .part .now) (loop .i)
           more (loop .at) _ _ (loop .inv .8) (omega (arith, at-start .pre .2, loop .inv .6, more)) _ _ _
           (at-byte .byte .ensures .1 .1),
     )
@@ -99,8 +100,8 @@ returns c =
       (loop .inv .4, loop .inv .5),
       (
         counts fits,
-        all-fed (args .form) (args .l) (lent (args .tables .now) (args .grants .now) (args .scratch .now)) (args .out .now)
-            (args .part .now) (loop .i) (c .loop-test .left) (loop .at) _ _ (loop .inv .8),
+        all-fed (args .form) (args .l) (lent (args .tables .now) (args .grants .now) (args .scratch .now))
+            (args .out .now) (args .part .now) (loop .i) (c .loop-test .left) (loop .at) _ _ (loop .inv .8),
       ),
     )
 

@@ -1,98 +1,32 @@
--- The parts are written one after the other.
-use Prim.Native.Nat.{ℕ}
-use mathlib.Core.Path.{_≡_, sym, ap}
+-- The clause, and its full stop behind it.
+use mathlib.Core.Path.{sym}
 use mathlib.Core.List.{_++_}
 use borrow.Author.Needs.{needs}
-use Rattle.calls.specs.Calls.{numberOf}
 use Rattle.texts.specs.Text.{bytes}
 use Rattle.texts.specs.Buffer.{Room}
 use Rattle.texts.proofs.Writing.{room-is, wrote-is, front-room, rest-room, in-turn}
-use Rattle.wording.specs.Sentence.{request, details}
-use Rattle.wording.proofs.Parts.{fromColon, fromOutcome, fromDetails, sentence-is}
+use Rattle.wording.specs.Sentence.{clause}
+use Rattle.wording.proofs.Parts.{sentence-ends}
 use Rattle.sentences.proofs.line.Statement.{statement}
 use Rattle.sentences.proofs.line.Tie as tie
 
-abbrev start : tie.After-request → tie.Start
+abbrev start : tie.After-clause → tie.Start
 start c = c .before .before .before
 
-abbrev first : tie.After-say → tie.After-request
-first c = c .before .before .before .before .before
+room : (c : tie.Start) → Room (c .args .out .now) 0 (clause (c .args .call) (c .args .answer) ++ bytes ".\n")
+room c = room-is (sentence-ends (c .args .call) (c .args .answer)) (c .pre)
 
-abbrev second : tie.After-outcome → tie.After-say
-second c = c .before .before .before .before
-
-abbrev third : tie.After-number → tie.After-outcome
-third c = c .before .before .before
-
-abbrev fourth : tie.After-details → tie.After-number
-fourth c = c .before .before
-
--- Room for the whole line, and for what follows each part.
-
-room :
-    (c : tie.Start)
-    → Room (c .args .out .now) 0 (request (c .args .call) ++ fromColon (numberOf (c .args .call)) (c .args .answer))
-room c = room-is (sentence-is (c .args .call) (c .args .answer)) (c .pre)
-
-room₁ :
-    (c : tie.After-request)
-    → Room (c .request .last .0) (c .request .result)
-    (fromColon (numberOf (start c .args .call)) (start c .args .answer))
-room₁ c = rest-room _ _ (room (start c)) (c .request .ensures)
-
-room₂ :
-    (c : tie.After-say)
-    → Room (c .say .last .0) (c .say .result)
-    (fromOutcome (numberOf (start (first c) .args .call)) (start (first c) .args .answer))
-unfolding bytes
-room₂ c = rest-room _ _ (room₁ (first c)) (c .say .ensures)
-
-room₃ :
-    (c : tie.After-outcome)
-    → Room (c .outcome .last .0) (c .outcome .result)
-    (fromDetails (numberOf (start (first (second c)) .args .call)) (start (first (second c)) .args .answer))
-room₃ c = rest-room _ _ (room₂ (second c)) (c .outcome .ensures)
-
--- The details go by the call's number.
-named :
-    (c : tie.After-number)
-    → details (c .number .result) (start (first (second (third c))) .args .answer)
-    ≡ details (numberOf (start (first (second (third c))) .args .call)) (start (first (second (third c))) .args .answer)
-named c =
-    ap (λ (n : ℕ). details n (start (first (second (third c))) .args .answer)) (c .number .ensures)
-
-room₄ : (c : tie.After-details) → Room (c .details .last .0) (c .details .result) (bytes ".\n")
-room₄ c =
-    let at-number = fourth c in
-    rest-room _ _ (room₃ (third at-number)) (wrote-is (named at-number) (c .details .ensures))
-
-request-requires : tie.Need-request-requires
-request-requires c κs = front-room _ _ (room (c .before .before))
+clause-requires : tie.Need-clause-requires
+clause-requires c κs = front-room _ _ (room (c .before .before))
 
 slice-aggregate-say : tie.Need-slice-aggregate-say
 slice-aggregate-say c = search needs
 
 say-requires : tie.Need-say-requires
 unfolding bytes
-say-requires c κs = front-room _ _ (room₁ (c .before .before .before .before))
-
-outcome-requires : tie.Need-outcome-requires
-outcome-requires c κs = front-room _ _ (room₂ (c .before .before .before))
-
-number-requires : tie.Need-number-requires
-number-requires c κs = search needs
-
-details-requires : tie.Need-details-requires
-details-requires c κs =
-    let at-number = c .before in
-    room-is (sym (named at-number)) (front-room _ _ (room₃ (third at-number)))
-
-slice-aggregate-say-2 : tie.Need-slice-aggregate-say-2
-slice-aggregate-say-2 c = search needs
-
-say-requires-2 : tie.Need-say-requires-2
-unfolding bytes
-say-requires-2 c κs = room₄ (c .before .before .before .before)
+say-requires c κs =
+    let at-clause = c .before .before .before .before in
+    rest-room _ _ (room (start at-clause)) (at-clause .clause .ensures)
 
 same-length : tie.Need-same-length
 same-length c = search needs
@@ -100,31 +34,11 @@ same-length c = search needs
 returns : tie.Need-returns
 unfolding bytes
 returns c =
-    let at-say2 = c .before .before in
-    let at-details = at-say2 .before .before .before .before .before in
-    let at-number = fourth at-details in
-    let at-outcome = third at-number in
-    let at-say = second at-outcome in
-    let at-request = first at-say in
-    let args = start at-request .args in
-    wrote-is (sym (sentence-is (args .call) (args .answer)))
-    (in-turn (room (start at-request)) (at-request .request .ensures)
-    (in-turn (room₁ at-request) (at-say .say .ensures)
-    (in-turn (room₂ at-say) (at-outcome .outcome .ensures)
-    (in-turn (room₃ at-outcome) (wrote-is (named at-number) (at-details .details .ensures))
-    (at-say2 .say2 .ensures)))))
+    let at-say = c .before .before in
+    let at-clause = at-say .before .before .before .before .before in
+    let args = start at-clause .args in
+    wrote-is (sym (sentence-ends (args .call) (args .answer)))
+    (in-turn (room (start at-clause)) (at-clause .clause .ensures) (at-say .say .ensures))
 
 pub line-spec : {M : Type 1} → statement M
-line-spec =
-    tie.close
-    (tie.spec
-    request-requires
-    slice-aggregate-say
-    say-requires
-    outcome-requires
-    number-requires
-    details-requires
-    slice-aggregate-say-2
-    say-requires-2
-    same-length
-    returns)
+line-spec = tie.close (tie.spec clause-requires slice-aggregate-say say-requires same-length returns)

@@ -1,8 +1,9 @@
 //! journals FOLDER: writes the test journals, NAME.words, and of each the
-//! listing, NAME.txt, and the telling, NAME.told. What each is for stands in
-//! the folder's README.
+//! listing, NAME.txt, the telling, NAME.told, and the numbered telling,
+//! NAME.numbered. What each is for stands in the folder's README.
 
-use second::{listing, telling, write, Machine, Steer, ABORT, DELETE, RECEIVE, SEND};
+use second::{listing, numbered_telling, telling, write};
+use second::{Machine, Steer, ABORT, DELETE, RECEIVE, SEND};
 use std::{env, fs, io, path::Path};
 
 /// A call's words; its numbers may be out of range.
@@ -904,6 +905,7 @@ fn main() -> io::Result<()> {
         fs::write(path.with_extension("words"), &bytes)?;
         fs::write(path.with_extension("txt"), listing(&bytes))?;
         fs::write(path.with_extension("told"), telling(&bytes))?;
+        fs::write(path.with_extension("numbered"), numbered_telling(&bytes))?;
     }
     Ok(())
 }

@@ -1,0 +1,2 @@
+-- The specification: which bytes a numbered sentence is.
+pub mod Numbered
