@@ -196,6 +196,12 @@ try_shows() {
     output_is "$work/passed_on"
     status_is "tell without -n" 0 stubbed tell
     output_is "$work/not_passed_on"
+    status_is "tell -n of a journal" 0 desk tell -n "$example.words"
+    output_is "$example.numbered"
+    is_silent
+    status_is "tell -n of a journal that stops" 3 desk tell -n tests/journals/odd.words
+    output_is tests/journals/odd.numbered
+    complains_of 'odd.words: the journal does not go on at index 15: refused by 18'
     status_is "option -n of list" 2 desk list -n "$example.words"
     complains_of 'list has no option -n'
     status_is "a file -n" 0 in_folder list -- -n
