@@ -13,8 +13,8 @@ use Rattle.calls.specs.declared.Call.the-variants.{CreateThread, DestroyThread,
 use Rattle.calls.specs.declared.Call.the-variants.{Interrupt, Tick, Send, Receive, Yield, Wait, Delete, Abort}
 use Rattle.calls.specs.declared.Call.the-variants.{Grant}
 use Rattle.calls.specs.Calls.{numberOf}
-use Rattle.machine.specs.Lists.{pick, first, without}
-use Rattle.machine.specs.State.{State, Thread, Endpoint, setEndpoint, setThread, able, withPlace}
+use Rattle.machine.specs.Lists.{pick, first}
+use Rattle.machine.specs.State.{State, Thread, setEndpoint, setThread, able, withPlace}
 use Rattle.machine.specs.Scheduling.{choose}
 use Rattle.machine.specs.Endpoints.{isSending, receivers, pendingOf, leaveEndpoint, joinEndpoint, wakeFrom}
 use Rattle.machine.specs.Results.{Result}
@@ -24,7 +24,7 @@ use Rattle.machine.specs.Machine.{isAble, step}
 use Rattle.history.specs.History.{Waiting, Step, waitingBy, isIn}
 use Rattle.history.specs.Recorded.{historyBy}
 use Rattle.history.specs.Claim.{Claim, In}
-use Rattle.history.specs.Queues.{Message, nobodyQueued}
+use Rattle.history.specs.Queues.{nobodyQueued}
 use Rattle.history.specs.Blocks.{noBlocks}
 use Rattle.machine.proofs.Preserved.Ready.{none-some}
 use Rattle.history.proofs.Computed.{computed}

@@ -2,8 +2,7 @@
 use Prim.Native.Nat.{ℕ}
 use mathlib.Core.Path.{_≡_, refl, ap, _∙_}
 use mathlib.Core.Logic.{_⊎_, inl, inr}
-use mathlib.Core.Bool.{Bool, true, false, _&&_}
-use mathlib.Core.Option.{Option, none, some}
+use mathlib.Core.Bool.{_&&_}
 use mathlib.Core.List.{List, [], _∷_, _++_}
 use native.Mathlib.Omega.{arith}
 use lib.ListN.{length}
@@ -20,7 +19,7 @@ use Rattle.machine.specs.Endpoints.{isSending, joinEndpoint, wakeFrom}
 use Rattle.machine.specs.Results.{Result}
 use Rattle.machine.specs.Grants.{Grants}
 use Rattle.machine.specs.Machine.{step}
-use Rattle.history.specs.History.{Waiting, Step}
+use Rattle.history.specs.History.{Step}
 use Rattle.history.specs.Blocks.{Block}
 use Rattle.history.specs.Recorded.{historyBy}
 use Rattle.history.specs.Claim.{Claim}

@@ -25,7 +25,7 @@ use Rattle.machine.specs.Aborts.{lookedOwn, workOwn, beginAfter, finishe
 use Rattle.machine.specs.Aborts.{abortFrom, abortOpen, abortAt, abortUnless, abort}
 use Rattle.machine.specs.Machine.{byCaller, perform, step}
 use Rattle.machine.specs.Work.{AllGoLast}
-use Rattle.machine.proofs.Lists.{clash, put-all, put-same, put-other, without-first, only-nil, only-hit}
+use Rattle.machine.proofs.Lists.{clash, put-all, put-same, without-first, only-nil, only-hit}
 use Rattle.machine.proofs.Lists.{only-miss}
 use Rattle.machine.proofs.Lists.{only-append}
 use Rattle.machine.proofs.Permits.{performed, permitted}

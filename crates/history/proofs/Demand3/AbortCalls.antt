@@ -27,7 +27,7 @@ use Rattle.history.specs.Sorts.{looks}
 use Rattle.history.specs.History.{Books, Aborting, Ended, Waiting, History, namedLooks, lineName, waitingIn}
 use Rattle.history.specs.Walk.{letsGo, reportOf, reportIf, walk}
 use Rattle.history.specs.Outcomes.{Outcome, apart, unchanged, walkerOf, outcomeIf}
-use Rattle.history.specs.Recorded.{recorded, told}
+use Rattle.history.specs.Recorded.{recorded}
 use Rattle.history.specs.Claim.{less, removedBy, Reports}
 use Rattle.history.specs.Tied.{noteIn, Tied}
 use Rattle.machine.proofs.Lists.{Same, same, other, same?, clash}

@@ -22,7 +22,6 @@ use Rattle.history.specs.Sorts.{removes, sortOf}
 use Rattle.history.specs.History.{Books, Aborting, Ended, History, queues?, named}
 use Rattle.history.specs.Walk.{letsGo}
 use Rattle.history.specs.Outcomes.{Outcome, unchanged, deletes, outcomeOf, outcomeIf}
-use Rattle.history.specs.Recorded.{recorded, told}
 use Rattle.history.specs.Claim.{In}
 use Rattle.machine.proofs.Preserved.Mid.{sound-mid}
 use Rattle.history.proofs.Demand3.Standing.{within, core-grow}

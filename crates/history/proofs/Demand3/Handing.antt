@@ -1,29 +1,27 @@
 -- Call 8 answered 0: it takes the sender queued longest, and hands over that message alone.
 use Prim.Native.Nat.{ℕ, suc}
-use mathlib.Core.Path.{_≡_, refl, sym, _∙_, ap, subst}
-use mathlib.Core.Logic.{inl, inr}
+use mathlib.Core.Path.{_≡_, refl, sym, _∙_, ap}
 use mathlib.Core.Bool.{Bool, true, false, not}
 use mathlib.Core.Option.{Option, none, some}
 use mathlib.Core.List.{List, [], _∷_, map}
 use native.Mathlib.Omega.{arith}
 use Rattle.calls.specs.declared.Call.the-variants.{Receive}
 use Rattle.calls.specs.Calls.{inRange}
-use Rattle.machine.specs.Lists.{first, without, only, Mem, Distinct}
+use Rattle.machine.specs.Lists.{first, without, only, Distinct}
 use Rattle.machine.specs.State.{State, Thread, sending, Status, missing, live, closing, Endpoint}
 use Rattle.machine.specs.Scheduling.{enqueue, wake}
-use Rattle.machine.specs.Endpoints.{isSending, senders, leaveEndpoint, wakeFrom, dropDebt}
+use Rattle.machine.specs.Endpoints.{senders, leaveEndpoint, wakeFrom, dropDebt}
 use Rattle.machine.specs.Results.{Result}
 use Rattle.machine.specs.Grants.{Grants, barred}
 use Rattle.machine.specs.Machine.{receiveFrom, receiveAt, receive, byCaller, perform, performUnless, performIf}
 use Rattle.machine.specs.Machine.{step}
-use Rattle.machine.specs.Sound.{Sound, Queued}
+use Rattle.machine.specs.Sound.{Sound}
 use Rattle.history.specs.History.{isIn}
-use Rattle.machine.proofs.Lists.{put-same, without-first, only-nil, only-hit, only-none, first-mem}
+use Rattle.machine.proofs.Lists.{put-same, without-first, only-hit, only-none, first-mem}
 use Rattle.history.proofs.Sublists.{Apart, mem-isIn, not-isIn, distinct-map}
-use Rattle.machine.proofs.Preserved.Mid.{sound-mid}
 use Rattle.machine.proofs.Preserved.Statuses.{keeps-badge}
 use Rattle.machine.proofs.Preserved.Debts.{dropDebt-drops}
-use Rattle.history.proofs.Demand3.Ending.{sender-sends}
+use Rattle.history.proofs.Demand3.Queued.{first-sends, sender-longest}
 use Rattle.machine.proofs.Running.{choose-keeps}
 
 pub record TakesFirst (s : State) (e : ℕ) (r : Result) : Type 0 where
@@ -54,25 +52,14 @@ handed-first since u l d apart =
 first-sender :
     (s : State) → Sound s → (e u : ℕ) → first (senders (s .threads) (s .endpoints e .waiters)) ≡ some u
     → (rest : List ℕ) × (s .endpoints e .waiters ≡ u ∷ rest) × (s .threads u .place ≡ sending e)
-first-sender s S e u h = go (s .endpoints e .waiters) refl h
+first-sender s S e u h = go (s .endpoints e .waiters) refl (sender-longest s S e u h)
   where
-    sends : s .threads u .place ≡ sending e
-    sends = sender-sends (sound-mid S) e u (first-mem (senders (s .threads) (s .endpoints e .waiters)) h)
-
-    at-head :
-        (x : ℕ) (l : List ℕ) → s .endpoints e .waiters ≡ x ∷ l → first (senders (s .threads) (x ∷ l)) ≡ some u
-        → Queued s x e → x ≡ u
-    at-head x l p k (inl i) =
-        let q : some x ≡ some u =
-        ap first (sym (only-hit (λ t. isSending (s .threads t .place)) x l (ap isSending i))) ∙ k in cc
-    at-head x l p k (inr i) = absurd (S .queues .one-kind e u x sends i)
-
-    go : (l : List ℕ) → s .endpoints e .waiters ≡ l → first (senders (s .threads) l) ≡ some u
+    go : (l : List ℕ) → s .endpoints e .waiters ≡ l → first (s .endpoints e .waiters) ≡ some u
         → (rest : List ℕ) × (s .endpoints e .waiters ≡ u ∷ rest) × (s .threads u .place ≡ sending e)
-    go [] p k = absurd (first-mem [] (ap first (sym (only-nil (λ t. isSending (s .threads t .place)))) ∙ k))
+    go [] p k = absurd (first-mem [] (ap first (sym p) ∙ k))
     go (x ∷ l) p k =
-        let q = at-head x l p k (S .queues .queued x e .0 (subst (λ (m : List ℕ). Mem x m) (sym p) (inl refl))) in
-        (l, p ∙ ap (λ (y : ℕ). y ∷ l) q, sends)
+        let q : some x ≡ some u = ap first (sym p) ∙ k in
+        let z : x ≡ u = cc in (l, p ∙ ap (λ (y : ℕ). y ∷ l) z, first-sends s S e u h)
 
 no-code : {P : Type 0} (n : ℕ) → suc n ≡ 0 → P
 no-code n h = absurd (omega arith)

@@ -23,7 +23,7 @@ use Rattle.machine.specs.State.{closing, withPlace}
 use Rattle.machine.specs.Scheduling.{enqueue, wake}
 use Rattle.machine.specs.Endpoints.{receivers, leaveEndpoint, wakeFrom, dropDebt}
 use Rattle.machine.specs.Results.{Look, removals}
-use Rattle.machine.specs.Grants.{Grants, barred}
+use Rattle.machine.specs.Grants.{Grants}
 use Rattle.machine.specs.Machine.{sendTo, sendUnless, sendAt, send, byCaller, perform, performUnless, performIf, step}
 use Rattle.machine.specs.Sound.{Sound}
 use Rattle.history.specs.Queues.{Queues, Message, hasMessage, handedTo, Gives, queuesIn}

@@ -1,5 +1,5 @@
 -- The queues that the history keeps are the machine's, call by call.
-use Prim.Native.Nat.{ℕ, suc, _<_}
+use Prim.Native.Nat.{ℕ, _<_}
 use mathlib.Core.Path.{_≡_, refl, sym, _∙_, ap, subst, fun-ext}
 use mathlib.Core.Logic.{_⊎_, inl, inr}
 use mathlib.Core.Bool.{Bool, true, false}
@@ -10,23 +10,23 @@ use lib.ListN.{length, getElem?}
 use Rattle.calls.specs.declared.Answer.{Answer}
 use Rattle.calls.specs.declared.Call.{Call}
 use Rattle.calls.specs.declared.Call.the-variants.{Send, Delete}
-use Rattle.calls.specs.Calls.{numberOf, inRange}
+use Rattle.calls.specs.Calls.{numberOf}
 use Rattle.machine.specs.Lists.{only, first, Mem}
-use Rattle.machine.specs.State.{State, Place, Endpoint, sending, receiving, Status, missing, live, closing, Line, quiet}
+use Rattle.machine.specs.State.{State, Endpoint, sending, receiving, Status, missing, live, closing, Line, quiet}
 use Rattle.machine.specs.State.{pending, awaited, setEndpoint, missingEndpoint}
-use Rattle.machine.specs.Endpoints.{isSending, dropDebt, endAbort}
-use Rattle.machine.specs.Aborts.{Removal, removeUpTo, deleted, deleteFrom, deleteAt, delete}
+use Rattle.machine.specs.Endpoints.{isSending}
+use Rattle.machine.specs.Aborts.{Removal, deleted, deleteFrom, deleteAt, delete}
 use Rattle.machine.specs.Sound.{Sound, Queued}
 use Rattle.machine.specs.Results.{Result}
 use Rattle.calls.specs.Answers.{isAccepted}
-use Rattle.machine.specs.Grants.{Grants, barred}
+use Rattle.machine.specs.Grants.{Grants}
 use Rattle.machine.specs.Machine.{byCaller, perform, performUnless, performIf, step}
 use Rattle.history.specs.Sorts.{sortOf}
 use Rattle.history.specs.Queues.{Queues, Message, Gives, queuesAfter, waiterOn, queuesIn, handedTo}
-use Rattle.history.specs.Blocks.{Block, blocksAfter, blocksIn}
+use Rattle.history.specs.Blocks.{blocksAfter, blocksIn}
 use Rattle.history.specs.History.{Step, Books, Waiting, History, isSend, nameOf, lineName, waitingBy, waitingIn}
 use Rattle.history.specs.Outcomes.{outcomeIf}
-use Rattle.history.specs.Recorded.{recorded, namesAfter, queuedAfter, waitingAfter, stepOf, booksAfter, told}
+use Rattle.history.specs.Recorded.{recorded, namesAfter, waitingAfter, stepOf, booksAfter, told}
 use Rattle.history.specs.Claim.{In, Handing}
 use Rattle.machine.proofs.Lists.{put-same, only-nil, only-all, only-none}
 use Rattle.machine.proofs.Running.{choose-keeps}

@@ -14,23 +14,23 @@ use Rattle.calls.specs.declared.Call.the-variants.{CreateThread, DestroyThread,
 use Rattle.calls.specs.declared.Call.the-variants.{Interrupt, Tick, Send, Receive, Yield, Wait, Delete, Abort}
 use Rattle.calls.specs.declared.Call.the-variants.{Grant}
 use Rattle.calls.specs.Calls.{inRange}
-use Rattle.machine.specs.Lists.{pick, put, without, only, first, Mem, Distinct}
-use Rattle.machine.specs.State.{State, Thread, Place, absent, able, sending, receiving, waiting, Status, missing}
+use Rattle.machine.specs.Lists.{pick, put, without, first, Distinct}
+use Rattle.machine.specs.State.{State, Place, absent, able, sending, receiving, waiting, Status, missing}
 use Rattle.machine.specs.State.{live, closing, Endpoint, Line, quiet, pending, awaited, missingEndpoint}
 use Rattle.machine.specs.State.{setEndpoint, setLine, setThread, absentThread}
 use Rattle.machine.specs.State.{Abort as Standing}
 use Rattle.machine.specs.Scheduling.{enqueue, unqueue, standDown, wake, block, choose}
-use Rattle.machine.specs.Endpoints.{isSending, isReceiving, receivers, senders, passing, joinEndpoint, leaveEndpoint}
+use Rattle.machine.specs.Endpoints.{isSending, isReceiving, receivers, senders, joinEndpoint, leaveEndpoint}
 use Rattle.machine.specs.Endpoints.{wakeFrom, dropDebt, noteAll, note, endAbort}
 use Rattle.machine.specs.Results.{Look, Result}
 use Rattle.calls.specs.Answers.{isAccepted}
 use Rattle.machine.specs.Sound.{Sound, Queued}
-use Rattle.machine.specs.Machine.{isRunning, isAbsent, sendTo, sendUnless, sendAt, send, receiveFrom, receiveAt}
+use Rattle.machine.specs.Machine.{isRunning, sendTo, sendUnless, sendAt, send, receiveFrom, receiveAt}
 use Rattle.machine.specs.Machine.{receive, leaveReady, leave, destroyIf, destroyThread, createIf, createThread}
 use Rattle.machine.specs.Machine.{moveReady, changeUnless, priorityIf, setPriority, createAt, createEndpoint}
 use Rattle.machine.specs.Machine.{fire, interrupt, leaveTicks, tickFor, tick, yield, waitAt, wait, grantAt}
 use Rattle.machine.specs.Machine.{grantIf, grant, byCaller, perform, performUnless, performIf, step}
-use Rattle.machine.specs.Grants.{Grants, barred}
+use Rattle.machine.specs.Grants.{Grants}
 use Rattle.machine.specs.Aborts.{Removal, oneMore, removeUpTo, deleted, deleteFrom, deleteAt, delete, hits}
 use Rattle.machine.specs.Aborts.{lookAt, look, Looked, afterLook, lookUpTo, pendingAt, join, begin, ended}
 use Rattle.machine.specs.Aborts.{lookedOwn, workOwn, beginAfter, finished, lookedOther, workOther, underBadge}
@@ -334,7 +334,7 @@ module _ (s : State) (S : Sound s) where
       (first-mem (receivers (s .threads) (s .endpoints e .waiters)) h) in
       is-receiving (s .threads u .place) e (m .1) (S .queues .queued u e .0 (m .0))
 
-  first-sends :
+  pub first-sends :
       (e u : ℕ) → first (senders (s .threads) (s .endpoints e .waiters)) ≡ some u → s .threads u .place ≡ sending e
   first-sends e u h =
       let m =

@@ -14,14 +14,14 @@ use Rattle.calls.specs.Calls.{inRange}
 use Rattle.calls.specs.Answers.{isAccepted}
 use Rattle.machine.specs.Lists.{pick, put, without, first, Distinct}
 use Rattle.machine.specs.State.{State, Thread, Place, absent, able, sending, receiving, waiting, Status, missing, live}
-use Rattle.machine.specs.State.{closing, Abort as Standing, Line, quiet, pending, awaited, setLine, setThread}
+use Rattle.machine.specs.State.{closing, Abort as Standing, Line, quiet, pending, awaited, setLine}
 use Rattle.machine.specs.State.{absentThread}
 use Rattle.machine.specs.Scheduling.{enqueue, unqueue, standDown, wake, block, choose}
 use Rattle.machine.specs.Endpoints.{receivers, senders, joinEndpoint, leaveEndpoint, wakeFrom, dropDebt, noteAll, note}
 use Rattle.machine.specs.Endpoints.{endAbort}
 use Rattle.machine.specs.Results.{Look, Result, removals}
 use Rattle.machine.specs.Sound.{Sound}
-use Rattle.machine.specs.Grants.{Grants, barred}
+use Rattle.machine.specs.Grants.{Grants}
 use Rattle.machine.specs.Machine.{isRunning, createIf, createThread, leaveReady, leave, destroyIf, destroyThread}
 use Rattle.machine.specs.Machine.{moveReady, changeUnless, priorityIf, setPriority, createAt, createEndpoint, fire}
 use Rattle.machine.specs.Machine.{interrupt, leaveTicks, tickFor, tick, sendTo, sendUnless, sendAt, send, receiveFrom}
@@ -38,7 +38,7 @@ use Rattle.machine.proofs.Lists.{put-all, put-same, put-other, put-self, withou
 use Rattle.machine.proofs.Running.{choose-keeps}
 use Rattle.machine.proofs.Woken.{removals-append}
 use Rattle.machine.proofs.Calls.Answers.{refused-state}
-use Rattle.history.proofs.Demand3.Queued.{receiver-longest, sender-longest, turns-wake, turns-end, Turns}
+use Rattle.history.proofs.Demand3.Queued.{receiver-longest, sender-longest, turns-wake, turns-end}
 
 abbrev blocksOf : (ℕ → Thread) → ℕ → Block
 blocksOf f t = blockOf (f t)

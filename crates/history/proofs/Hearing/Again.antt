@@ -18,7 +18,7 @@ use Rattle.calls.specs.Answers.{plain, isAccepted}
 use Rattle.machine.specs.Grants.{Grants}
 use Rattle.history.specs.Sorts.{looks}
 use Rattle.history.specs.History.{Aborting, Ended, Reported, NamedLook, AbortCall, Debts, Aborts, History, isIn}
-use Rattle.history.specs.History.{named, waitingIn, namedLooks}
+use Rattle.history.specs.History.{named, namedLooks}
 use Rattle.history.specs.Walk.{letsGo, isNoteOf, reportOf, Walk, Walker, walk, close, reportIf}
 use Rattle.history.specs.Outcomes.{Outcome, apart, walkerOf, startOf, walks, outcomeIf}
 use Rattle.history.specs.Recorded.{abortCallsOf, recorded, told, Run, resultIn, nextRun}
