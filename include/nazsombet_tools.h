@@ -11,7 +11,7 @@
  *
  * It asks neither tables nor grants. It keeps no pointer and no state between two calls, allocates nothing and does no
  * input or output. What nazsombet.h says of pointers and threads holds here too. What it says of a kernel was tried of
- * the core alone.
+ * the core alone, but for the stack that a sentence takes.
  */
 #ifndef NAZSOMBET_TOOLS_H
 #define NAZSOMBET_TOOLS_H

@@ -1,11 +1,12 @@
 // The call that words or numbers name.
-use calls::Call;
-use journal::types::Named;
-use journal::types::Number;
 ghost use mathlib.Core.Path.{_≡_};
 ghost use mathlib.Core.List.{[]};
 ghost use Rattle.journal.specs.Words.{numberIn, unused, sendOf, abortOf, grantOf, callOf, callAt};
 ghost use Rattle.journal.specs.Steps.{asNamed, callNamed, asNumber};
+use calls::Call;
+use calls::codes::BADGES;
+use journal::types::Named;
+use journal::types::Number;
 
 // The top bits of a call word, and of the words after it.
 const CALL: u32 = 1;
@@ -23,7 +24,7 @@ fn number_in(rest: &[u32], top: u32) -> Number
     }
     let word = rest[0];
     if word >> 28 == top {
-        Number::Is(word % 0x1000_0000)
+        Number::Is(word % BADGES)
     } else {
         Number::Wrong
     }

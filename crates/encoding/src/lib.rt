@@ -1,13 +1,13 @@
 // The words of a call.
-use calls::Call;
-use calls::codes::RANGE;
-use journal::types::Written;
 ghost use mathlib.Core.Path.{_≡_};
 ghost use mathlib.Core.Bool.{true};
 ghost use mathlib.Core.List.{_∷_, []};
 ghost use Prim.Native.Nat.{_<_};
 ghost use Rattle.calls.specs.Calls.{inRange};
 ghost use Rattle.journal.specs.Words.{callWord, badgeWord, messageWord, asWritten, wordsOf, written};
+use calls::Call;
+use calls::codes::RANGE;
+use journal::types::Written;
 
 fn call_word(number: u32, subject: u32, argument: u32) -> u32
     requires { ⌜ (number < 16) × (subject < 256) × (argument < 65536) ⌝ }

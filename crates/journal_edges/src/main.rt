@@ -1,8 +1,8 @@
 // Reads and writes the journal's edge cases and prints what comes back; stdout was worked out from document 01
 // and T-04.
+ghost use Prim.Native.Nat.{_<_};
 use calls::Call;
 use journal::types::Read;
-ghost use Prim.Native.Nat.{_<_};
 
 // Every word stands where a call may be looked for, so each is read as one.
 const JOURNAL: [u32; 68] = [

@@ -1,11 +1,11 @@
 // What the words at a place of a journal read as.
+ghost use mathlib.Core.Path.{_≡_};
+ghost use Rattle.journal.specs.Words.{wordsTaken, judged, readAt};
+ghost use Rattle.journal.specs.Steps.{callNamed};
 use calls::codes::NO_CALL;
 use calls::codes::RANGE;
 use journal::types::Named;
 use journal::types::Read;
-ghost use mathlib.Core.Path.{_≡_};
-ghost use Rattle.journal.specs.Words.{wordsTaken, judged, readAt};
-ghost use Rattle.journal.specs.Steps.{callNamed};
 
 // What is answered at a place where these words stand: 18 before 19.
 fn answer(words: Named, at: usize, next: usize) -> Read

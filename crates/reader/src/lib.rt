@@ -1,8 +1,8 @@
 // A reader of the journal: it refers to the journal and holds a word number. The functions over it are thin, for the
 // borrow checker covers none of them: `parsing::read`, which takes slice and number, does the work.
-use journal::types::Read;
 ghost use mathlib.Core.Path.{_≡_};
 ghost use Rattle.journal.specs.Words.{readAt};
+use journal::types::Read;
 
 pub struct Reader<'a> {
     pub journal: &'a [u32],
