@@ -1,6 +1,6 @@
 -- The end of a call: refused, accepted, and steps before the end.
 use Prim.Native.Nat.{ℕ}
-use mathlib.Core.Path.{_≡_, refl, _∙_, ap, subst}
+use mathlib.Core.Path.{_≡_, _∙_, ap, subst}
 use mathlib.Core.List.{List, []}
 use Rattle.calls.specs.declared.Answer.{Answer}
 use Rattle.machine.specs.State.{State}

@@ -1,5 +1,5 @@
 -- The claim bites: each machine that goes wrong makes it, or another statement, false on a short list of calls.
-use Prim.Native.Nat.{ℕ, _≤_}
+use Prim.Native.Nat.{ℕ}
 use mathlib.Core.Path.{_≡_, refl, ap, _∙_}
 use mathlib.Core.Option.{some}
 use mathlib.Core.Logic.{inl, inr}

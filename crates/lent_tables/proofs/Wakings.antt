@@ -3,7 +3,6 @@ use Prim.Native.Nat.{ℕ, _≤_, _<_}
 use mathlib.Core.Path.{_≡_, refl, sym, ap, _∙_}
 use mathlib.Core.Bool.{Bool}
 use mathlib.Core.List.{List}
-use native.Mathlib.Omega.{arith}
 use lib.Dec.{eqb, leb}
 use lib.ListN.{length}
 use borrow.Author.Tests.{eq-eqb, ne-eqb, le-leb, lt-leb}
@@ -12,7 +11,7 @@ use Rattle.machine.specs.State.{State, able}
 use Rattle.machine.specs.Sound.{Sound}
 use Rattle.layout.specs.declared.Field.{Field}
 use Rattle.layout.specs.declared.Slot.{Slot}
-use Rattle.layout.specs.Addresses.{tableWords, word, at, slot}
+use Rattle.layout.specs.Addresses.{tableWords, at, slot}
 use Rattle.layout.specs.Words.{image}
 use Rattle.layout.proofs.Image.{length-image, image-name}
 use Rattle.lent_tables.specs.declared.how.Waking.{Waking}

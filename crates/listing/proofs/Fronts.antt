@@ -1,12 +1,11 @@
 -- A text at the front of a buffer: what the reader is promised of it, with room for every line and without.
 use Prim.Native.Nat.{ℕ, _≤_, _<_}
-use mathlib.Core.Path.{_≡_, refl, sym, _∙_, ap}
+use mathlib.Core.Path.{_≡_, sym, _∙_, ap}
 use mathlib.Core.List.{List, _++_}
 use native.Mathlib.Omega.{arith}
 use native.Mathlib.Nat.{zero-add}
 use borrow.Author.Tests.{le-leb, lt-leb}
-use lib.ListN.{length, take, drop}
-use lib.Seq.{take-at}
+use lib.ListN.{length, drop}
 use Rattle.texts.specs.Buffer.{pasted, Wrote}
 use Rattle.listing.specs.Buffer.{lineRoom, lineLength, afterLine}
 

@@ -1,9 +1,7 @@
 -- Lines of numbered sentences, computed.
 use mathlib.Core.Path.{_≡_, refl}
 use mathlib.Core.Option.{none, some}
-use lib.ListN.{length}
-use Rattle.calls.specs.declared.Answer.{Answer}
-use Rattle.calls.specs.declared.Call.the-variants.{CreateThread, Yield, Abort, Grant}
+use Rattle.calls.specs.declared.Call.the-variants.{CreateThread, Yield, Abort}
 use Rattle.calls.specs.Answers.{plain, counted}
 use Rattle.texts.specs.Text.{bytes}
 use Rattle.texts.specs.Decimal.{lastDigits, decimal}

@@ -2,7 +2,7 @@
 // Each is a few stores, and does to whatever state the words show what its name says of the machine's state.
 ghost use mathlib.Core.Path.{_≡_};
 ghost use mathlib.Core.Bool.{true, false};
-ghost use Prim.Native.Nat.{_≤_, _<_};
+ghost use Prim.Native.Nat.{_<_};
 ghost use lib.ListN.{length};
 ghost use Rattle.layout.specs.Addresses.{tableWords};
 ghost use Rattle.store.specs.Steps.{Shown, Does, Tells};
