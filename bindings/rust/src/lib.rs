@@ -139,7 +139,12 @@ impl Core {
     /// Takes a call. Tables and grants are checked first, every time.
     #[inline]
     pub fn call(&mut self, call: impl Into<Numbers>) -> Answer {
-        let call = call.into();
+        self.call_numbers(&call.into())
+    }
+
+    /// The same of numbers that are at hand, whether they name a call or not; they are not copied.
+    #[inline]
+    pub fn call_numbers(&mut self, call: &Numbers) -> Answer {
         let mut answer = Answer::default();
         // SAFETY: the slices, the call and the answer are apart, and `repr(C)` gives six words and four.
         let code = unsafe {
@@ -150,7 +155,7 @@ impl Core {
                 self.grants.len(),
                 self.scratch.as_mut_ptr(),
                 self.scratch.len(),
-                &call,
+                call,
                 &mut answer,
             )
         };

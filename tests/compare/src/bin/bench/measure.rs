@@ -95,7 +95,7 @@ impl Bench {
             Work::GrantsSum => seen(sum(grants)),
             Work::Fresh => seen(self.core.fresh()),
             Work::Check | Work::TablesRefused | Work::GrantsRefused => seen(self.core.check()),
-            Work::Call => seen(self.core.call(black_box(&self.numbers))),
+            Work::Call => seen(self.core.call_numbers(black_box(&self.numbers))),
             Work::SecondCheck => seen(self.machine.sound()),
             Work::SecondCall => {
                 seen(self.machine.sound());
