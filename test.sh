@@ -19,8 +19,8 @@ need cargo "Rust (1.78 or newer)"
 need cc "a C compiler"
 need c++ "a C++ compiler"
 
-# Edits are tried in batches, and a batch waits for its slowest: three for each processor keep all at work.
-export RT_JOBS="${RT_JOBS:-$(($(nproc) * 3))}"
+# One check for each processor: more at a time share its cache, and each then takes half as long again.
+export RT_JOBS="${RT_JOBS:-$(nproc)}"
 
 passed=0
 failed=0
