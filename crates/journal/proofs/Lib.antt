@@ -6,5 +6,6 @@ pub mod Causes
 pub mod Outcomes
 pub mod RoundTrip
 pub mod Refusals
+pub mod Further
 pub mod Appended
 pub mod Answers

@@ -50,3 +50,8 @@ courseFrom (suc n) Ended i journal g s = standing none i s
 -- From fresh tables and grants. Each call takes a word at least, so the journal has no more calls than words.
 unfoldable pub courseOf : List ℕ → Course
 courseOf journal = courseFrom (suc (length journal)) (readAt journal 0) 0 journal freshGrants freshState
+
+-- What a course's `stop` is as a number: the reader's 18 or 19, or 0 where all words have been read.
+abbrev pub stopCode : Option ℕ → ℕ
+stopCode none = 0
+stopCode (some code) = code

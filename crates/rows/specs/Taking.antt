@@ -1,4 +1,5 @@
 -- The next row of a journal's listing: what the reader's answer comes to on the lent memory.
+use Prim.Native.Nat.{ℕ}
 use Rattle.calls.specs.declared.Runner.{Runner}
 use Rattle.journal.specs.declared.types.Read.{Read}
 use Rattle.journal.specs.declared.types.Read.the-variants.{Found, Refused, Ended}
@@ -26,3 +27,9 @@ turned (Found c next) l =
     }
 turned (Refused code at) l = record { turn = Stopped code (runnerIn (l .tables)); left = l }
 turned Ended l = record { turn = Over; left = l }
+
+-- The reader's number where a turn stopped, else 0.
+abbrev pub codeOf : Turn → ℕ
+codeOf (Took c a who next) = 0
+codeOf (Stopped code who) = code
+codeOf Over = 0

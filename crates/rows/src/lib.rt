@@ -2,7 +2,7 @@
 ghost use mathlib.Core.Path.{_≡_};
 ghost use Rattle.journal.specs.Words.{readAt};
 ghost use Rattle.lent_tables.specs.Entries.{lent};
-ghost use Rattle.rows.specs.Taking.{untaken, Turned, turned};
+ghost use Rattle.rows.specs.Taking.{untaken, Turned, turned, codeOf};
 use calls::Answer;
 use calls::Call;
 use calls::Runner;
@@ -58,5 +58,21 @@ pub fn next(
         answer,
         who: lent_tables::who::running(tables),
         next,
+    }
+}
+
+// The reader's number where a turn stopped, else 0.
+pub fn code(turn: Turn) -> u32
+    ensures { λ r. ⌜ r ≡ codeOf turn ⌝ }
+{
+    match turn {
+        Turn::Stopped { code, who: _ } => code,
+        Turn::Over => calls::codes::DONE,
+        Turn::Took {
+            call: _,
+            answer: _,
+            who: _,
+            next: _,
+        } => calls::codes::DONE,
     }
 }
