@@ -1,7 +1,7 @@
 // Document 01's numbers by name.
 
 // The codes of answers. The first three are of accepted calls, the others of refused ones, in the order in which the
-// causes are tried, but for the last.
+// causes are tried, but for the last two.
 pub const DONE: u32 = 0;
 
 pub const BLOCKED: u32 = 1;
@@ -37,6 +37,9 @@ pub const LINE_TAKEN: u32 = 27;
 
 // A right or the granted badge is lacking. It is tried right after 20.
 pub const NO_RIGHT: u32 = 29;
+
+// No call's: a journal, a rate or counts beyond what is counted for a bill. It is tried first.
+pub const LIMITS: u32 = 30;
 
 // The outcomes of a thread: how its last waiting ended; none where it has not waited, or waits now.
 pub const NO_OUTCOME: u32 = 0;

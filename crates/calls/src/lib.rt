@@ -1,7 +1,7 @@
 // The thirteen calls and their answer. What the calls do, the queue machine, stands in crate machine.
 ghost use mathlib.Core.Path.{_≡_};
 ghost use Rattle.calls.specs.Calls.{numberOf, isAllowance, inRange};
-ghost use Rattle.calls.specs.Answers.{plain, counted};
+ghost use Rattle.calls.specs.Answers.{plain, counted, threadOf, seat};
 
 pub mod codes;
 pub mod sizes;
@@ -91,6 +91,16 @@ pub fn counted(code: u32, count: u32) -> Answer
 pub enum Runner {
     Nobody,
     Thread(u32),
+}
+
+// Who runs as one number, 256 for nobody.
+pub fn seat(who: Runner) -> u32
+    ensures { λ r. ⌜ r ≡ seat (threadOf who) ⌝ }
+{
+    match who {
+        Runner::Nobody => codes::NO_SEAT,
+        Runner::Thread(thread) => thread,
+    }
 }
 
 // The call's number, 1 to 13.

@@ -1,6 +1,6 @@
 -- The number of who runs.
 use Prim.Native.Nat.{ℕ, _≤_}
-use mathlib.Core.Path.{_≡_, refl, sym, ap, _∙_}
+use mathlib.Core.Path.{_≡_, refl}
 use mathlib.Core.List.{List}
 use mathlib.Core.Option.{some}
 use native.Mathlib.Omega.{arith}
@@ -10,9 +10,6 @@ use Rattle.calls.specs.Answers.{threadOf}
 use Rattle.lent_tables.specs.Entries.{runnerIn}
 use Rattle.lent_tables.proofs.Runner.{running-within}
 use Rattle.core_c.specs.Entries.{runnerNumber}
-
-pub numbered : (m : List ℕ) (r k : Runner) → r ≡ runnerIn m → r ≡ k → runnerNumber k ≡ runnerNumber (runnerIn m)
-numbered m r k e g = ap runnerNumber (sym g ∙ e)
 
 -- "The thread that runs, or 256", whatever the words are.
 pub within : (m : List ℕ) → runnerNumber (runnerIn m) ≤ 256

@@ -13,7 +13,6 @@ ghost use Rattle.numbers.specs.declared.types.Reading.{Reading};
 ghost use Rattle.numbers.specs.Journal.{reading, writtenFor};
 ghost use Rattle.core_c.specs.Entries.{Answered, calledFor, answered, runnerNumber, three};
 use calls::Answer;
-use calls::Runner;
 use journal::types::Named;
 
 // Tables of 4,096 words and grants of 16,384 become fresh.
@@ -117,10 +116,7 @@ pub extern "C" fn nazsombet_write(call: &[u32; 6], words: &mut [u32; 3], count: 
 pub extern "C" fn nazsombet_running(tables: &[u32]) -> u32
     ensures { λ r. ⌜ r ≡ runnerNumber (runnerIn (now (tables .entry))) ⌝ }
 {
-    match lent_tables::who::running(tables) {
-        Runner::Nobody => calls::codes::NO_SEAT,
-        Runner::Thread(thread) => thread,
-    }
+    calls::seat(lent_tables::who::running(tables))
 }
 
 // How a thread's last waiting ended: outcome, badge and message, whatever the words are.

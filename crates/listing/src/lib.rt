@@ -2,7 +2,6 @@
 // Which bytes they are stands in specs/Line.antt; that different lines are different bytes stands in proofs/Apart.antt.
 ghost use mathlib.Core.Path.{_≡_};
 ghost use Rattle.calls.specs.Answers.{threadOf};
-ghost use Rattle.texts.specs.Decimal.{spaced};
 ghost use Rattle.texts.specs.Buffer.{Room, Wrote, Counts};
 ghost use Rattle.listing.specs.Line.{answerText, runner, lineOf, header, rowOf};
 ghost use Rattle.listing.specs.Buffer.{lineLength, afterLine};
@@ -20,25 +19,15 @@ pub struct Listed {
 // Room for every line, whatever its numbers; the longest has 87 bytes.
 pub const ROOM: usize = 96;
 
-// A number and the space after it.
-fn field(out: &mut [u8], at: usize, n: u64) -> usize
-    requires { ⌜ Room (now out) at (spaced n) ⌝ }
-    ensures { λ r. ⌜ Wrote (now (out .entry)) at (spaced n) r (now (out .exit)) ⌝ }
-{
-    let end = texts::number(out, at, n);
-    out[end] = b' ';
-    end + 1
-}
-
 // The four numbers of an answer.
 fn fields(out: &mut [u8], at: usize, a: Answer) -> usize
     requires { ⌜ Room (now out) at (answerText a) ⌝ }
     ensures { λ r. ⌜ Wrote (now (out .entry)) at (answerText a) r (now (out .exit)) ⌝ }
 {
-    let count_at = field(out, at, a.code as u64);
-    let badge_at = field(out, count_at, a.count as u64);
-    let message_at = field(out, badge_at, a.badge as u64);
-    field(out, message_at, a.message as u64)
+    let count_at = texts::field(out, at, a.code as u64);
+    let badge_at = texts::field(out, count_at, a.count as u64);
+    let message_at = texts::field(out, badge_at, a.badge as u64);
+    texts::field(out, message_at, a.message as u64)
 }
 
 // Who runs: a thread, or the sign - for nobody.
@@ -64,8 +53,8 @@ pub fn line(out: &mut [u8], l: Listed) -> usize
     if out.len() < ROOM {
         return 0;
     }
-    let call_at = field(out, 0, l.index);
-    let answer_at = field(out, call_at, l.call as u64);
+    let call_at = texts::field(out, 0, l.index);
+    let answer_at = texts::field(out, call_at, l.call as u64);
     let running_at = fields(out, answer_at, l.answer);
     let running = l.running;
     let end = who(out, running_at, running);

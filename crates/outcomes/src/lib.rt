@@ -25,6 +25,7 @@ fn cause(out: &mut [u8], at: usize, code: u32) -> usize
         27 => texts::say(out, at, b", the line has a waiter"),
         28 => texts::say(out, at, b", buffer too short"),
         29 => texts::say(out, at, b", lacks right or badge"),
+        30 => texts::say(out, at, b", too much to bill"),
         _ => at,
     }
 }

@@ -1,7 +1,7 @@
 // Texts made into a lent buffer, one behind the other: numbers in decimal, and bytes as they are.
 ghost use mathlib.Core.Path.{_≡_};
 ghost use lib.ListN.{length};
-ghost use Rattle.texts.specs.Decimal.{decimal};
+ghost use Rattle.texts.specs.Decimal.{decimal, spaced};
 ghost use Rattle.texts.specs.Buffer.{Room, Wrote};
 
 // How many digits n has.
@@ -32,6 +32,16 @@ pub fn number(out: &mut [u8], at: usize, n: u64) -> usize
     }
     out[i] = left as u8 + b'0';
     end
+}
+
+// A number and the space after it.
+pub fn field(out: &mut [u8], at: usize, n: u64) -> usize
+    requires { ⌜ Room (now out) at (spaced n) ⌝ }
+    ensures { λ r. ⌜ Wrote (now (out .entry)) at (spaced n) r (now (out .exit)) ⌝ }
+{
+    let end = number(out, at, n);
+    out[end] = b' ';
+    end + 1
 }
 
 // A text at a place of the buffer; the next place.

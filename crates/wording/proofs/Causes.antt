@@ -28,16 +28,16 @@ behind-empty [] n h = refl
 behind-empty (x ∷ l) zero h = absurd (omega (arith, h))
 behind-empty (x ∷ l) (suc n) h = behind-empty l n (omega (arith, h))
 
-pub uncaused-above : (n : ℕ) → 30 ≤ n → cause n ≡ []
+pub uncaused-above : (n : ℕ) → 31 ≤ n → cause n ≡ []
 unfolding cause
 uncaused-above n h = behind-empty (replicate 16 [] ++ causes) n h
 
-pub uncaused : (n : ℕ) → NoneOf 16 14 n → cause n ≡ []
+pub uncaused : (n : ℕ) → NoneOf 16 15 n → cause n ≡ []
 unfolding cause
 uncaused n h = go (leb 16 n) refl
   where
     go : (b : Bool) → leb 16 n ≡ b → cause n ≡ []
-    go true e = uncaused-above n (above 16 14 n h (leb-true 16 n e))
+    go true e = uncaused-above n (above 16 15 n h (leb-true 16 n e))
     go false e = front-empty 16 n causes (leb-false 16 n e)
 
 -- What holds of the empty text and of every cause in the list holds of the cause of every number.

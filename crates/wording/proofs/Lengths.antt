@@ -82,11 +82,11 @@ cause-short n = leb-true _ 23 (each-cause (λ (l : List ℕ). leb (length l) 23)
 
 -- A number with a cause has two digits; one with more has no cause.
 numbered-short : (n : ℕ) → n < 2 ^ 32 → length (decimal n) + length (cause n) ≤ 25
-numbered-short n h = go (leb 30 n) refl
+numbered-short n h = go (leb 31 n) refl
   where
-    go : (b : Bool) → leb 30 n ≡ b → length (decimal n) + length (cause n) ≤ 25
-    go true e = rw (uncaused-above n (leb-true 30 n e)) (omega (arith, word-short n h))
-    go false e = omega (arith, cause-short n, length-below 1 n (omega (arith, leb-false 30 n e)))
+    go : (b : Bool) → leb 31 n ≡ b → length (decimal n) + length (cause n) ≤ 25
+    go true e = rw (uncaused-above n (leb-true 31 n e)) (omega (arith, word-short n h))
+    go false e = omega (arith, cause-short n, length-below 1 n (omega (arith, leb-false 31 n e)))
 
 outcome-short : (n : ℕ) → n < 2 ^ 32 → length (outcome n) ≤ 36
 unfolding bytes outcome

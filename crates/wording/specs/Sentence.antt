@@ -35,7 +35,7 @@ request (Grant t e r b) =
     bytes "Grant thread " ++ decimal t ++ bytes " rights " ++ decimal r ++ bytes " at endpoint " ++ decimal e
     ++ bytes " under badge " ++ decimal b
 
--- Why, of the numbers 16 to 29.
+-- Why, of the numbers 16 to 30.
 abbrev pub causes : List (List ℕ)
 causes =
     bytes ", wrong memory length"
@@ -52,6 +52,7 @@ causes =
     ∷ bytes ", the line has a waiter"
     ∷ bytes ", buffer too short"
     ∷ bytes ", lacks right or badge"
+    ∷ bytes ", too much to bill"
     ∷ []
 
 -- Nothing where the number has no cause.

@@ -118,6 +118,7 @@ fn outcome(code: u32) -> String {
         27 => "the line has a waiter",
         28 => "buffer too short",
         29 => "lacks right or badge",
+        30 => "too much to bill",
         _ => return format!("refused by {code}"),
     };
     format!("refused by {code}, {cause}")

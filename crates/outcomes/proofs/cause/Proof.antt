@@ -134,6 +134,15 @@ say-requires-14 c κs =
     let at-match = c .before .before in
     room-is (ap cause (at-match .match .keys14)) (at-match .before .before .pre)
 
+slice-aggregate-say-15 : tie.Need-slice-aggregate-say-15
+slice-aggregate-say-15 c = search needs
+
+say-requires-15 : tie.Need-say-requires-15
+unfolding bytes cause
+say-requires-15 c κs =
+    let at-match = c .before .before in
+    room-is (ap cause (at-match .match .keys15)) (at-match .before .before .pre)
+
 same-length : tie.Need-same-length
 same-length c = search needs
 
@@ -274,8 +283,18 @@ returns-14 c =
     let at-match = at-say14 .before .before .before in
     wrote-is (sym (ap cause (at-match .match .keys14))) (at-say14 .say14 .ensures)
 
+same-length-15 : tie.Need-same-length-15
+same-length-15 c = search needs
+
 returns-15 : tie.Need-returns-15
+unfolding bytes cause
 returns-15 c =
+    let at-say15 = c .before .before in
+    let at-match = at-say15 .before .before .before in
+    wrote-is (sym (ap cause (at-match .match .keys15))) (at-say15 .say15 .ensures)
+
+returns-16 : tie.Need-returns-16
+returns-16 c =
     wrote-is (sym (uncaused _ (c .match .rest))) (wrote-nothing _ _)
 
 pub cause-spec : {M : Type 1} → statement M
@@ -310,6 +329,8 @@ cause-spec =
     say-requires-13
     slice-aggregate-say-14
     say-requires-14
+    slice-aggregate-say-15
+    say-requires-15
     same-length
     returns
     same-length-2
@@ -338,4 +359,6 @@ cause-spec =
     returns-13
     same-length-14
     returns-14
-    returns-15)
+    same-length-15
+    returns-15
+    returns-16)

@@ -3,11 +3,11 @@ use mathlib.Core.Path.{refl}
 use mathlib.Core.List.{[], _∷_}
 use native.Mathlib.Omega.{arith}
 use borrow.Author.Needs.{needs}
 use Rattle.texts.specs.Decimal.{decimal, spaced}
 use Rattle.texts.specs.Buffer.{Room}
 use Rattle.texts.proofs.Writing.{front-room, rest-room, in-turn, wrote-byte}
-use Rattle.listing.proofs.field.Statement.{statement}
-use Rattle.listing.proofs.field.Tie as tie
+use Rattle.texts.proofs.field.Statement.{statement}
+use Rattle.texts.proofs.field.Tie as tie
 
 number-requires : tie.Need-number-requires
 unfolding spaced
