@@ -3,9 +3,6 @@
 ghost use Prim.Native.Nat.{_<_};
 ghost use mathlib.Core.Path.{_≡_};
 ghost use lib.ListN.{length};
-
-mod output;
-
 use forms::Form;
 use lister::Lister;
 
@@ -40,7 +37,7 @@ fn list(
     let mut out = [0u8; TEXT];
     let fed = lister::feed(form, l, part, tables, grants, scratch, &mut out);
     let used = fed.used;
-    let shown = output::show(&out[..used]);
+    let shown = files::show(&out[..used]);
     let after = fed.lister;
     Stage {
         lister: after,
@@ -55,24 +52,16 @@ fn turn(form: Form, l: Lister, tables: &mut [u32], grants: &mut [u32], scratch: 
     ensures { λ r. ⌜ (r .lister .held < 12) × (length (r .lister .bytes) ≡ 12) ⌝ }
 {
     let mut part = [0u8; PART];
-    let got = libc::read(libc::STDIN_FILENO, &mut part);
-    if got < 0 {
-        output::complain(b"nazsombet: standard input could not be read\n");
+    let got = files::part(&mut part);
+    let used = got.used;
+    if used == 0 {
         return Stage {
             lister: l,
             going: false,
-            ended: false,
+            ended: !got.failed,
         };
     }
-    if got == 0 {
-        return Stage {
-            lister: l,
-            going: false,
-            ended: true,
-        };
-    }
-    let n = io::count(got, &part);
-    list(form, l, &part[..n], tables, grants, scratch)
+    list(form, l, &part[..used], tables, grants, scratch)
 }
 
 // Writes the last line, if the bytes still held ask for one.
@@ -81,13 +70,19 @@ fn finish(form: Form, l: Lister, tables: &[u32])
 {
     let mut out = [0u8; forms::ROOM];
     let n = lister::finish(form, l, tables, &mut out);
-    output::show(&out[..n]);
+    files::show(&out[..n]);
+}
+
+fn header() -> bool {
+    let mut line = [0u8; listing::ROOM];
+    let n = listing::head(&mut line);
+    files::show(&line[..n])
 }
 
 // Lines have a header, and sentences have none.
 fn begin(form: Form) -> bool {
     match form {
-        Form::Lines => output::header(),
+        Form::Lines => header(),
         Form::Sentences => true,
         Form::Numbered => true,
     }

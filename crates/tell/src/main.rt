@@ -19,8 +19,5 @@ fn main() {
         stream::run(Form::Numbered);
         return;
     }
-    io::write_all(
-        libc::STDERR_FILENO,
-        b"nazsombet: tell takes the argument -n or none\n",
-    );
+    files::complain(b"nazsombet: tell takes the argument -n or none\n");
 }

@@ -4,6 +4,7 @@
 ghost use mathlib.Core.Path.{_≡_};
 ghost use Rattle.journal.specs.Steps.{callNamed};
 ghost use Rattle.texts.specs.Filed.{Filed};
+ghost use Rattle.billing.specs.Ticks.{Counted, countFor};
 ghost use Rattle.tools_c.specs.Entries.{answerIn, sentenceNamed, sentenceIn};
 use calls::Answer;
 use journal::types::Named;
@@ -50,4 +51,13 @@ pub extern "C" fn nazsombet_sentence(
     let told = sentence_named(out, named, answer_in(*answer));
     *used = told.used;
     told.code
+}
+
+// Counts the ticks of a journal for each thread number and, last, the idle ones.
+#[no_mangle]
+pub extern "C" fn nazsombet_count_ticks(journal: &[u32], rate: u32, counts: &mut [u32]) -> u32
+    ensures { λ r. ⌜ _≡_ {A = Counted} (record { code = r; counts = now (counts .exit) })
+        (countFor (now (journal .entry)) rate (now (counts .entry))) ⌝ }
+{
+    ticks::count(journal, rate, counts)
 }
