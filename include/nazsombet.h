@@ -81,7 +81,7 @@ extern "C" {
 #endif
 
 /* Release 7, with the first five of its change requests: a request more, or another release, is another text here. */
-#define NAZSOMBET_RELEASE "7.5"
+#define NAZSOMBET_RELEASE "7.6"
 
 /* The words of the tables, of the grants and of the scratch. */
 #define NAZSOMBET_TABLES 4096

@@ -6,12 +6,12 @@
  *
  *     cc -std=c99 -Iinclude -o host host.c libcore_c.a libtools_c.a
  *
- * It uses nothing of the C library. What the function answers and leaves, for all lengths and contents, is proved of
- * its source, crates/tools_c/src/lib.rt. That this declaration fits it is tested only.
+ * Of the C library it uses memcpy and memset alone. What each function answers and leaves, for all lengths and contents,
+ * is proved of its source, crates/tools_c/src/lib.rt. That these declarations fit it is tested only.
  *
- * It asks neither tables nor grants. It keeps no pointer and no state between two calls, allocates nothing and does no
+ * They ask neither tables nor grants. They keep no pointer and no state between two calls, allocate nothing and do no
  * input or output. What nazsombet.h says of pointers and threads holds here too. What it says of a kernel was tried of
- * the core alone, but for the stack that a sentence takes.
+ * the core alone, but for the stack that they take.
  */
 #ifndef NAZSOMBET_TOOLS_H
 #define NAZSOMBET_TOOLS_H
@@ -26,7 +26,8 @@ extern "C" {
 #define NAZSOMBET_SENTENCE_ROOM 160
 
 /* Answered besides the numbers of nazsombet.h. */
-#define NAZSOMBET_SHORT 28 /* the buffer is too short, also where this line would fit */
+#define NAZSOMBET_SHORT 28  /* the buffer is too short, also where this line would fit */
+#define NAZSOMBET_LIMITS 30 /* journal, rate or counts beyond what is billed */
 
 /*
  * Writes a call and its answer as one line of English to the front of a buffer, such as
@@ -41,6 +42,25 @@ extern "C" {
  */
 uint32_t nazsombet_sentence(const struct nazsombet_numbers *call, const struct nazsombet_answer *answer, uint8_t *out,
                             size_t out_length, size_t *used);
+
+/* What is billed: so many counts, a journal of so many words at most, and so many cents for 1,000 ticks at most. */
+#define NAZSOMBET_COUNTS 257 /* threads 0 to 255, then idle */
+#define NAZSOMBET_BILLED_WORDS 16000
+#define NAZSOMBET_HIGHEST_RATE 10000
+
+/*
+ * Makes the calls of a journal in turn, on fresh tables and grants of its own, and counts for each thread number the
+ * ticks that were accepted while it ran, that is, at which it was running just before; counts[256] has those that found
+ * nobody running. The counts together are the journal's ticks. docs/MANUAL.md has what they cost; the rate is only
+ * tried.
+ * 0: all 257 counts are written over. Refused, in this order: 30, journal_length is above 16,000, rate is above 10,000
+ * or counts_length is not 257; 18, a word of the journal does not read as a call; 19, a number of a call is out of its
+ * range. With these three every count is as it was.
+ * By the watermark, as nazsombet.h has it, nazsombet_count_ticks takes 84304 bytes of stack, the tables and grants among
+ * them: it is for an office, and not for the box.
+ */
+uint32_t nazsombet_count_ticks(const uint32_t *journal, size_t journal_length, uint32_t rate, uint32_t *counts,
+                               size_t counts_length);
 
 #ifdef __cplusplus
 }

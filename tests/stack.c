@@ -26,17 +26,18 @@ enum {
     GRANTS = NAZSOMBET_GRANTS,
     SCRATCH = NAZSOMBET_SCRATCH,
     ROOM = NAZSOMBET_SENTENCE_ROOM,
-    STACK = 8192,
+    STACK = 1 << 17,
     ARGUMENTS = 8, /* six in registers, two on the stack */
     LAST = 255,    /* thread */
     ALL = 65535    /* allowance */
 };
 
-enum entry { FRESH, CHECK, CALL, READ, WRITE, RUNNING, WOKEN, SENTENCE, ENTRIES };
+enum entry { FRESH, CHECK, CALL, READ, WRITE, RUNNING, WOKEN, SENTENCE, COUNT_TICKS, ENTRIES };
 
 static const char *const names[ENTRIES] = {
     "nazsombet_fresh", "nazsombet_check",   "nazsombet_call",  "nazsombet_read",
     "nazsombet_write", "nazsombet_running", "nazsombet_woken", "nazsombet_sentence",
+    "nazsombet_count_ticks",
 };
 
 static void complain(const char *what)
@@ -189,6 +190,8 @@ static void play(const char *name)
         make(call);
     if (check() != NAZSOMBET_DONE)
         complain("a journal leaves tables that are not sound");
+    static uint32_t counts[NAZSOMBET_COUNTS];
+    ON_STACK(COUNT_TICKS, nazsombet_count_ticks, AT(journal), length, 1, AT(counts), NAZSOMBET_COUNTS);
 }
 
 static struct nazsombet_numbers grant(uint32_t thread, uint32_t badge)

@@ -1,6 +1,6 @@
 #!/bin/sh
 # stack.sh: the stack that each entry takes, by the watermark that it leaves on a painted one, is at most what
-# include/nazsombet.h says of it. Builds the tools' library, and needs the core's, which tests/c.sh builds. memset is
+# the headers say of it. Builds the tools' library, and needs the core's, which tests/c.sh builds. memset is
 # bound when the program starts (-z now): to bind it in a call takes stack of its own. The last line is 'stack: N
 # passed, M failed'; the exit status is 0 only where nothing failed.
 set -eu
@@ -12,7 +12,7 @@ passed=0
 failed=0
 target/stack tests/journals/*.words >target/stack.marks
 while read -r entry bytes; do
-    said=$(sed -n "s/.* $entry takes \([0-9]*\).*/\1/p" include/nazsombet.h)
+    said=$(sed -n "s/.* $entry takes \([0-9]*\).*/\1/p" include/nazsombet.h include/nazsombet_tools.h)
     if [ "$bytes" -le "${said:-0}" ]; then
         echo "$entry: $bytes bytes of stack, and the header says $said"
         passed=$((passed + 1))

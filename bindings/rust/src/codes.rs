@@ -27,3 +27,5 @@ pub const BADGE_ABORTED: u32 = 26;
 pub const LINE_TAKEN: u32 = 27;
 /// Send, receive, delete, abort: the thread lacks the right, or a send's badge.
 pub const NO_RIGHT: u32 = 29;
+/// Of the tools: journal, rate or counts beyond what is billed.
+pub const LIMITS: u32 = 30;

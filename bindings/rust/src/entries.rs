@@ -53,4 +53,11 @@ extern "C" {
         out_length: usize,
         used: *mut usize,
     ) -> u32;
+    pub fn nazsombet_count_ticks(
+        journal: *const u32,
+        journal_length: usize,
+        rate: u32,
+        counts: *mut u32,
+        counts_length: usize,
+    ) -> u32;
 }

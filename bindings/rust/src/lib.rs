@@ -22,13 +22,17 @@ pub mod outcomes;
 pub mod rights;
 #[cfg(feature = "tools")]
 mod sentence;
+#[cfg(feature = "tools")]
+mod ticks;
 
 pub use call::{Call, Numbers};
 #[cfg(feature = "tools")]
 pub use sentence::sentence;
+#[cfg(feature = "tools")]
+pub use ticks::{count_ticks, COUNTS, IDLE};
 
 /// The release that this binding is of, NAZSOMBET_RELEASE of the header. Stored tables and grants are of one release.
-pub const RELEASE: &str = "7.5";
+pub const RELEASE: &str = "7.6";
 
 /// The version of this package: the release, and a third number of the binding's own.
 pub const VERSION: &str = env!("CARGO_PKG_VERSION");
