@@ -21,6 +21,11 @@ const fn words() -> [u8; 256] {
 
 const LOW: u32 = (1 << 28) - 1;
 
+/// The whole words of a journal's bytes.
+pub fn words_in(bytes: &[u8]) -> Vec<u32> {
+    bytes.chunks_exact(4).map(|b| u32::from_le_bytes([b[0], b[1], b[2], b[3]])).collect()
+}
+
 /// What the reader gives.
 #[derive(Clone, Copy, Debug, PartialEq, Eq)]
 pub enum Read {

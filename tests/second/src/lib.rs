@@ -1,8 +1,9 @@
 //! A second kernel core for comparison: 256 threads, 64 endpoints,
 //! 256 priorities, 32 interrupt lines, thirteen calls, rights at endpoints,
-//! the journal, its listing and its telling in sentences.
+//! the journal, its listing, its telling in sentences and its bill.
 
 mod abort;
+mod bill;
 mod call;
 mod grants;
 mod journal;
@@ -12,6 +13,7 @@ mod queue;
 mod set;
 mod situation;
 mod sound;
+pub mod spelling;
 mod steer;
 mod stories;
 mod sweep;
@@ -21,6 +23,7 @@ mod telling;
 mod turns;
 mod words;
 
+pub use bill::bill;
 pub use call::{Answer, Call, Numbers};
 pub use grants::{grant_name, sound_grants, Grant, ABORT, DELETE, GRANTS, RECEIVE, SEND};
 pub use journal::{call_of, read, write, Read, Written, WORDS};

@@ -1,7 +1,7 @@
 //! A journal run from fresh tables, call by call.
 
 use crate::call::{Answer, Call};
-use crate::journal::{read, Read};
+use crate::journal::{read, words_in, Read};
 use crate::machine::Machine;
 
 /// A call that was made, or a word that is none; with the thread that runs then.
@@ -12,8 +12,7 @@ pub enum Turn {
 
 /// The turns of a journal's bytes, up to the first that stops it.
 pub fn turns(bytes: &[u8]) -> Vec<Turn> {
-    let words: Vec<u32> =
-        bytes.chunks_exact(4).map(|b| u32::from_le_bytes([b[0], b[1], b[2], b[3]])).collect();
+    let words = words_in(bytes);
     let mut machine = Machine::fresh();
     let mut turns = Vec::new();
     let mut at = 0;

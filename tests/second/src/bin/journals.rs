@@ -2,68 +2,13 @@
 //! listing, NAME.txt, the telling, NAME.told, and the numbered telling,
 //! NAME.numbered. What each is for stands in the folder's README.
 
+use second::spelling::{
+    abort, create, delete, destroy, endpoint, grant, interrupt, priority, receive, send, ticks,
+    wait, yields, Words,
+};
 use second::{listing, numbered_telling, telling, write};
 use second::{Machine, Steer, ABORT, DELETE, RECEIVE, SEND};
 use std::{env, fs, io, path::Path};
-
-/// A call's words; its numbers may be out of range.
-type Words = Vec<u32>;
-
-fn one(number: u32, subject: u32, argument: u32) -> Words {
-    vec![(0x10 + number) << 24 | subject << 16 | argument]
-}
-
-fn create(thread: u32, priority: u32) -> Words {
-    one(1, thread, priority)
-}
-
-fn destroy(thread: u32) -> Words {
-    one(2, thread, 0)
-}
-
-fn priority(thread: u32, priority: u32) -> Words {
-    one(3, thread, priority)
-}
-
-fn endpoint(endpoint: u32) -> Words {
-    one(4, endpoint, 0)
-}
-
-fn interrupt(line: u32) -> Words {
-    one(5, line, 0)
-}
-
-fn ticks(count: usize) -> Words {
-    one(6, 0, 0).repeat(count)
-}
-
-fn send(endpoint: u32, badge: u32, message: u32) -> Words {
-    [one(7, endpoint, 0), vec![0x2000_0000 + badge, 0x3000_0000 + message]].concat()
-}
-
-fn receive(endpoint: u32) -> Words {
-    one(8, endpoint, 0)
-}
-
-fn yields() -> Words {
-    one(9, 0, 0)
-}
-
-fn wait(line: u32) -> Words {
-    one(10, line, 0)
-}
-
-fn delete(endpoint: u32, allowance: u32) -> Words {
-    one(11, endpoint, allowance)
-}
-
-fn abort(endpoint: u32, allowance: u32, badge: u32) -> Words {
-    [one(12, endpoint, allowance), vec![0x2000_0000 + badge]].concat()
-}
-
-fn grant(thread: u32, endpoint: u32, rights: u32, badge: u32) -> Words {
-    [one(13, thread, rights << 8 | endpoint), vec![0x2000_0000 + badge]].concat()
-}
 
 /// A new thread with rights at an endpoint.
 fn holder(thread: u32, priority: u32, endpoint: u32, rights: u32, badge: u32) -> Words {
