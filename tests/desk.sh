@@ -1,7 +1,7 @@
 #!/bin/sh
-# desk.sh: tries the desk's command ./nazsombet, in sh and in bash: what it lists and tells, and that every failure
-# has its status and its sentence. The last line is 'desk: N passed, M failed'; the exit status is 0 only where nothing
-# failed.
+# desk.sh: tries the desk's command ./nazsombet, in sh and in bash: what it lists, tells and bills, and that every
+# failure has its status and its sentence. The last line is 'desk: N passed, M failed'; the exit status is 0 only where
+# nothing failed.
 set -u
 cd "$(dirname "$0")/.." || exit 2
 work=$(mktemp -d) || exit 2
@@ -62,6 +62,11 @@ from_input() { desk list <"$example.words"; }
 told_from_input() { desk tell <"$example.words"; }
 from_nothing() { desk list <&-; }
 told_from_nothing() { desk tell <&-; }
+billed_from_input() { desk bill 500 <"$work/billed.words"; }
+billed_from_nothing() { desk bill 500 <&-; }
+billed_from_folder() { desk bill 500 <tests; }
+billed_without_signal() { (trap '' PIPE && desk bill 500 "$work/long.words"); }
+billed_by_pipe() { dd if="$work/long.words" 2>/dev/null | desk bill 500; }
 words_from_nothing() { desk words <&-; }
 hex_from_nothing() { desk hex <&-; }
 to_full() { desk "$@" >/dev/full; }
@@ -109,7 +114,7 @@ make_box() {
     sed '/define NAZSOMBET_RELEASE/d' include/nazsombet.h >"$1/include/nazsombet.h"
     echo '#define NAZSOMBET_RELEASE "7.99"' >>"$1/include/nazsombet.h"
     cp docs/nazsombet.1 "$1/docs"
-    cp target/bin/trace target/bin/tell "$1/target/bin"
+    cp target/bin/trace target/bin/tell target/bin/bill "$1/target/bin"
     cp target/staticlib/libcore_c.a target/staticlib/libtools_c.a "$1/target/staticlib"
 }
 
@@ -149,6 +154,20 @@ printf '==> %s <==\n' tests/journals/incident.words >"$work/heading2"
 cat "$work/heading" "$example.txt" "$work/heading2" tests/journals/incident.txt >"$work/both"
 cat "$work/heading" "$example.told" "$work/heading2" tests/journals/incident.told >"$work/both_told"
 cat "$work/heading" "$example.txt" >"$work/headed"
+dd bs=4 skip=1 if=tests/bills/example.input of="$work/billed.words" 2>/dev/null
+for number in 18 19 30; do
+    echo "$number" >"$work/$number"
+done
+{
+    printf '==> %s <==\n' "$work/billed.words"
+    cat tests/bills/example.bill
+    printf '==> %s <==\n' tests/journals/odd.words
+    cat "$work/18"
+} >"$work/both_billed"
+# More than the program reads, and than a pipe holds.
+for _ in 1 2 3 4 5 6 7; do
+    cat tests/journals/long.words
+done >"$work/long.words"
 {
     echo 'n call code count badge message running'
     printf '%s\n' '0 1 0 0 0 0 3' '1 4 0 0 0 0 3' '2 13 0 0 0 0 3' '3 8 1 0 0 0 -'
@@ -211,6 +230,57 @@ try_shows() {
     output_is "$example.txt"
 }
 
+# Bills, the rates that there are, and what gets a number for a bill.
+try_bills() {
+    for rate in 500 0500 00000000000000000500; do
+        status_is "a bill at $rate" 0 desk bill "$rate" "$work/billed.words"
+        output_is tests/bills/example.bill
+        is_silent
+    done
+    status_is "a bill at 10000" 0 desk bill 10000 "$work/billed.words"
+    output_is tests/bills/rate_10000.bill
+    status_is "standard input billed" 0 billed_from_input
+    output_is tests/bills/example.bill
+    status_is "no word billed" 0 desk bill 0 "$work/empty"
+    output_is tests/bills/rate_alone.bill
+    status_is "-- before the rate" 0 desk bill -- 500 "$work/billed.words"
+    output_is tests/bills/example.bill
+    status_is "-- behind the rate" 0 in_folder bill 500 -- -n
+    output_is tests/bills/rate_alone.bill
+    status_is "two files billed" 3 desk bill 500 "$work/billed.words" tests/journals/odd.words
+    output_is "$work/both_billed"
+    complains_of 'odd.words: no bill: refused by 18, this is no call$'
+    status_is "out of range, billed" 3 desk bill 500 tests/journals/range.words
+    output_is "$work/19"
+    complains_of 'range.words: no bill: refused by 19, number out of range$'
+    status_is "a text, billed" 3 desk bill 500 "$work/words.txt"
+    output_is "$work/18"
+    complains_of "words.txt: it looks like text; 'nazsombet words' makes a journal"
+    for rate in 10001 4294967295 4294967296 4294967796 18446744073709551616 99999999999999999999999999; do
+        status_is "a bill at $rate" 3 desk bill "$rate" "$work/billed.words"
+        output_is "$work/30"
+        complains_of 'billed.words: no bill: refused by 30, too much to bill$'
+    done
+    for try in "desk bill 500 $work/long.words" billed_without_signal billed_by_pipe; do
+        # shellcheck disable=SC2086  # the words stand apart by blanks
+        status_is "a long journal, $try" 3 $try
+        output_is "$work/30"
+        judge "more than a sentence" test "$(wc -l <"$work/err")" -eq 1
+        complains_of 'no bill: refused by 30, too much to bill$'
+    done
+    for rate in '' x 5x 0x10 +5 1.5 - "$example.words"; do
+        status_is "the rate '$rate'" 2 desk bill "$rate" "$work/billed.words"
+        complains_of "the rate '$rate' is no number"
+        output_is "$work/empty"
+    done
+    status_is "a rate below 0" 2 desk bill -5 "$work/billed.words"
+    status_is "no rate" 2 desk bill
+    complains_of 'bill takes a rate'
+    status_is "a file that is not there, and one that is refused" 1 desk bill 500 "$work/none" tests/journals/odd.words
+    status_is "a bill to a full device" 1 to_full bill 500 "$work/billed.words"
+    complains_of "billed.words: its lines could not be written whole"
+}
+
 # What cannot be read or written.
 try_failures() {
     status_is "a directory" 1 desk list tests
@@ -220,9 +290,11 @@ try_failures() {
     complains_of "$work/none: there is no such file"
     status_is "a bad file and a good one" 1 desk list "$work/none" "$example.words"
     output_is "$work/headed"
-    for try in from_nothing told_from_nothing words_from_nothing hex_from_nothing; do
+    for try in from_nothing told_from_nothing billed_from_nothing billed_from_folder words_from_nothing \
+        hex_from_nothing; do
         status_is "$try" 1 "$try"
         complains_of 'nazsombet: standard input: could not be read'
+        judge "one sentence is not all" test "$(wc -l <"$work/err")" -eq 1
     done
     status_is "a full device" 1 to_full list "$example.words"
     complains_of "$example.words: its lines could not be written whole: No space"
@@ -243,6 +315,8 @@ try_failures() {
     status_is "an unreadable file" 1 unprivileged list "$work/secret"
     complains_of "$work/secret: may not be read"
     status_is "an unreadable file told" 1 unprivileged tell "$work/secret"
+    complains_of "$work/secret: may not be read"
+    status_is "an unreadable file billed" 1 unprivileged bill 500 "$work/secret"
     complains_of "$work/secret: may not be read"
     status_is "no temporary folder" 1 in_no_folder
     complains_of "nazsombet: $work/none: no temporary folder"
@@ -298,7 +372,7 @@ try_help() {
     shows 'usage: nazsombet COMMAND \[ARGUMENTS\] \[FILE...\]'
     status_is "option --help" 0 desk --help
     shows 'usage: nazsombet COMMAND'
-    for command in list tell words hex install; do
+    for command in list tell bill words hex install; do
         status_is "help $command" 0 desk help "$command"
         shows "^usage: nazsombet $command"
         judge "the manual page has it not" grep -q "^\.B nazsombet $command " docs/nazsombet.1
@@ -339,6 +413,8 @@ try_places() {
     output_is "$example.txt"
     status_is "an installed command, by a link" 0 installed_link tell "$example.words"
     output_is "$example.told"
+    status_is "an installed command's bill" 0 installed bill 500 "$work/billed.words"
+    output_is tests/bills/example.bill
     status_is "an installed command's release" 0 installed --version
     output_is "$work/release"
     status_is "an installed command, to install" 1 installed install "$work/other"
@@ -410,6 +486,7 @@ try_progress() {
 for shell in sh bash; do
     command -v "$shell" >/dev/null 2>&1 || continue
     try_shows
+    try_bills
     try_failures
     try_words
     try_help
