@@ -3,9 +3,9 @@
 # every program is run; then the journals are listed, by the program and by the host in C, and told in sentences, plain
 # and numbered; the documents' listings are tried; programs are run as compiled in several ways; the library is looked
 # at as compiled, tested from Rust, lent damaged tables and grants from C, and compared with the second machine over
-# 2,000,000 calls; a kernel around it is booted in an emulator; sentences and the desk's command are tried. At the end
-# it says what was not tried, and why. The last line is 'N passed, M failed'; the exit status is 0 only where nothing
-# failed.
+# 2,000,000 calls; a kernel around it is booted in an emulator; sentences, bills and the desk's command are tried. At
+# the end it says what was not tried, and why. The last line is 'N passed, M failed'; the exit status is 0 only where
+# nothing failed.
 set -eu
 cd "$(dirname "$0")"
 need() {
@@ -61,6 +61,7 @@ counted sh tests/damaged.sh
 counted sh tests/compare.sh --seed 1
 counted sh tests/box.sh
 counted sh tests/sentences.sh
+counted sh tests/bills.sh
 counted sh tests/desk.sh
 counted sh tests/worded.sh
 cat "$log.untried"

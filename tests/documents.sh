@@ -1,8 +1,9 @@
 #!/bin/sh
-# documents.sh: every listing and telling that a document shows is what the program writes. A listing is a block that
-# begins with the listing's header, a telling one that begins with a sentence, a numbered telling one that begins with a
-# numbered sentence; what stands last in backquotes before the block is the journal's file, or its words. The last line
-# is 'documents: N passed, M failed'; the exit status is 0 only where nothing failed.
+# documents.sh: every listing, telling and bill that a document shows is what the program writes. A listing is a block
+# that begins with the listing's header, a telling one that begins with a sentence, a numbered telling one that begins
+# with a numbered sentence, a bill one that begins with a line of a bill; what stands last in backquotes before the block
+# is the journal's file, or its words; of a bill it is the command. The last line is 'documents: N passed, M failed'; the
+# exit status is 0 only where nothing failed.
 set -u
 cd "$(dirname "$0")/.." || exit 2
 work=$(mktemp -d) || exit 2
@@ -10,8 +11,8 @@ trap 'rm -rf "$work"' EXIT
 passed=0
 failed=0
 
-# Each listing (.list), telling (.tell) and numbered telling (.numbered) of a document to a file of its own, with what it
-# is of in a file beside it.
+# Each listing (.list), telling (.tell), numbered telling (.numbered) and bill (.bill) of a document to a file of its own,
+# with what it is of in a file beside it.
 for document in README.md docs/*.md; do
     awk -v out="$work/$(basename "$document" .md)" '
         /^```/ { if (inside) { inside = 0; if (file) close(file); file = ""; next } inside = 1; first = 1; next }
@@ -20,6 +21,7 @@ for document in README.md docs/*.md; do
             if ($0 == "n call code count badge message running") form = "list"
             if ($0 ~ /^[A-Z][a-z]+[ a-z0-9]*: [a-z0-9, ]+\.$/) form = "tell"
             if ($0 ~ /^[0-9]+(, [a-z0-9 ]+)?: [A-Z][a-z]+[ a-z0-9]*: [a-z0-9, ]+; [a-z0-9 ]+ runs\.$/) form = "numbered"
+            if ($0 ~ /^([0-9]+ [0-9]+|idle) [0-9]+$/) form = "bill"
             if (form) { n++; file = out "." n "." form; print of > (out "." n ".of") }
         }
         inside { first = 0; if (file) print > file; next }
@@ -36,11 +38,12 @@ write() {
     esac
 }
 
-for shown in "$work"/*.list "$work"/*.tell "$work"/*.numbered; do
+for shown in "$work"/*.list "$work"/*.tell "$work"/*.numbered "$work"/*.bill; do
     form=${shown##*.}
     of=$(cat "${shown%.*}.of")
     # shellcheck disable=SC2086  # the words stand apart by blanks
     case $of in
+    './nazsombet bill '*) $of >"$work/written" ;;
     *.words) write "$form" <"$of" >"$work/written" ;;
     *) ./nazsombet words $of | write "$form" >"$work/written" ;;
     esac
