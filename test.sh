@@ -19,7 +19,7 @@ need cargo "Rust (1.78 or newer)"
 need cc "a C compiler"
 need c++ "a C++ compiler"
 
-# One check for each processor: more at a time share its cache, and all together take longer.
+# One check for each processor: with three for each, as many checks took longer.
 export RT_JOBS="${RT_JOBS:-$(nproc)}"
 
 passed=0
