@@ -1,4 +1,6 @@
 // The looks of an abort: each takes the waiter at the cursor. What is left to look at stands in the tables.
+#![tactic(auto)]
+
 ghost use Rattle.machine.specs.Aborts.{look};
 ghost use Rattle.store.specs.Steps.{Shown, Does};
 ghost use Rattle.abort_looks.specs.Looks.{Cursor, InMid, LooksOn};

@@ -1,6 +1,8 @@
 // Call 12, the breakable abort of a badge at an endpoint. A caller with a note is answered at once; else the abort that
 // stands is joined, or finished if it is of another badge, or begun, and its looks go on until nothing is left or the
 // allowance is used up. What is left stands in the tables, so the next call goes on from there.
+#![tactic(auto)]
+
 ghost use Rattle.std.specs.Prelude.{◌≤◌, ◌<◌, ◌^◌};
 ghost use Rattle.machine.specs.Aborts.{abort_open, abort};
 ghost use Rattle.store.specs.Steps.{Shown};

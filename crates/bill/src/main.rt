@@ -1,4 +1,5 @@
 // Bills the journal that comes on standard input behind its rate.
+#![tactic(auto)]
 
 fn main() {
     let mut bytes = [0u8; biller::ROOM];

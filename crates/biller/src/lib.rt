@@ -1,5 +1,7 @@
 // From all bytes of standard input to all bytes of standard output: the rate as the first word, the journal after it,
 // and the bill. Which bytes it is stands in billing's specs/Bills.antt.
+#![tactic(auto)]
+
 ghost use Rattle.std.specs.Prelude.{◌≤◌, ◌≡◌, length, drop};
 ghost use Rattle.texts.specs.Buffer.{Wrote, Counts};
 ghost use Rattle.input.specs.Words.{words_in};

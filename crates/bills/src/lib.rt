@@ -1,4 +1,6 @@
 // The lines of a bill, made into a lent buffer. Which bytes they are stands in billing's specs/Bills.antt.
+#![tactic(auto)]
+
 ghost use Rattle.std.specs.Prelude.{◌+◌, ◌≤◌, ◌<◌, ◌≡◌, [], ◌∷◌, length, take};
 ghost use Rattle.texts.specs.Buffer.{Room, Wrote};
 ghost use Rattle.billing.specs.Cents.{cents};

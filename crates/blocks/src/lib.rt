@@ -1,5 +1,7 @@
 // A thread's block: the words of a thread that are no links, as one struct. It is loaded from the tables, lent to be
 // changed, and stored back. A tick changes it where it is lent.
+#![tactic(auto)]
+
 ghost use Rattle.std.specs.Prelude.{◌≡◌};
 ghost use Rattle.store.specs.Steps.{Shown};
 ghost use Rattle.store.specs.Store.{IsThread};

@@ -1,4 +1,6 @@
 // The thirteen calls and their answer. What the calls do, the queue machine, stands in crate machine.
+#![tactic(auto)]
+
 ghost use Rattle.std.specs.Prelude.{◌≡◌};
 ghost use Rattle.calls.specs.Calls.{number_of, is_allowance, in_range};
 ghost use Rattle.calls.specs.Answers.{plain, counted, thread_of, seat};

@@ -2,6 +2,8 @@
 // A slice passes as a pointer and a length, an array of fixed length as a pointer.
 // A call passes as six plain numbers and not as journal words: so every number of 32 bits reaches the core's own range
 // test, and what the reader gives is what a call takes. Numbers that name no call are refused by 18, after 16 and 17.
+#![tactic(auto)]
+
 ghost use Rattle.std.specs.Prelude.{◌≡◌};
 ghost use Rattle.std.proofs.Math.Option.{none};
 ghost use Rattle.lent_tables.specs.Entries.{lent, Freshened, Checked, Called, freshened, checked, runner_in};

@@ -1,5 +1,7 @@
 // Who works on an abort and who has a note of one: leaving and joining its set, beginning and ending an abort; and who
 // is first at an endpoint. Each is a few steps of the store, and does what the machine's operation of its name does.
+#![tactic(auto)]
+
 ghost use Rattle.machine.specs.Endpoints.{drop_debt, note_all};
 ghost use Rattle.machine.specs.Aborts.{join, begin};
 ghost use Rattle.store.specs.Steps.{Shown, Does, Tells};

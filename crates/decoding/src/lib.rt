@@ -1,4 +1,6 @@
 // The call that words or numbers name.
+#![tactic(auto)]
+
 ghost use Rattle.std.specs.Prelude.{◌≡◌, []};
 ghost use Rattle.journal.specs.Words.{number_in, unused, send_of, abort_of, grant_of, call_of, call_at};
 ghost use Rattle.journal.specs.Steps.{as_named, call_named, as_number};

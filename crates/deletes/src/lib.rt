@@ -1,6 +1,8 @@
 // Call 11, the breakable delete of an endpoint. The caller's debt goes, the endpoint is closing and its abort ends, and
 // then waiters leave from the head. A delete that its allowance breaks off leaves the endpoint closing, and deleting it
 // again goes on.
+#![tactic(auto)]
+
 ghost use Rattle.std.specs.Prelude.{◌≤◌};
 ghost use Rattle.machine.specs.Aborts.{delete_from, delete};
 ghost use Rattle.store.specs.Steps.{Shown};

@@ -1,4 +1,6 @@
 // A call in range, carried out by its kind on tables that show a sound state.
+#![tactic(auto)]
+
 ghost use Rattle.std.specs.Prelude.{◌≡◌, ◌≤◌, length};
 ghost use Rattle.calls.specs.declared.Call.TheVariants.{CreateThread, CreateEndpoint, Grant};
 ghost use Rattle.machine.specs.Machine.{create_thread, create_endpoint, perform, grant};

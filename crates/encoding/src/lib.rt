@@ -1,4 +1,6 @@
 // The words of a call.
+#![tactic(auto)]
+
 ghost use Rattle.std.specs.Prelude.{◌≡◌, true, ◌∷◌, [], ◌<◌};
 ghost use Rattle.calls.specs.Calls.{in_range};
 ghost use Rattle.journal.specs.Words.{call_word, badge_word, message_word, as_written, words_of, written};

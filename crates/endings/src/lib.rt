@@ -1,5 +1,7 @@
 // How a call ends: refused, or accepted, after which somebody is chosen once. What a call's steps ask follows from the
 // soundness of the state, in proofs/Conditions.
+#![tactic(auto)]
+
 ghost use Rattle.machine.specs.Results.{done};
 ghost use Rattle.store.specs.Steps.{Shown};
 ghost use Rattle.queues.specs.Queues.{Chooses};

@@ -1,5 +1,7 @@
 // Joining and leaving the endpoint queues, with the marks of aborts. Each is a few steps without a loop, and does to
 // whatever state the words show what the machine's operation does.
+#![tactic(auto)]
+
 ghost use Rattle.machine.specs.Endpoints.{join_endpoint, leave_endpoint, wake_from as rousing};
 ghost use Rattle.store.specs.Steps.{Shown, Does};
 ghost use Rattle.queues.specs.Queues.{ToEndpoint, InEndpoint, passing_at};

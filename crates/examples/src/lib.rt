@@ -1,1 +1,2 @@
 // Runs that the checker computes: specs/ and proofs/, no code.
+#![tactic(auto)]

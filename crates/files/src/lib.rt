@@ -1,5 +1,7 @@
 // Standard input and standard output for the programs, and what could not be done said on standard error. A read that
 // fails is never taken for the end of the input: what was made of half a journal would look like the whole.
+#![tactic(auto)]
+
 ghost use Rattle.std.specs.Prelude.{◌≤◌, ◌≡◌, length};
 ghost use Rattle.io.specs.Counts.{IsPrefixLen};
 

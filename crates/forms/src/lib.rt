@@ -1,5 +1,7 @@
 // The forms in which a call is told, and what stops a journal: texts behind the bytes used of a buffer. Each function
 // answers how many bytes are used then.
+#![tactic(auto)]
+
 ghost use Rattle.std.specs.Prelude.{◌+◌, ◌≤◌, ◌≡◌, true, length};
 ghost use Rattle.calls.specs.Calls.{in_range};
 ghost use Rattle.calls.specs.Answers.{thread_of};

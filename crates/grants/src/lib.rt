@@ -1,5 +1,7 @@
 // The lent memory of the grants: whether it is sound, whether a thread lacks what its call needs, and what call 13 and
 // the creations store.
+#![tactic(auto)]
+
 ghost use Rattle.std.specs.Prelude.{◌≡◌, true, ◌^◌, ◌≤◌, ◌<◌, length};
 ghost use Rattle.calls.specs.declared.Call.TheVariants.{Grant};
 ghost use Rattle.calls.specs.Calls.{endpoint_of, in_range};

@@ -1,1 +1,2 @@
 // The history of a list of calls: specs/ and proofs/, no code.
+#![tactic(auto)]

@@ -1,4 +1,6 @@
 // Bytes and the little-endian words in them.
+#![tactic(auto)]
+
 ghost use Rattle.std.specs.Prelude.{◌+◌, ◌*◌, ◌/◌, ◌≤◌, ◌<◌, ◌≡◌, length, take};
 ghost use Rattle.texts.specs.Buffer.{Counts};
 ghost use Rattle.input.specs.Words.{little_endian, words_in};

@@ -14,64 +14,21 @@ pub by_number :
     P 0 → P 1 → P 2 → P 3 → P 4 → P 5 → P 6 → P 7 → P 8 → P 9 → P 10 → P 11 → P 12 → P 13 →
     ((k : ℕ) → P (suc (suc (suc (suc (suc (suc (suc (suc (suc (suc (suc (suc (suc (suc k))))))))))))))) →
     (n : ℕ) → P n
-by_number P p0 p1 p2 p3 p4 p5 p6 p7 p8 p9 p10 p11 p12 p13 more n =
-    elim n [
-      | zero ↦ p0
-      | suc n1 ↦
-          elim n1 [
-            | zero ↦ p1
-            | suc n2 ↦
-                elim n2 [
-                  | zero ↦ p2
-                  | suc n3 ↦
-                      elim n3 [
-                        | zero ↦ p3
-                        | suc n4 ↦
-                            elim n4 [
-                              | zero ↦ p4
-                              | suc n5 ↦
-                                  elim n5 [
-                                    | zero ↦ p5
-                                    | suc n6 ↦
-                                        elim n6 [
-                                          | zero ↦ p6
-                                          | suc n7 ↦
-                                              elim n7 [
-                                                | zero ↦ p7
-                                                | suc n8 ↦
-                                                    elim n8 [
-                                                      | zero ↦ p8
-                                                      | suc n9 ↦
-                                                          elim n9 [
-                                                            | zero ↦ p9
-                                                            | suc n10 ↦
-                                                                elim n10 [
-                                                                  | zero ↦ p10
-                                                                  | suc n11 ↦
-                                                                      elim n11 [
-                                                                        | zero ↦ p11
-                                                                        | suc n12 ↦
-                                                                            elim n12 [
-                                                                              | zero ↦ p12
-                                                                              | suc n13 ↦
-                                                                                  elim n13 [
-                                                                                    | zero ↦ p13
-                                                                                    | suc n14 ↦
-                                                                                        more n14
-                                                                                  ]
-                                                                            ]
-                                                                      ]
-                                                                ]
-                                                          ]
-                                                    ]
-                                              ]
-                                        ]
-                                  ]
-                            ]
-                      ]
-                ]
-          ]
-    ]
+by_number P p0 p1 p2 p3 p4 p5 p6 p7 p8 p9 p10 p11 p12 p13 more zero = p0
+by_number P p0 p1 p2 p3 p4 p5 p6 p7 p8 p9 p10 p11 p12 p13 more (suc zero) = p1
+by_number P p0 p1 p2 p3 p4 p5 p6 p7 p8 p9 p10 p11 p12 p13 more (suc (suc zero)) = p2
+by_number P p0 p1 p2 p3 p4 p5 p6 p7 p8 p9 p10 p11 p12 p13 more (suc (suc (suc zero))) = p3
+by_number P p0 p1 p2 p3 p4 p5 p6 p7 p8 p9 p10 p11 p12 p13 more (suc (suc (suc (suc zero)))) = p4
+by_number P p0 p1 p2 p3 p4 p5 p6 p7 p8 p9 p10 p11 p12 p13 more (suc (suc (suc (suc (suc zero))))) = p5
+by_number P p0 p1 p2 p3 p4 p5 p6 p7 p8 p9 p10 p11 p12 p13 more (suc (suc (suc (suc (suc (suc zero)))))) = p6
+by_number P p0 p1 p2 p3 p4 p5 p6 p7 p8 p9 p10 p11 p12 p13 more (suc (suc (suc (suc (suc (suc (suc zero))))))) = p7
+by_number P p0 p1 p2 p3 p4 p5 p6 p7 p8 p9 p10 p11 p12 p13 more (suc (suc (suc (suc (suc (suc (suc (suc zero)))))))) = p8
+by_number P p0 p1 p2 p3 p4 p5 p6 p7 p8 p9 p10 p11 p12 p13 more (suc (suc (suc (suc (suc (suc (suc (suc (suc zero))))))))) = p9
+by_number P p0 p1 p2 p3 p4 p5 p6 p7 p8 p9 p10 p11 p12 p13 more (suc (suc (suc (suc (suc (suc (suc (suc (suc (suc zero)))))))))) = p10
+by_number P p0 p1 p2 p3 p4 p5 p6 p7 p8 p9 p10 p11 p12 p13 more (suc (suc (suc (suc (suc (suc (suc (suc (suc (suc (suc zero))))))))))) = p11
+by_number P p0 p1 p2 p3 p4 p5 p6 p7 p8 p9 p10 p11 p12 p13 more (suc (suc (suc (suc (suc (suc (suc (suc (suc (suc (suc (suc zero)))))))))))) = p12
+by_number P p0 p1 p2 p3 p4 p5 p6 p7 p8 p9 p10 p11 p12 p13 more (suc (suc (suc (suc (suc (suc (suc (suc (suc (suc (suc (suc (suc zero))))))))))))) = p13
+by_number P p0 p1 p2 p3 p4 p5 p6 p7 p8 p9 p10 p11 p12 p13 more (suc (suc (suc (suc (suc (suc (suc (suc (suc (suc (suc (suc (suc (suc k)))))))))))))) = more k
 
 pub taken_low : (top : ℕ) → top < 17 → words_taken top ≡ 0
 unfolding words_taken

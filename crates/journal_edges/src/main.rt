@@ -1,5 +1,7 @@
 // Reads and writes the journal's edge cases and prints what comes back; stdout was worked out from document 01
 // and T-04.
+#![tactic(auto)]
+
 ghost use Rattle.std.specs.Prelude.{◌<◌};
 
 use calls::Call;

@@ -1,4 +1,6 @@
 // The core: takes a call on the lent tables, under the lent grants.
+#![tactic(auto)]
+
 ghost use Rattle.std.specs.Prelude.{◌≡◌, true, ◌≤◌, length};
 ghost use Rattle.calls.specs.Calls.{in_range};
 ghost use Rattle.calls.specs.Answers.{thread_of};

@@ -1,5 +1,7 @@
 // The memory of a machine state, word by word. The definitions stand in specs/ and docs/LAYOUT.md lists the words; the
 // code that reads and writes them is the kernel's.
+#![tactic(auto)]
+
 pub mod codes;
 pub mod wide;
 

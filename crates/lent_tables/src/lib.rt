@@ -1,5 +1,7 @@
 // The entries on the lent memory: make it fresh, and check it. The check makes the tests of sound_words and
 // sound_queues, which go once through all words, and accepts exactly those that show a sound state.
+#![tactic(auto)]
+
 ghost use Rattle.std.specs.Prelude.{◌≡◌, length};
 ghost use Rattle.layout.specs.Addresses.{table_words};
 ghost use Rattle.soundness.specs.Checks.{good_test};

@@ -1,6 +1,8 @@
 // Makes tables fresh and checks tables: of several lengths, then ten tables written out by hand, which it reads, and
 // every word of those changed in turn. What it must write, stdout, is what the second machine's program `tables`
 // writes.
+#![tactic(auto)]
+
 ghost use Rattle.std.specs.Prelude.{◌≡◌, length};
 ghost use Rattle.layout.specs.Addresses.{table_words};
 

@@ -1,5 +1,7 @@
 // The calls of interrupt lines: 5 and 10. Each is refused with nothing changed, or makes the steps of the
 // machine's call in their order and ends in one choice of who runs.
+#![tactic(auto)]
+
 ghost use Rattle.std.specs.Prelude.{◌≤◌};
 ghost use Rattle.machine.specs.Machine.{interrupt as interrupting, wait as waiting};
 ghost use Rattle.store.specs.Steps.{Shown, Does};

@@ -1,5 +1,7 @@
 // Doubly linked queues in the lent words. The queue itself is link 0, so the first and the next, the last and the one
 // before are one thing, and each operation is the same stores wherever a thread stands, without a branch.
+#![tactic(auto)]
+
 ghost use Rattle.std.specs.Prelude.{◌≡◌, ◌≤◌, length};
 ghost use Rattle.layout.specs.Addresses.{table_words};
 ghost use Rattle.links.specs.Links.{Joinable, JoinsFirst, JoinsLast, Leavable, Leads, LeavesQueue};

@@ -1,5 +1,7 @@
 // Lists a journal whose bytes come in parts, however they are divided, in each form: every call is told with its last
 // byte.
+#![tactic(auto)]
+
 ghost use Rattle.std.specs.Prelude.{◌≡◌, ◌+◌, ◌*◌, ◌<◌, ◌≤◌, true, [], length, take, replicate};
 ghost use Rattle.lent_tables.specs.Entries.{Lent, lent};
 ghost use Rattle.texts.specs.Buffer.{Counts, Wrote};

@@ -1,5 +1,7 @@
 // The listing's text: the line of a row, and the header, made into a lent buffer.
 // Which bytes they are stands in specs/Line.antt; that different lines are different bytes stands in proofs/Apart.antt.
+#![tactic(auto)]
+
 ghost use Rattle.std.specs.Prelude.{◌≡◌};
 ghost use Rattle.calls.specs.Answers.{thread_of};
 ghost use Rattle.texts.specs.Buffer.{Room, Wrote, Counts};

@@ -1,5 +1,7 @@
 // Lines of the listing, printed: the header, small and large numbers, a running thread and nobody.
 // The bytes that they must be stand in stdout.
+#![tactic(auto)]
+
 use calls::{Answer, Runner};
 use libc::STDOUT_FILENO;
 use listing::Listed;

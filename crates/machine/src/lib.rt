@@ -1,1 +1,2 @@
 // The queue machine: specs/ and proofs/, no code.
+#![tactic(auto)]

@@ -1,5 +1,7 @@
 // A sentence that says which call it is and by whom: its index, who makes it, and who runs then. Which bytes it is
 // stands in specs/Numbered.antt.
+#![tactic(auto)]
+
 ghost use Rattle.std.specs.Prelude.{◌+◌, ◌≤◌, ◌≡◌, true, length};
 ghost use Rattle.calls.specs.Calls.{in_range};
 ghost use Rattle.calls.specs.Answers.{thread_of};

@@ -1,5 +1,7 @@
 // A call as six plain numbers: its number, subject, argument, badge, message and rights. Those that it has not are 0.
 // Named by them, and read from a journal and written to it as them.
+#![tactic(auto)]
+
 ghost use Rattle.std.specs.Prelude.{◌≡◌};
 ghost use Rattle.journal.specs.Steps.{as_named, call_named};
 ghost use Rattle.numbers.specs.Numbers.{without_rights, call_in, numbers_of};

@@ -1,4 +1,6 @@
 // Another badge's abort: it is finished before the call's own begins.
+#![tactic(auto)]
+
 ghost use Rattle.std.specs.Prelude.{◌+◌, ◌≤◌, ◌<◌, ◌^◌};
 ghost use Rattle.machine.specs.Aborts.{begin_after, work_other};
 ghost use Rattle.store.specs.Steps.{Shown};

@@ -1,4 +1,6 @@
 // What came of a call.
+#![tactic(auto)]
+
 ghost use Rattle.texts.specs.Buffer.{Room, Wrote};
 ghost use Rattle.wording.specs.Sentence.{cause, outcome, detail, details};
 

@@ -1,4 +1,6 @@
 // The call's own abort: begun or joined, it works until nothing is left or the allowance is used up.
+#![tactic(auto)]
+
 ghost use Rattle.std.specs.Prelude.{◌+◌, ◌≤◌, ◌<◌, ◌^◌};
 ghost use Rattle.machine.specs.Aborts.{work_own};
 ghost use Rattle.store.specs.Steps.{Shown};

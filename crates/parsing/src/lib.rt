@@ -1,4 +1,6 @@
 // What the words at a place of a journal read as.
+#![tactic(auto)]
+
 ghost use Rattle.std.specs.Prelude.{◌≡◌};
 ghost use Rattle.journal.specs.Words.{words_taken, judged, read_at};
 ghost use Rattle.journal.specs.Steps.{call_named};

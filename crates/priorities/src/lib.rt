@@ -1,5 +1,7 @@
 // Call 3, set priority, and whether a thread is ready. The call does to the sound state that the words show what the
 // machine's call does, and answers what it answers; the numbers are in range.
+#![tactic(auto)]
+
 ghost use Rattle.machine.specs.Machine.{set_priority};
 ghost use Rattle.store.specs.Steps.{Shown, Does};
 ghost use Rattle.store.specs.Store.{IsThread};

@@ -1,5 +1,7 @@
 // Joining and leaving the ready queues, with the summary. Each is a few steps without a loop, and does to whatever
 // state the words show what the machine's operation does.
+#![tactic(auto)]
+
 ghost use Rattle.machine.specs.Scheduling.{enqueue as enqueueing, enqueue_first, unqueue as unqueueing, stand_down};
 ghost use Rattle.machine.specs.Scheduling.{stand_back, wake as waking};
 ghost use Rattle.store.specs.Steps.{Shown, Does};

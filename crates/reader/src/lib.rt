@@ -1,5 +1,7 @@
 // A reader of the journal: it refers to the journal and holds a word number. The functions over it are thin, for the
 // borrow checker covers none of them: `parsing::read`, which takes slice and number, does the work.
+#![tactic(auto)]
+
 ghost use Rattle.std.specs.Prelude.{◌≡◌};
 ghost use Rattle.journal.specs.Words.{read_at};
 

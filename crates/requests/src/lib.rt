@@ -1,4 +1,6 @@
 // What was asked.
+#![tactic(auto)]
+
 ghost use Rattle.calls.specs.declared.Call.TheVariants.{Send, Abort, Grant};
 ghost use Rattle.texts.specs.Buffer.{Room, Wrote};
 ghost use Rattle.wording.specs.Sentence.{request};

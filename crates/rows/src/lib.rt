@@ -1,4 +1,6 @@
 // The rows of a journal's listing: the next call of a journal is read and taken on the lent memory.
+#![tactic(auto)]
+
 ghost use Rattle.std.specs.Prelude.{◌≡◌};
 ghost use Rattle.journal.specs.Words.{read_at};
 ghost use Rattle.lent_tables.specs.Entries.{lent};

@@ -1,5 +1,7 @@
 // Who runs: the head of the highest ready queue. Each is a few steps without a loop, and does to whatever state the
 // words show what the machine's operation does.
+#![tactic(auto)]
+
 ghost use Rattle.std.proofs.Math.Option.{some};
 ghost use Rattle.machine.specs.Scheduling.{dispatch as dispatching, choose_for, choose as choosing};
 ghost use Rattle.store.specs.Steps.{Shown, Does};

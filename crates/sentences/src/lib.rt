@@ -1,5 +1,7 @@
 // A call and its answer as one English line, made into a lent buffer. Which bytes it is stands in wording,
 // specs/Sentence.antt; that no two pairs of call and answer have the same line stands there in proofs/Apart.antt.
+#![tactic(auto)]
+
 ghost use Rattle.std.specs.Prelude.{◌≡◌};
 ghost use Rattle.texts.specs.Buffer.{Room, Wrote, Counts};
 ghost use Rattle.texts.specs.Filed.{Filed};

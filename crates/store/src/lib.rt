@@ -1,5 +1,7 @@
 // The steps on single entries of the lent tables: reading a word by its name, changing an entry, and the summary.
 // Each is a few stores, and does to whatever state the words show what its name says of the machine's state.
+#![tactic(auto)]
+
 ghost use Rattle.std.specs.Prelude.{◌≡◌, true, false, ◌<◌, length};
 ghost use Rattle.layout.specs.Addresses.{table_words};
 ghost use Rattle.store.specs.Steps.{Shown, Does, Tells};

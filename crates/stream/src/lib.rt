@@ -1,5 +1,7 @@
 // A journal from standard input to standard output, listed or told in a form. Its words come little-endian; a word
 // that does not read as a call, and odd bytes at the end, stop it with a last line.
+#![tactic(auto)]
+
 ghost use Rattle.std.specs.Prelude.{◌<◌, ◌≡◌, length};
 
 use forms::Form;

@@ -1,5 +1,7 @@
 // The two-level summary of the ready queues: which of the 256 levels are occupied. Bit p mod 32 of word p div 32 is
 // set exactly when level p is occupied, and bit w of the top word exactly when word w is not 0.
+#![tactic(auto)]
+
 ghost use Rattle.std.specs.Prelude.{◌≡◌, true, false, ◌<◌};
 ghost use Rattle.summary.specs.Levels.{summary_of, no_level, IsSummary, SetsBit, Finds};
 

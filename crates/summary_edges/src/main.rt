@@ -1,5 +1,7 @@
 // Marks the levels at the edges of the words in several orders, and writes after each mark the highest occupied level,
 // the top word and the marked level's word.
+#![tactic(auto)]
+
 ghost use Rattle.summary.specs.Levels.{IsSummary};
 
 use summary::{Level, Summary};

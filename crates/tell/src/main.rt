@@ -1,5 +1,7 @@
 // Tells the journal that comes on standard input in sentences: with the argument -n each with the call's index, its
 // caller and who runs then.
+#![tactic(auto)]
+
 use forms::Form;
 
 // Whether the program has the one argument -n.

@@ -60,6 +60,22 @@ module _ (m : List ℕ) (at k : ℕ) (lent : at + k ≤ length m) where
             ∙ sym (append_assoc (take at m) text (drop (at + length text) m));
       }
 
+-- A text copied over the part that begins at its place and is as long.
+pub copied_over :
+    (m text m' part : List ℕ) (at k : ℕ) → k ≡ length text → part ≡ text
+    → m' ≡ take at m ++ (part ++ drop k (drop at m)) → Wrote m at text (at + length text) m'
+unfolding pasted
+copied_over m text m' part at k e p g =
+    record {
+      next = omega arith;
+      bytes =
+          g
+          ∙ ap (λ (l : List ℕ). take at m ++ (l ++ drop k (drop at m))) p
+          ∙ ap (λ (j : ℕ). take at m ++ (text ++ drop j (drop at m))) e
+          ∙ ap (λ (l : List ℕ). take at m ++ (text ++ l)) (drop-drop (length text) at m)
+          ∙ sym (append_assoc (take at m) text (drop (at + length text) m));
+    }
+
 -- The length stays, and so do the bytes before the text and behind it.
 
 module _ {m m' text : List ℕ} {at p : ℕ} (room : Room m at text) (w : Wrote m at text p m') where

@@ -1,4 +1,6 @@
 // Texts made into a lent buffer, one behind the other: numbers in decimal, and bytes as they are.
+#![tactic(auto)]
+
 ghost use Rattle.std.specs.Prelude.{◌≡◌, length};
 ghost use Rattle.texts.specs.Decimal.{decimal, spaced};
 ghost use Rattle.texts.specs.Buffer.{Room, Wrote};
@@ -48,7 +50,9 @@ pub fn say(out: &mut [u8], at: usize, text: &[u8]) -> usize
     requires { Room out.old at text.now }
     ensures { Wrote out.old at text.now result out.new }
 {
-    at + bytes::copy(text, &mut out[at..])
+    let end = at + text.len();
+    out[at..end].copy_from_slice(text);
+    end
 }
 
 // What an entry that writes a line, file or journal answers: 0 and the length written, or a refusal's number and 0.

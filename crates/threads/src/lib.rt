@@ -1,5 +1,7 @@
 // The calls that create and destroy a thread. Each does to the sound state that the words show what the machine's call
 // does, and answers what it answers; the numbers are in range.
+#![tactic(auto)]
+
 ghost use Rattle.std.specs.Prelude.{◌≤◌};
 ghost use Rattle.machine.specs.Machine.{create_thread, destroy_thread};
 ghost use Rattle.store.specs.Steps.{Shown, Does};

@@ -1,4 +1,6 @@
 // The ticks of a journal that each thread number is charged for, counted on tables of their own.
+#![tactic(auto)]
+
 ghost use Rattle.std.specs.Prelude.{◌<◌, ◌≤◌, ◌≡◌, true, length, replicate};
 ghost use Rattle.std.proofs.Math.Option.{none};
 ghost use Rattle.journal.specs.Course.{course_of, stop_code};

@@ -1,5 +1,7 @@
 // The calls on a thread's time: tick and yield. Each does to the sound state that the words show what the machine's
 // call does, and answers what it answers; the numbers are in range.
+#![tactic(auto)]
+
 ghost use Rattle.std.proofs.Math.Option.{some};
 ghost use Rattle.machine.specs.Machine.{tick_for, tick as ticking, yield};
 ghost use Rattle.store.specs.Steps.{Shown, Does};

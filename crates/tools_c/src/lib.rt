@@ -1,6 +1,8 @@
 // The tools for C that are not the core, under the names of include/nazsombet_tools.h: a library of its own, so that a
 // box with the core links none of it. A slice passes as a pointer and a length, an array of fixed length as a pointer.
 // A call passes as six plain numbers, as in core_c; those that name no call are refused by 18, after 28 and before 19.
+#![tactic(auto)]
+
 ghost use Rattle.std.specs.Prelude.{◌≡◌};
 ghost use Rattle.journal.specs.Steps.{call_named};
 ghost use Rattle.texts.specs.Filed.{Filed};

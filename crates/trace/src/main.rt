@@ -1,4 +1,6 @@
 // Lists the journal that comes on standard input.
+#![tactic(auto)]
+
 use forms::Form;
 
 fn main() {

@@ -1,5 +1,7 @@
 // The calls that make endpoints and hand messages over: 4, 7 and 8. Each is refused with nothing changed, or
 // makes the steps of the machine's call in their order and ends in one choice of who runs.
+#![tactic(auto)]
+
 ghost use Rattle.std.specs.Prelude.{◌≤◌, ◌<◌, ◌^◌};
 ghost use Rattle.machine.specs.Machine.{create_endpoint, send as sending, receive as receiving};
 ghost use Rattle.store.specs.Steps.{Shown};

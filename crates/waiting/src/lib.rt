@@ -1,4 +1,6 @@
 // The running thread blocks: the end that send, receive and wait have in common.
+#![tactic(auto)]
+
 ghost use Rattle.store.specs.Steps.{Shown};
 ghost use Rattle.store.specs.Store.{IsThread};
 ghost use Rattle.waiting.specs.Waiting.{Suspends};

@@ -1,4 +1,6 @@
 // A text with a number behind it, once and twice.
+#![tactic(auto)]
+
 ghost use Rattle.std.specs.Prelude.{◌++◌};
 ghost use Rattle.texts.specs.Decimal.{decimal};
 ghost use Rattle.texts.specs.Buffer.{Room, Wrote};

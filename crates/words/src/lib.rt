@@ -1,5 +1,7 @@
 // The lent words by name: where each stands, and the functions that read and write one. The arithmetic of the layout
 // stands here and in specs/Addresses of crate layout, and nowhere else.
+#![tactic(auto)]
+
 ghost use Rattle.std.specs.Prelude.{◌≡◌, ◌≤◌, ◌<◌, length, set, replicate};
 ghost use Rattle.layout.specs.declared.Slot.{Slot};
 ghost use Rattle.layout.specs.Addresses.{column, offset, at, link_at, word, after_at, before_at, ValidSlot, ValidLink};
