@@ -41,7 +41,7 @@ pub extern "C" fn nazsombet_check(tables: &[u32], grants: &[u32], scratch: &mut 
 fn refuse(tables: &[u32], grants: &[u32], scratch: &mut [u32]) -> Answer
     ensures { ◌≡◌ {A = Called}
         (record { answer = result; left = lent tables.now grants.now scratch.new })
-        (calledFor none (lent tables.now grants.now scratch.old)) }
+        (called_for none (lent tables.now grants.now scratch.old)) }
 {
     let code = lent_tables::check(tables, grants, scratch);
     if code != 0 {
@@ -54,7 +54,7 @@ fn refuse(tables: &[u32], grants: &[u32], scratch: &mut [u32]) -> Answer
 fn take(tables: &mut [u32], grants: &mut [u32], scratch: &mut [u32], named: Named) -> Answer
     ensures { ◌≡◌ {A = Called}
         (record { answer = result; left = lent tables.new grants.new scratch.new })
-        (calledFor (callNamed named)
+        (called_for (call_named named)
         (lent tables.old grants.old scratch.old)) }
 {
     let Named::One(call) = named else {
@@ -104,7 +104,7 @@ pub extern "C" fn nazsombet_read(journal: &[u32], at: &mut usize, call: &mut [u3
 #[unsafe(no_mangle)]
 pub extern "C" fn nazsombet_write(call: &[u32; 6], words: &mut [u32; 3], count: &mut usize) -> u32
     ensures { ◌≡◌ {A = Written} (record { code = result; count = count.new; words = words.new })
-        (writtenFor (call_in call.now)) }
+        (written_for (call_in call.now)) }
 {
     let named = numbers::call_in(*call);
     let written = numbers::write(named);

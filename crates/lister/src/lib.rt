@@ -112,7 +112,7 @@ fn turn(l: Lister, tables: &mut [u32], grants: &mut [u32], scratch: &mut [u32]) 
     requires { (l.held ≤ 12) × (length l.bytes ≡ 12) }
     ensures { ◌≡◌ {A = Turned}
         (record { turn = result; left = lent tables.new grants.new scratch.new })
-        (turned (readAt (words_in (take l.held l.bytes)) 0)
+        (turned (read_at (words_in (take l.held l.bytes)) 0)
         (lent tables.old grants.old scratch.old)) }
 {
     let bytes = l.bytes;

@@ -47,7 +47,7 @@ pub fn next(
 ) -> Turn
     ensures { ◌≡◌ {A = Turned}
         (record { turn = result; left = lent tables.new grants.new scratch.new })
-        (turned (readAt words.now at)
+        (turned (read_at words.now at)
         (lent tables.old grants.old scratch.old)) }
 {
     let reading = reader::read(words, at);

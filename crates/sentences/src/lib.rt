@@ -42,7 +42,7 @@ fn line(out: &mut [u8], call: Call, answer: Answer) -> usize
 // then 19 for a call out of range, and the buffer stays.
 pub fn sentence(out: &mut [u8], call: Call, answer: Answer) -> Output
     ensures fact { ◌≡◌ {A = Filed} (record { code = result.code; used = result.used; out = out.new })
-        (sentenceFor call answer out.old) }
+        (sentence_for call answer out.old) }
     ensures counts { Counts result.used out.new }
 {
     if out.len() < ROOM {
@@ -78,7 +78,7 @@ fn stop_line(out: &mut [u8], code: u32) -> usize
 // That line as an entry, by the reader's number: 0 and its length, or 28 as above.
 pub fn stop(out: &mut [u8], code: u32) -> Output
     ensures fact { ◌≡◌ {A = Filed} (record { code = result.code; used = result.used; out = out.new })
-        (stopFor code out.old) }
+        (stop_for code out.old) }
     ensures counts { Counts result.used out.new }
 {
     if out.len() < ROOM {

@@ -28,7 +28,7 @@ fn answer_in(numbers: [u32; 4]) -> Answer
 // The sentence of the call that the numbers name, if they name one.
 fn sentence_named(out: &mut [u8], named: Named, answer: Answer) -> Output
     ensures { ◌≡◌ {A = Filed} (record { code = result.code; used = result.used; out = out.new })
-        (sentenceNamed (callNamed named) answer out.old) }
+        (sentence_named (call_named named) answer out.old) }
 {
     let Named::One(call) = named else {
         if out.len() < sentences::ROOM {
@@ -48,7 +48,7 @@ pub extern "C" fn nazsombet_sentence(
     used: &mut usize,
 ) -> u32
     ensures { ◌≡◌ {A = Filed} (record { code = result; used = used.new; out = out.new })
-        (sentenceIn call.now answer.now out.old) }
+        (sentence_in call.now answer.now out.old) }
 {
     let named = numbers::call_in(*call);
     let told = sentence_named(out, named, answer_in(*answer));
