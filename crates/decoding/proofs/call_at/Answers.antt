@@ -1,7 +1,6 @@
 -- `call_at` goes by the same test of the top bits.
 use mathlib.Core.Path.{◌∙◌}
 use borrow.Author.Tests.{eq-eqb, ne_eqb}
-use borrow.Author.Rules.{rules}
 use Rattle.journal.specs.Words.{top_bits, call_at}
 use Rattle.decoding.proofs.call_at.Goals as goal
 

@@ -3,7 +3,6 @@ use mathlib.Core.Path.{ap, ◌∙◌}
 use Rattle.journal.specs.Steps.{as_named}
 use Rattle.journal.specs.Words.{call_of, send_of}
 use Rattle.journal.proofs.Answers.{unused_above, rest_unused}
-use borrow.Author.Rules.{rules}
 use Rattle.decoding.proofs.call_of.Goals as goal
 
 pub returns-in-7 : goal.returns-in-7
@@ -23,7 +22,7 @@ returns-in-13 c = rw c.in-13.is c.grant.ensures
 
 pub returns-in_default : goal.returns-in_default
 returns-in_default c =
-    let other = c.in_default.rest in
+    let other = c.in_default.in_default-own.rest in
     c.short_call.ensures
     ∙ ap as_named
     (rest_unused c.args.subject c.args.argument c.args.rest.now

@@ -5,7 +5,6 @@ use Rattle.calls.specs.declared.Call.TheVariants.{Tick, Yield}
 use Rattle.journal.specs.Steps.{as_named}
 use Rattle.journal.specs.Words.{call_of, unused}
 use Rattle.journal.proofs.Answers.{unused_above, no_short}
-use borrow.Author.Rules.{rules}
 use Rattle.decoding.proofs.short_call.Goals as goal
 
 pub returns-in-1 : goal.returns-in-1
@@ -57,4 +56,4 @@ returns-in-11 c = rw c.in-11.is
 pub returns-in_default : goal.returns-in_default
 returns-in_default c =
     ap as_named
-    (sym (no_short c.args.subject c.args.argument c.args.number c.in_default.rest))
+    (sym (no_short c.args.subject c.args.argument c.args.number c.in_default.in_default-own.rest))
