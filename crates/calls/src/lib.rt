@@ -9,7 +9,7 @@ pub mod codes;
 pub mod sizes;
 
 // A call, each kind with its own numbers. Any number may stand in any place: those out of range are refused by 19.
-#[derive(Drop)]
+#[derive(Clone, Copy)]
 pub enum Call {
     CreateThread {
         thread: u32,
