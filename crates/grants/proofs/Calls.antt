@@ -2,10 +2,6 @@
 use Prim.Native.Nat.{ℕ, zero, suc, ◌+◌, ◌*◌, ◌^◌}
 use mathlib.Core.Path.{◌≡◌, refl, subst}
 use mathlib.Core.Bool.{true, false}
-use mathlib.Core.List.{List, [], ◌∷◌}
-use types.Run.{OneOf, miss}
-use denote.Enum.Declared.{tag_of}
-use Rattle.calls.specs.contracts.Call.{the_type}
 use Rattle.calls.specs.declared.Call.{Call}
 use Rattle.calls.specs.declared.Call.TheVariants.{CreateThread, DestroyThread, SetPriority, CreateEndpoint}
 use Rattle.calls.specs.declared.Call.TheVariants.{Interrupt, Tick, Send, Receive, Yield, Wait, Delete, Abort}
@@ -18,25 +14,23 @@ use Rattle.calls.proofs.Ranges.{Bounds, bounds}
 pub bounds_of : {c d : Call} → c ≡ d → in_range c ≡ true → Bounds d
 bounds_of {c} e h = subst Bounds e (bounds c h)
 
--- The calls that need no right, by their place in the enum.
-abbrev free : List ℕ
-free = 0 ∷ 1 ∷ 2 ∷ 3 ∷ 4 ∷ 5 ∷ 8 ∷ 9 ∷ 12 ∷ []
-
-pub needs_none : (w : ℕ) (c : Call) → OneOf free (tag_of the_type c) → false ≡ lacks w c
+-- The calls that need no right are those of the kinds that are not these four.
+pub needs_none : (w : ℕ) (c : Call) → ((e b m : ℕ) → c ≡ Send e b m → ⊥) → ((e : ℕ) → c ≡ Receive e → ⊥)
+    → ((e a : ℕ) → c ≡ Delete e a → ⊥) → ((e a b : ℕ) → c ≡ Abort e a b → ⊥) → false ≡ lacks w c
 unfolding lacks
-needs_none w (CreateThread t p) k = refl
-needs_none w (DestroyThread t) k = refl
-needs_none w (SetPriority t p) k = refl
-needs_none w (CreateEndpoint e) k = refl
-needs_none w (Interrupt l) k = refl
-needs_none w Tick k = refl
-needs_none w (Send e b m) k = absurd (miss free 6 tt k)
-needs_none w (Receive e) k = absurd (miss free 7 tt k)
-needs_none w Yield k = refl
-needs_none w (Wait l) k = refl
-needs_none w (Delete e a) k = absurd (miss free 10 tt k)
-needs_none w (Abort e a b) k = absurd (miss free 11 tt k)
-needs_none w (Grant t e r b) k = refl
+needs_none w (CreateThread t p) s r d a = refl
+needs_none w (DestroyThread t) s r d a = refl
+needs_none w (SetPriority t p) s r d a = refl
+needs_none w (CreateEndpoint e) s r d a = refl
+needs_none w (Interrupt l) s r d a = refl
+needs_none w Tick s r d a = refl
+needs_none w (Send e b m) s r d a = absurd (s e b m refl)
+needs_none w (Receive e) s r d a = absurd (r e refl)
+needs_none w Yield s r d a = refl
+needs_none w (Wait l) s r d a = refl
+needs_none w (Delete e n) s r d a = absurd (d e n refl)
+needs_none w (Abort e n b) s r d a = absurd (a e n b refl)
+needs_none w (Grant t e n b) s r d a = refl
 
 -- The word that is stored where there is no right, and where there is one.
 
