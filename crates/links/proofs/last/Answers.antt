@@ -1,0 +1,7 @@
+-- The link to the last of a queue is the word at its tail.
+use Rattle.links.proofs.Readings.{reads_last}
+use Rattle.links.proofs.last.Goals as goal
+
+pub returns : goal.returns
+returns c =
+    reads_last c.requires.1 c.get_link.ensures
