@@ -10,7 +10,7 @@ ghost use Rattle.blocks.specs.Blocks.{ticked_block, LoadsBlock, IsBlock, SetsBlo
 use calls::codes::TICKS;
 use layout::Field;
 
-#[derive(Drop)]
+#[derive(Clone, Copy)]
 pub struct Block {
     pub place: u32,
     pub priority: u32,

@@ -16,7 +16,7 @@ use calls::{Answer, Call, Runner};
 use listing::Listed;
 
 // How a call is told: a line of numbers, a sentence, or one with the call's index, its caller and who runs then.
-#[derive(Drop)]
+#[derive(Clone, Copy)]
 pub enum Form {
     Lines,
     Sentences,

@@ -21,7 +21,7 @@ use rows::Turn;
 pub const PER_BYTE: usize = forms::ROOM / 4;
 
 // The bytes held of a call that is not yet whole, the next call's index, whether the journal goes on.
-#[derive(Drop)]
+#[derive(Clone, Copy)]
 pub struct Lister {
     pub bytes: [u8; 12],
     pub held: usize,

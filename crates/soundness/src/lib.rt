@@ -3,7 +3,7 @@
 #![tactic(auto)]
 
 // Where a walk through an abort's queue is: before its cursor, from there to its end mark, or past that.
-#[derive(Drop)]
+#[derive(Clone, Copy)]
 pub enum Phase {
     Ahead,
     Inside,
