@@ -2,12 +2,12 @@
 -- has the same waiters.
 use Prim.Native.Nat.{ℕ, ◌-◌, ◌≤◌}
 use mathlib.Core.Path.{◌≡◌, refl, sym, ◌∙◌, ap}
-use mathlib.Core.Option.{some}
+use mathlib.Core.Option.{Option, none, some}
 use mathlib.Core.List.{List}
 use lib.Dec.{ltb}
 use lib.ListN.{set}
 use Rattle.machine.specs.Lists.{pick, put}
-use Rattle.machine.specs.State.{State, Endpoint, set_endpoint}
+use Rattle.machine.specs.State.{State, Endpoint, Abort, Status, set_endpoint}
 use Rattle.machine.specs.Endpoints.{pending_of}
 use Rattle.machine.proofs.Lists.{Same, same, other, same?, put_same, put_other}
 use Rattle.layout.specs.declared.Part.{Part}
@@ -17,7 +17,7 @@ use Rattle.layout.specs.Words.{status_code, abort_code, badge_code, first_of, la
 use Rattle.layout.specs.Words.{queues_of}
 use Rattle.layout.specs.Shows.{Shows}
 use Rattle.layout.proofs.Addresses.{same_part}
-use Rattle.store.specs.Store.{SetsStatus, SetsAbort, SetsPending}
+use Rattle.store.specs.Store.{SetsStatus, SetsAbort, SetsPending, with_pending}
 use Rattle.store.proofs.Rows.{RowChanged, change, IsRow, row_store, row_start, row_shows}
 
 -- The slots that are not of endpoint e.
@@ -102,6 +102,13 @@ module _ (e : ℕ) (small : e ≤ 63) where
   pub site_start : (m : List ℕ) (s : State) → Shows m s → Site e m m (endpoint_word (s.endpoints e))
   site_start = row_start (site_row e) (OffSite e) offset is_site
 
+-- Endpoint e with another status, and with another abort.
+abbrev with_status : ℕ → State → Status → Endpoint
+with_status e s x = record { status = x; waiters = (s.endpoints e).waiters; abort = (s.endpoints e).abort }
+
+abbrev with_abort : ℕ → State → Option Abort → Endpoint
+with_abort e s o = record { status = (s.endpoints e).status; waiters = (s.endpoints e).waiters; abort = o }
+
 -- The steps on an endpoint, from the stores that they are.
 
 module _ (e : ℕ) {m n₁ : List ℕ} where
@@ -114,7 +121,7 @@ module _ (e : ℕ) {m n₁ : List ℕ} where
               shows = λ s M h.
                   site_shows e h m n₁ _ s _ M
                   (site_store e h m m n₁ _ Part.Status code e₁ (site_start e h m s M)) refl
-                  (parts _ _ (sym k) refl refl refl refl);
+                  (parts _ (with_status e s x) (sym k) refl refl refl refl);
             };
       }
 
@@ -129,12 +136,13 @@ module _ (e : ℕ) {m n₁ : List ℕ} where
           none = λ h₁ h₂ h₃ h₄.
               record {
                 shows = λ s M h.
-                    site_shows e h m n₄ _ s _ M (stores s M h) refl (parts _ _ refl h₁ h₂ h₃ h₄);
+                    site_shows e h m n₄ _ s _ M (stores s M h) refl (parts _ (with_abort e s none) refl h₁ h₂ h₃ h₄);
               };
           some = λ a h₁ h₂ h₃ h₄.
               record {
                 shows = λ s M h.
-                    site_shows e h m n₄ _ s _ M (stores s M h) refl (parts _ _ refl h₁ h₂ h₃ h₄);
+                    site_shows e h m n₄ _ s _ M (stores s M h) refl
+                    (parts _ (with_abort e s (some a)) refl h₁ h₂ h₃ h₄);
               };
         }
       where
@@ -161,6 +169,7 @@ looks e {m} {n} {o} first last a b =
                 site_shows e h.0 m o _ s _ M
                 (site_store e h.0 m n o _ Part.End last b
                 (site_store e h.0 m m n _ Part.Cursor first a (site_start e h.0 m s M))) refl
-                (parts _ _ refl (rw z) (rw z) (rw z (sym f)) (rw z (sym g)));
+                (parts _ (with_abort e s (with_pending l (s.endpoints e).abort))
+                refl (rw z) (rw z) (rw z (sym f)) (rw z (sym g)));
           };
     }
