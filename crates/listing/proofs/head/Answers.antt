@@ -1,27 +1,24 @@
 -- The header, said at the front of a buffer that has room for it.
-use native.Mathlib.Omega.{arith}
-use borrow.Author.Rules.{rules}
 use Rattle.texts.specs.Text.{bytes}
-use Rattle.texts.proofs.Writing.{counts}
 use Rattle.listing.proofs.Fronts.{front_length, front_after, short_length, short_after}
 use Rattle.listing.proofs.head.Goals as goal
 
 pub returns-then-out-lt-ROOM-clause-value : goal.returns-then-out-lt-ROOM-clause-value
-returns-then-out-lt-ROOM-clause-value c =  short_length _ _ c.if-out-lt-ROOM.true
+returns-then-out-lt-ROOM-clause-value c = short_length _ _ c.if-out-lt-ROOM.true
 
 pub returns-then-out-lt-ROOM-clause-out_after : goal.returns-then-out-lt-ROOM-clause-out_after
-returns-then-out-lt-ROOM-clause-out_after c =  short_after _ _ c.if-out-lt-ROOM.true
+returns-then-out-lt-ROOM-clause-out_after c = short_after _ _ c.if-out-lt-ROOM.true
 
 pub returns-clause-value : goal.returns-clause-value
 unfolding bytes
 returns-clause-value c =
     let said = c.say.ensures in
     let enough = c.if-out-lt-ROOM.false in
-     front_length enough said
+    front_length enough said
 
 pub returns-clause-out_after : goal.returns-clause-out_after
 unfolding bytes
 returns-clause-out_after c =
     let said = c.say.ensures in
     let enough = c.if-out-lt-ROOM.false in
-     front_after enough said
+    front_after enough said

@@ -3,7 +3,6 @@ use Prim.Native.Nat.{ℕ}
 use mathlib.Core.Path.{refl, sym, ap}
 use mathlib.Core.List.{List}
 use native.Mathlib.Omega.{arith}
-use borrow.Author.Rules.{rules}
 use Rattle.calls.specs.declared.Runner.{Runner}
 use Rattle.calls.specs.Answers.{thread_of}
 use Rattle.texts.proofs.Writing.{room_is, wrote_is, wrote_byte}
