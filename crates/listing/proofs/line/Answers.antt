@@ -52,35 +52,46 @@ field-call_at-requires c =
 
 pub field-answer_at-requires : goal.field-answer_at-requires
 field-answer_at-requires c =
-    let room₁ = rest_room (spaced c.args.l.index) (from_call (row_of c.args.l)) (room (goal.at.field-answer_at-requires c).Else-out-lt-ROOM) c.field-call_at.ensures in
+    let room₀ = room (goal.at.field-answer_at-requires c).Else-out-lt-ROOM in
+    let room₁ = rest_room (spaced c.args.l.index) (from_call (row_of c.args.l)) room₀ c.field-call_at.ensures in
     front_room _ (from_answer (row_of c.args.l)) room₁
 
 pub fields-running_at-requires : goal.fields-running_at-requires
 fields-running_at-requires c =
-    let room₁ = rest_room (spaced c.args.l.index) (from_call (row_of c.args.l)) (room (goal.at.fields-running_at-requires c).Else-out-lt-ROOM) c.field-call_at.ensures in
+    let room₀ = room (goal.at.fields-running_at-requires c).Else-out-lt-ROOM in
+    let room₁ = rest_room (spaced c.args.l.index) (from_call (row_of c.args.l)) room₀ c.field-call_at.ensures in
     let room₂ = rest_room (spaced c.args.l.call) (from_answer (row_of c.args.l)) room₁ c.field-answer_at.ensures in
     front_room _ (from_running (row_of c.args.l)) room₂
 
 pub who-end-requires : goal.who-end-requires
 who-end-requires c =
-    let room₁ = rest_room (spaced c.args.l.index) (from_call (row_of c.args.l)) (room (goal.at.who-end-requires c).Else-out-lt-ROOM) c.field-call_at.ensures in
+    let room₀ = room (goal.at.who-end-requires c).Else-out-lt-ROOM in
+    let room₁ = rest_room (spaced c.args.l.index) (from_call (row_of c.args.l)) room₀ c.field-call_at.ensures in
     let room₂ = rest_room (spaced c.args.l.call) (from_answer (row_of c.args.l)) room₁ c.field-answer_at.ensures in
-    let room₃ = rest_room (answer_text c.args.l.answer) (from_running (row_of c.args.l)) room₂ c.fields-running_at.ensures in
+    let room₃ =
+    rest_room (answer_text c.args.l.answer) (from_running (row_of c.args.l)) room₂ c.fields-running_at.ensures
+    in
     front_room _ newline room₃
 
 pub overflow_add-next : goal.overflow_add-next
 overflow_add-next c =
-    let room₁ = rest_room (spaced c.args.l.index) (from_call (row_of c.args.l)) (room (goal.at.overflow_add-next c).Else-out-lt-ROOM) c.field-call_at.ensures in
+    let room₀ = room (goal.at.overflow_add-next c).Else-out-lt-ROOM in
+    let room₁ = rest_room (spaced c.args.l.index) (from_call (row_of c.args.l)) room₀ c.field-call_at.ensures in
     let room₂ = rest_room (spaced c.args.l.call) (from_answer (row_of c.args.l)) room₁ c.field-answer_at.ensures in
-    let room₃ = rest_room (answer_text c.args.l.answer) (from_running (row_of c.args.l)) room₂ c.fields-running_at.ensures in
+    let room₃ =
+    rest_room (answer_text c.args.l.answer) (from_running (row_of c.args.l)) room₂ c.fields-running_at.ensures
+    in
     let room₄ = rest_room (runner (thread_of c.args.l.running)) newline room₃ c.who-end.ensures in
     omega (arith, room₄.fits)
 
 pub bounds-out-end : goal.bounds-out-end
 bounds-out-end c =
-    let room₁ = rest_room (spaced c.args.l.index) (from_call (row_of c.args.l)) (room (goal.at.bounds-out-end c).Else-out-lt-ROOM) c.field-call_at.ensures in
+    let room₀ = room (goal.at.bounds-out-end c).Else-out-lt-ROOM in
+    let room₁ = rest_room (spaced c.args.l.index) (from_call (row_of c.args.l)) room₀ c.field-call_at.ensures in
     let room₂ = rest_room (spaced c.args.l.call) (from_answer (row_of c.args.l)) room₁ c.field-answer_at.ensures in
-    let room₃ = rest_room (answer_text c.args.l.answer) (from_running (row_of c.args.l)) room₂ c.fields-running_at.ensures in
+    let room₃ =
+    rest_room (answer_text c.args.l.answer) (from_running (row_of c.args.l)) room₂ c.fields-running_at.ensures
+    in
     let room₄ = rest_room (runner (thread_of c.args.l.running)) newline room₃ c.who-end.ensures in
     omega (arith, room₄.fits)
 
@@ -89,7 +100,9 @@ returns c =
     let room₀ = room (goal.at.returns c).Else-out-lt-ROOM in
     let room₁ = rest_room (spaced c.args.l.index) (from_call (row_of c.args.l)) room₀ c.field-call_at.ensures in
     let room₂ = rest_room (spaced c.args.l.call) (from_answer (row_of c.args.l)) room₁ c.field-answer_at.ensures in
-    let room₃ = rest_room (answer_text c.args.l.answer) (from_running (row_of c.args.l)) room₂ c.fields-running_at.ensures in
+    let room₃ =
+    rest_room (answer_text c.args.l.answer) (from_running (row_of c.args.l)) room₂ c.fields-running_at.ensures
+    in
     let room₄ = rest_room (runner (thread_of c.args.l.running)) newline room₃ c.who-end.ensures in
     let wrote =
     wrote_is (sym (line_is (row_of c.args.l)))
