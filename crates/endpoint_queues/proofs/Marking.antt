@@ -5,10 +5,11 @@ use mathlib.Core.Option.{Option, none, some}
 use mathlib.Core.List.{List, [], ◌∷◌, ◌++◌, append_assoc}
 use native.Mathlib.Omega.{arith}
 use Rattle.machine.specs.Lists.{without, Distinct}
-use Rattle.machine.specs.State.{State, Abort}
+use Rattle.machine.specs.State.{State, Endpoint, Abort}
+use Rattle.machine.specs.Endpoints.{passing}
 use Rattle.machine.proofs.Lists.{distinct_left, distinct_right}
 use Rattle.layout.specs.declared.Part.{Part}
-use Rattle.layout.specs.Addresses.{at, endpoint_queue}
+use Rattle.layout.specs.Addresses.{endpoint_queue}
 use Rattle.layout.specs.Words.{first_of, last_of, queues_of}
 use Rattle.layout.specs.Shows.{Shows}
 use Rattle.layout.proofs.Standing.{queues_endpoint}
@@ -48,6 +49,15 @@ module _ {m : List ℕ} {t e : ℕ} (s : State) (M : Shows m s) (h : InEndpoint 
       N.prev (queues_of s) M.links (endpoint_queue e) ((h.part a z).0 ++ x) (y ++ (h.part a z).1)
       (omega (arith, h.endpoint)) (around x y k)
 
+-- Endpoint e once its abort has passed t by.
+abbrev passed : ℕ → ℕ → State → Endpoint
+passed t e s =
+    record {
+      status = (s.endpoints e).status;
+      waiters = (s.endpoints e).waiters;
+      abort = passing t (s.endpoints e).abort;
+    }
+
 -- The abort at e passes t by: marks x and y are stored that are the first and the last of those left, or none is.
 module _ {m : List ℕ} {t e : ℕ} where
   stored :
@@ -78,11 +88,11 @@ module _ {m : List ℕ} {t e : ℕ} where
           → Shows m (passing_at t e s)
       go s M h none z =
           site_shows e h.endpoint m m _ s _ M (site_start e h.endpoint m s M) refl
-          (parts _ _ refl (rw z) (rw z) (rw z) (rw z))
+          (parts _ (passed t e s) refl (rw z) (rw z) (rw z) (rw z))
       go s M h (some a) z =
           let k = is s M h a z in
           site_shows e h.endpoint m m _ s _ M (site_start e h.endpoint m s M) refl
-          (parts _ _ refl (rw z) (rw z) (rw z (sym k.0)) (rw z (sym k.1)))
+          (parts _ (passed t e s) refl (rw z) (rw z) (rw z (sym k.0)) (rw z (sym k.1)))
 
 -- The four ways, by whether t is the cursor c and the end mark d.
 module _ {m : List ℕ} {t e c d : ℕ} (C : Tells m (IsEndpoint e) c (endpoint_in Part.Cursor e))
