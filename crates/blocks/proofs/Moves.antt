@@ -1,4 +1,4 @@
--- A block out of the tables and into them: the eight words are those of the thread, and the four steps make the thread.
+-- A block into the tables: the four steps make the thread.
 use Prim.Native.Nat.{ℕ, ◌-◌}
 use mathlib.Core.Path.{◌≡◌, refl, sym, ◌∙◌, ap, subst}
 use mathlib.Core.List.{List}
@@ -12,30 +12,6 @@ use Rattle.store.proofs.Composed.{still, remade}
 use Rattle.blocks.specs.declared.Block.{Block}
 use Rattle.blocks.specs.Blocks.{refilled, ticked_block, block_of, LoadsBlock, IsBlock, SetsBlock}
 use Rattle.blocks.proofs.Ticks.{with_ticks_lem}
-
-pub loaded :
-    {m : List ℕ} {t : ℕ} (b : Block) → Tells m (IsThread t) b.place (thread_in Field.Place t)
-    → Tells m (IsThread t) b.priority (thread_in Field.Priority t)
-    → Tells m (IsThread t) b.ticks (thread_in Field.Ticks t)
-    → Tells m (IsThread t) b.outcome (thread_in Field.Outcome t)
-    → Tells m (IsThread t) b.badge (thread_in Field.Badge t)
-    → Tells m (IsThread t) b.message (thread_in Field.Message t)
-    → Tells m (IsThread t) b.owes (thread_in Field.Owes t)
-    → Tells m (IsThread t) b.note (thread_in Field.Note t) → LoadsBlock m t b
-loaded b P Q T O B X D N =
-    record {
-      loads = λ s M h i.
-          record {
-            place = P.tells s M h i;
-            priority = Q.tells s M h i;
-            ticks = T.tells s M h i;
-            outcome = O.tells s M h i;
-            badge = B.tells s M h i;
-            message = X.tells s M h i;
-            owes = D.tells s M h i;
-            note = N.tells s M h i;
-          };
-    }
 
 -- What a block owes is what a thread owes, so the memory still shows a state.
 pub owed :

@@ -87,7 +87,8 @@ module _ (e b : ℕ) (s : State) where
           → put f n (informed_thread e b (f n)) t
           ≡ pick (ltb t (n + 1)) (informed_thread e b (s.threads t)) (s.threads t)
       go t (same j _) =
-          rw (j, put_same f n (informed_thread e b (f n)), lt-ltb n (n + 1) (omega arith)) (ap (informed_thread e b) at_n)
+          rw (j, put_same f n (informed_thread e b (f n)), lt-ltb n (n + 1) (omega arith))
+          (ap (informed_thread e b) at_n)
       go t (other d _) =
           put_other f n t (informed_thread e b (f n)) d
           ∙ ap (λ (x : Bool). pick x (informed_thread e b (s.threads t)) (s.threads t)) (passed t d (below? t n))
