@@ -1,0 +1,8 @@
+-- A thread stands where its place says, by its mark and the words read.
+use Rattle.sound_queues.proofs.Placing.{placed_is}
+use Rattle.sound_queues.proofs.places.place.Goals as goal
+
+pub returns : goal.returns
+returns c =
+    placed_is _ _ (c.has_met-met.ensures.tells _ c.requires.2) c.thread-place.ensures
+    c.wide-running.ensures c.wide_link.ensures c.wide_link-2.ensures
