@@ -1,12 +1,12 @@
 -- How a thread was woken, read from the tables.
-use Rattle.std.proofs.Common.{◌≡◌, ℕ, ◌<◌, ◌≤◌, Bool, eqb, leb, List, length, sym, refl, ap, ◌∙◌, eq-eqb, ne_eqb, le-leb}
+use Rattle.std.proofs.Common.{◌≡◌, ℕ, ◌<◌, ◌≤◌, Bool, List, length, sym, refl, ap, ◌∙◌, eq-eqb, ne_eqb, le-leb}
 use borrow.Author.Tests.{lt-leb}
 use Rattle.machine.specs.Lists.{pick}
 use Rattle.machine.specs.State.{State, able}
 use Rattle.machine.specs.Sound.{Sound}
 use Rattle.layout.specs.declared.Field.{Field}
 use Rattle.layout.specs.declared.Slot.{Slot}
-use Rattle.layout.specs.Addresses.{table_words, at, slot}
+use Rattle.layout.specs.Addresses.{table_words, slot}
 use Rattle.layout.specs.Words.{image}
 use Rattle.layout.proofs.Image.{length_image, image_name}
 use Rattle.lent_tables.specs.declared.how.Waking.{Waking}
