@@ -1,25 +1,23 @@
 -- No tick that reads is left out.
-use Prim.Native.Nat.{ℕ, zero, suc, ◌+◌, ◌≤◌, ◌<◌}
-use mathlib.Core.Path.{◌≡◌, refl, sym, ap, ◌∙◌}
-use mathlib.Core.Bool.{Bool, true, false}
+use Prim.Native.Nat.{ℕ, zero, suc}
+use mathlib.Core.Path.{◌≡◌, refl}
 use mathlib.Core.Option.{Option, none, some}
-use mathlib.Core.List.{List, [], ◌∷◌}
+use mathlib.Core.List.{List}
 use native.Mathlib.Omega.{arith}
 use lib.Dec.{eqb}
 use lib.ListN.{length}
 use Rattle.calls.specs.declared.Call.{Call}
 use Rattle.calls.specs.declared.Call.TheVariants.{CreateThread, DestroyThread, SetPriority, CreateEndpoint}
 use Rattle.calls.specs.declared.Call.TheVariants.{Interrupt, Tick, Send, Receive, Yield, Wait, Delete, Abort, Grant}
-use Rattle.calls.specs.Calls.{number_of, in_range}
+use Rattle.calls.specs.Calls.{number_of}
 use Rattle.machine.specs.Lists.{pick}
-use Rattle.calls.specs.Answers.{is_accepted}
 use Rattle.machine.specs.State.{State, fresh_state}
 use Rattle.machine.specs.Grants.{Grants, fresh_grants, barred, lacks}
 use Rattle.machine.specs.Machine.{step, grants_by, perform_if, perform_unless, perform, tick}
 use Rattle.journal.specs.declared.types.Read.{Read}
 use Rattle.journal.specs.declared.types.Read.TheVariants.{Found, Refused, Ended}
 use Rattle.journal.specs.Words.{read_at}
-use Rattle.journal.specs.Course.{Made, Course, made_in, course_from, course_of}
+use Rattle.journal.specs.Course.{made_in, course_from, course_of}
 use Rattle.billing.specs.Ticks.{ticked, accepted_ticks, tick_calls}
 
 tick_done : (g : Grants) (s : State) → (step g s Tick).answer.code ≡ 0

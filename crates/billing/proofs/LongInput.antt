@@ -1,16 +1,13 @@
 -- What is longer than any bill takes needs no reading.
-use Prim.Native.Nat.{ℕ, suc, ◌+◌, ◌/◌, ◌%◌, ◌≤◌, ◌<◌}
-use mathlib.Core.Path.{◌≡◌, refl, sym, ap, ◌∙◌}
-use mathlib.Core.Bool.{Bool, true, false, ◌&&◌}
-use mathlib.Core.List.{List, [], ◌∷◌}
+use Prim.Native.Nat.{ℕ, ◌%◌, ◌≤◌, ◌<◌}
+use mathlib.Core.Path.{◌≡◌}
+use mathlib.Core.List.{List}
 use native.Mathlib.Omega.{arith}
 use borrow.Author.Tests.{le-leb, lt-leb}
-use lib.Dec.{leb, eqb}
 use lib.ListN.{length, drop, replicate, length-drop}
-use Rattle.machine.specs.Lists.{pick}
 use Rattle.input.specs.Words.{little_endian, words_in}
 use Rattle.input.proofs.Appended.{length_words}
-use Rattle.billing.specs.Ticks.{Counted, count_for}
+use Rattle.billing.specs.Ticks.{count_for}
 use Rattle.billing.specs.Bills.{alone, billed, printed}
 
 too_many : (input : List ℕ) → 64008 ≤ length input → 16000 < length (words_in (drop 4 input))

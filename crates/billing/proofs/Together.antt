@@ -1,6 +1,6 @@
 use Prim.Native.Nat.{ℕ, zero, suc, ◌+◌, ◌≤◌, ◌<◌}
-use mathlib.Core.Path.{◌≡◌, refl, sym, ap, ◌∙◌}
-use mathlib.Core.Bool.{Bool, true, false}
+use mathlib.Core.Path.{◌≡◌, refl, ap, ◌∙◌}
+use mathlib.Core.Bool.{Bool}
 use mathlib.Core.Option.{Option, none, some}
 use mathlib.Core.List.{List, [], ◌∷◌}
 use native.Mathlib.Omega.{arith}
@@ -17,7 +17,7 @@ use Rattle.machine.proofs.Preserved.Steps.{step_sound, fresh_sound}
 use Rattle.journal.specs.declared.types.Read.{Read}
 use Rattle.journal.specs.declared.types.Read.TheVariants.{Found, Refused, Ended}
 use Rattle.journal.specs.Words.{read_at}
-use Rattle.journal.specs.Course.{Made, Course, course_from, course_of}
+use Rattle.journal.specs.Course.{Made, course_from, course_of}
 use Rattle.layout.specs.Words.{tabulate}
 use Rattle.layout.proofs.Neat.{sound_neat}
 use Rattle.billing.specs.Ticks.{sum, ticked, ticks_of, accepted_ticks, count_words, counts_of, Chained}
