@@ -16,8 +16,8 @@ use Rattle.billing.specs.Bills.{lines_from, bill_of, printed}
 
 -- All that is opened to compute a count or a bill.
 unfoldable opened : Unit {0}
-unfolding ticked ticks_of counts_of count_for rounded lines_from bill_of printed words_in bytes last_digits decimal spaced
-    tabulate course_of course_from read_at read_from call_at call_of words_taken computed
+unfolding ticked ticks_of counts_of count_for rounded lines_from bill_of printed words_in bytes last_digits decimal
+    spaced tabulate course_of course_from read_at read_from call_at call_of words_taken computed
 opened = tt
 
 -- The four bytes of each word, as standard input has them.

@@ -1,6 +1,6 @@
 -- The lines of a bill: one thread more, and how long they are.
 use Prim.Native.Nat.{ℕ, zero, suc, ◌+◌, ◌*◌, ◌≤◌, ◌<◌}
-use mathlib.Core.Path.{◌≡◌, refl, sym, ap, ◌∙◌}
+use mathlib.Core.Path.{◌≡◌, sym, ap, ◌∙◌}
 use mathlib.Core.Bool.{Bool, true, false}
 use mathlib.Core.List.{List, [], ◌∷◌, ◌++◌, append_assoc, append-nil}
 use native.Mathlib.Omega.{arith}
@@ -81,7 +81,8 @@ lines_end {rate} {t} {at} {counts} r few s w =
 -- One thread more.
 pub wrote_more :
     {rate t at p : ℕ} {counts out out₁ out₂ : List ℕ} → rate ≤ most_rate → Few counts → bill_room ≤ length out → t < 256
-    → Wrote out 0 (lines_from rate 0 (take t counts)) at out₁ → Wrote out₁ at (entry_of rate t (get_or counts t 0)) p out₂
+    → Wrote out 0 (lines_from rate 0 (take t counts)) at out₁
+    → Wrote out₁ at (entry_of rate t (get_or counts t 0)) p out₂
     → Wrote out 0 (lines_from rate 0 (take (t + 1) counts)) p out₂
 wrote_more {rate} {t} {counts = counts} r few h s w v =
     let e : t + 1 ≡ suc t = omega arith in
@@ -97,7 +98,9 @@ wrote_more {rate} {t} {counts = counts} r few h s w v =
 abbrev pub idle_line : List ℕ → List ℕ
 idle_line counts = bytes "idle " ++ alone (get_or counts 256 0)
 
-pub bill_is : (rate : ℕ) (counts : List ℕ) → bill_of rate counts ≡ lines_from rate 0 (take 256 counts) ++ idle_line counts
+pub bill_is :
+    (rate : ℕ) (counts : List ℕ)
+    → bill_of rate counts ≡ lines_from rate 0 (take 256 counts) ++ idle_line counts
 unfolding bill_of
 bill_is rate counts = simp append_assoc
 
