@@ -1,6 +1,8 @@
 // Lists the journal that comes on standard input.
+#![tactic(auto)]
+
 use forms::Form;
 
-fn main() {
-    stream::run(Form::Lines);
+fn main(rt: HostRuntime) {
+    stream::run(&mut files::standard(&rt), Form::Lines);
 }
