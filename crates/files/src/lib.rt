@@ -8,6 +8,9 @@ ghost use Rattle.files.specs.Counts.{IsPrefixLen};
 
 use std::io::{Read, Stderr, Stdin, Stdout, Write};
 
+#[cfg(test)]
+mod tests;
+
 // Where a program reads, where it writes, and where it says what it could not do.
 #[derive(Drop)]
 pub struct Streams<R, W, E> {
