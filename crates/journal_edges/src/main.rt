@@ -88,16 +88,16 @@ const ABORT_CUT: [u32; 1] = [0x1C40_0000];
 
 const GRANT_CUT: [u32; 1] = [0x1D03_0100];
 
-fn text(bytes: &[u8]) {
-    io::write_all(1, bytes);
+fn text(rt: &impl Print, bytes: &[u8]) {
+    let _ = rt.write_all(bytes);
 }
 
-fn number(n: u32) {
-    io::print_decimal(1, n as u64);
+fn number(rt: &impl Print, n: u32) {
+    let _ = print!(rt; "{n}");
 }
 
-fn place(n: usize) {
-    io::print_decimal(1, n as u64);
+fn place(rt: &impl Print, n: usize) {
+    let _ = print!(rt; "{n}");
 }
 
 // The numbers that a call carries, in order, with zeros for those that it has not.
@@ -152,54 +152,52 @@ fn numbers(call: Call) -> Quadruple {
     }
 }
 
-fn show_number(n: u32) {
-    text(b" ");
-    number(n);
+fn show_number(rt: &impl Print, n: u32) {
+    text(rt, b" ");
+    number(rt, n);
 }
 
-fn show_call(call: Call) {
-    show_number(calls::number(call));
+fn show_call(rt: &impl Print, call: Call) {
+    show_number(rt, calls::number(call));
     let n = numbers(call);
-    show_number(n.first);
-    show_number(n.second);
-    show_number(n.third);
-    show_number(n.fourth);
+    show_number(rt, n.first);
+    show_number(rt, n.second);
+    show_number(rt, n.third);
+    show_number(rt, n.fourth);
 }
 
 // The code, for a call its number and its numbers, and the place to go on from.
-fn show(reading: Read) {
+fn show(rt: &impl Print, reading: Read) {
     match reading {
         Read::Found { call, next } => {
-            text(b" 0");
-            show_call(call);
-            text(b" ");
-            place(next);
+            text(rt, b" 0");
+            show_call(rt, call);
+            text(rt, b" ");
+            place(rt, next);
         }
         Read::Refused { code, at } => {
-            show_number(code);
-            text(b" ");
-            place(at);
+            show_number(rt, code);
+            text(rt, b" ");
+            place(rt, at);
         }
-        Read::Ended => text(b" ended"),
+        Read::Ended => text(rt, b" ended"),
     }
 }
 
 // A line for what reads at a place.
-fn show_at(journal: &[u32], at: usize) {
-    place(at);
-    text(b":");
-    show(parsing::read(journal, at));
-    text(b"\n");
+fn show_at(rt: &impl Print, journal: &[u32], at: usize) {
+    place(rt, at);
+    text(rt, b":");
+    show(rt, parsing::read(journal, at));
+    text(rt, b"\n");
 }
 
 // What reads at each word, and at the two places past the last.
-fn show_all(journal: &[u32]) {
-    let mut at = 0;
-    while at <= journal.len() {
-        show_at(journal, at);
-        at += 1;
+fn show_all(rt: &impl Print, journal: &[u32]) {
+    for at in 0..=journal.len() {
+        show_at(rt, journal, at);
     }
-    show_at(journal, at);
+    show_at(rt, journal, journal.len() + 1);
 }
 
 // How many words the call takes that begins so, or the refusal.
@@ -214,196 +212,254 @@ fn taken(top: u32, argument: u32) -> usize
     }
 }
 
-fn show_top(top: u32, argument: u32)
+fn show_top(rt: &impl Print, top: u32, argument: u32)
     requires { (top < 256) × (argument < 2) }
 {
-    place(taken(top, argument));
+    place(rt, taken(top, argument));
     if top % 16 == 15 {
-        text(b"\n");
+        text(rt, b"\n");
     } else {
-        text(b" ");
+        text(rt, b" ");
     }
 }
 
 // All top bytes, a row for each value of the top four bits.
-fn show_tops(argument: u32)
+fn show_tops(rt: &impl Print, argument: u32)
     requires { argument < 2 }
 {
-    let mut top: u32 = 0;
-    while top < 256 {
-        show_top(top, argument);
-        top += 1;
+    for top in 0..256 {
+        show_top(rt, top, argument);
     }
 }
 
-fn word(w: u32) {
-    text(b" ");
-    io::print_hex(1, w as u64, 8);
+fn word(rt: &impl Print, w: u32) {
+    text(rt, b" ");
+    let _ = print!(rt; "{w:08x}");
 }
 
 // A line for what a call is written as: code, count and the three words.
-fn show_written(call: Call) {
+fn show_written(rt: &impl Print, call: Call) {
     let w = encoding::write(call);
-    number(w.code);
-    text(b" ");
-    place(w.count);
+    number(rt, w.code);
+    text(rt, b" ");
+    place(rt, w.count);
     let words = w.words;
-    word(words[0]);
-    word(words[1]);
-    word(words[2]);
-    text(b"\n");
+    word(rt, words[0]);
+    word(rt, words[1]);
+    word(rt, words[2]);
+    text(rt, b"\n");
 }
 
-fn write_threads() {
-    show_written(Call::CreateThread {
-        thread: 255,
-        priority: 255,
-    });
-    show_written(Call::CreateThread {
-        thread: 255,
-        priority: 256,
-    });
-    show_written(Call::CreateThread {
-        thread: 256,
-        priority: 0,
-    });
-    show_written(Call::DestroyThread { thread: 255 });
-    show_written(Call::DestroyThread { thread: 256 });
-    show_written(Call::SetPriority {
-        thread: 255,
-        priority: 255,
-    });
-    show_written(Call::SetPriority {
-        thread: 0,
-        priority: 256,
-    });
-    show_written(Call::Tick);
+fn write_threads(rt: &impl Print) {
+    show_written(
+        rt,
+        Call::CreateThread {
+            thread: 255,
+            priority: 255,
+        },
+    );
+    show_written(
+        rt,
+        Call::CreateThread {
+            thread: 255,
+            priority: 256,
+        },
+    );
+    show_written(
+        rt,
+        Call::CreateThread {
+            thread: 256,
+            priority: 0,
+        },
+    );
+    show_written(rt, Call::DestroyThread { thread: 255 });
+    show_written(rt, Call::DestroyThread { thread: 256 });
+    show_written(
+        rt,
+        Call::SetPriority {
+            thread: 255,
+            priority: 255,
+        },
+    );
+    show_written(
+        rt,
+        Call::SetPriority {
+            thread: 0,
+            priority: 256,
+        },
+    );
+    show_written(rt, Call::Tick);
 }
 
-fn write_lines() {
-    show_written(Call::CreateEndpoint { endpoint: 63 });
-    show_written(Call::CreateEndpoint { endpoint: 64 });
-    show_written(Call::Interrupt { line: 31 });
-    show_written(Call::Interrupt { line: 32 });
-    show_written(Call::Receive { endpoint: 63 });
-    show_written(Call::Receive { endpoint: 64 });
-    show_written(Call::Wait { line: 31 });
-    show_written(Call::Wait { line: 32 });
+fn write_lines(rt: &impl Print) {
+    show_written(rt, Call::CreateEndpoint { endpoint: 63 });
+    show_written(rt, Call::CreateEndpoint { endpoint: 64 });
+    show_written(rt, Call::Interrupt { line: 31 });
+    show_written(rt, Call::Interrupt { line: 32 });
+    show_written(rt, Call::Receive { endpoint: 63 });
+    show_written(rt, Call::Receive { endpoint: 64 });
+    show_written(rt, Call::Wait { line: 31 });
+    show_written(rt, Call::Wait { line: 32 });
 }
 
 // Badge and message 0, 2^28 - 1 and 2^28.
-fn write_sends() {
-    show_written(Call::Yield);
-    show_written(Call::Send {
-        endpoint: 63,
-        badge: 0,
-        message: 0,
-    });
-    show_written(Call::Send {
-        endpoint: 63,
-        badge: 0x0FFF_FFFF,
-        message: 0x0FFF_FFFF,
-    });
-    show_written(Call::Send {
-        endpoint: 63,
-        badge: 0x1000_0000,
-        message: 0,
-    });
-    show_written(Call::Send {
-        endpoint: 63,
-        badge: 0,
-        message: 0x1000_0000,
-    });
-    show_written(Call::Send {
-        endpoint: 64,
-        badge: 0,
-        message: 0,
-    });
+fn write_sends(rt: &impl Print) {
+    show_written(rt, Call::Yield);
+    show_written(
+        rt,
+        Call::Send {
+            endpoint: 63,
+            badge: 0,
+            message: 0,
+        },
+    );
+    show_written(
+        rt,
+        Call::Send {
+            endpoint: 63,
+            badge: 0x0FFF_FFFF,
+            message: 0x0FFF_FFFF,
+        },
+    );
+    show_written(
+        rt,
+        Call::Send {
+            endpoint: 63,
+            badge: 0x1000_0000,
+            message: 0,
+        },
+    );
+    show_written(
+        rt,
+        Call::Send {
+            endpoint: 63,
+            badge: 0,
+            message: 0x1000_0000,
+        },
+    );
+    show_written(
+        rt,
+        Call::Send {
+            endpoint: 64,
+            badge: 0,
+            message: 0,
+        },
+    );
 }
 
 // Allowance 0, 1, 65,535 and 65,536.
-fn write_deletes() {
-    show_written(Call::Delete {
-        endpoint: 63,
-        allowance: 0,
-    });
-    show_written(Call::Delete {
-        endpoint: 63,
-        allowance: 1,
-    });
-    show_written(Call::Delete {
-        endpoint: 63,
-        allowance: 65535,
-    });
-    show_written(Call::Delete {
-        endpoint: 63,
-        allowance: 65536,
-    });
+fn write_deletes(rt: &impl Print) {
+    show_written(
+        rt,
+        Call::Delete {
+            endpoint: 63,
+            allowance: 0,
+        },
+    );
+    show_written(
+        rt,
+        Call::Delete {
+            endpoint: 63,
+            allowance: 1,
+        },
+    );
+    show_written(
+        rt,
+        Call::Delete {
+            endpoint: 63,
+            allowance: 65535,
+        },
+    );
+    show_written(
+        rt,
+        Call::Delete {
+            endpoint: 63,
+            allowance: 65536,
+        },
+    );
 }
 
-fn show_grant(thread: u32, endpoint: u32, rights: u32, badge: u32) {
-    show_written(Call::Grant {
-        thread,
-        endpoint,
-        rights,
-        badge,
-    });
+fn show_grant(rt: &impl Print, thread: u32, endpoint: u32, rights: u32, badge: u32) {
+    show_written(
+        rt,
+        Call::Grant {
+            thread,
+            endpoint,
+            rights,
+            badge,
+        },
+    );
 }
 
-fn write_aborts() {
-    show_written(Call::Abort {
-        endpoint: 63,
-        allowance: 1,
-        badge: 0,
-    });
-    show_written(Call::Abort {
-        endpoint: 63,
-        allowance: 65535,
-        badge: 0x0FFF_FFFF,
-    });
-    show_written(Call::Abort {
-        endpoint: 63,
-        allowance: 1,
-        badge: 0x1000_0000,
-    });
-    show_written(Call::Abort {
-        endpoint: 63,
-        allowance: 0,
-        badge: 0,
-    });
-    show_written(Call::Abort {
-        endpoint: 64,
-        allowance: 1,
-        badge: 0,
-    });
+fn write_aborts(rt: &impl Print) {
+    show_written(
+        rt,
+        Call::Abort {
+            endpoint: 63,
+            allowance: 1,
+            badge: 0,
+        },
+    );
+    show_written(
+        rt,
+        Call::Abort {
+            endpoint: 63,
+            allowance: 65535,
+            badge: 0x0FFF_FFFF,
+        },
+    );
+    show_written(
+        rt,
+        Call::Abort {
+            endpoint: 63,
+            allowance: 1,
+            badge: 0x1000_0000,
+        },
+    );
+    show_written(
+        rt,
+        Call::Abort {
+            endpoint: 63,
+            allowance: 0,
+            badge: 0,
+        },
+    );
+    show_written(
+        rt,
+        Call::Abort {
+            endpoint: 64,
+            allowance: 1,
+            badge: 0,
+        },
+    );
 }
 
 // A badge with rights 0; then each number too large by one.
-fn write_grants() {
-    show_grant(255, 63, 15, 0x0FFF_FFFF);
-    show_grant(0, 0, 0, 7);
-    show_grant(256, 0, 1, 0);
-    show_grant(0, 64, 1, 0);
-    show_grant(0, 0, 16, 0);
-    show_grant(0, 0, 0, 0x1000_0000);
+fn write_grants(rt: &impl Print) {
+    show_grant(rt, 255, 63, 15, 0x0FFF_FFFF);
+    show_grant(rt, 0, 0, 0, 7);
+    show_grant(rt, 256, 0, 1, 0);
+    show_grant(rt, 0, 64, 1, 0);
+    show_grant(rt, 0, 0, 16, 0);
+    show_grant(rt, 0, 0, 0, 0x1000_0000);
 }
 
-fn show_writing() {
-    write_threads();
-    write_lines();
-    write_sends();
-    write_deletes();
-    write_aborts();
-    write_grants();
+fn show_writing(rt: &impl Print) {
+    write_threads(rt);
+    write_lines(rt);
+    write_sends(rt);
+    write_deletes(rt);
+    write_aborts(rt);
+    write_grants(rt);
 }
 
-fn main() {
-    show_all(&JOURNAL);
-    show_all(&LAST);
-    show_all(&SEND_CUT);
-    show_all(&ABORT_CUT);
-    show_all(&GRANT_CUT);
-    show_tops(0);
-    show_tops(1);
-    show_writing();
+fn main(rt: HostRuntime) {
+    show_all(&rt, &JOURNAL);
+    show_all(&rt, &LAST);
+    show_all(&rt, &SEND_CUT);
+    show_all(&rt, &ABORT_CUT);
+    show_all(&rt, &GRANT_CUT);
+    show_tops(&rt, 0);
+    show_tops(&rt, 1);
+    show_writing(&rt);
 }

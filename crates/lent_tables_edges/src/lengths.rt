@@ -15,70 +15,70 @@ fn check_part(tables: &[u32], scratch: &mut [u32], n: usize, k: usize) -> u32
     memory::check(&tables[..n], &mut scratch[..k])
 }
 
-fn fresh(tables: &mut [u32], n: usize)
+fn fresh(rt: &impl Print, tables: &mut [u32], n: usize)
     requires { n ≤ length tables.old }
 {
     memory::fill(tables);
     let before = memory::sum(tables);
     let answer = fresh_part(tables, n);
-    out::value(b"fresh", n as u64);
-    out::next(b"answer", answer as u64);
-    out::next(b"sum", before);
-    out::next(b"then", memory::sum(tables));
-    out::line();
+    out::value(rt, b"fresh", n as u64);
+    out::next(rt, b"answer", answer as u64);
+    out::next(rt, b"sum", before);
+    out::next(rt, b"then", memory::sum(tables));
+    out::line(rt);
 }
 
-fn check(tables: &[u32], scratch: &mut [u32], n: usize, k: usize)
+fn check(rt: &impl Print, tables: &[u32], scratch: &mut [u32], n: usize, k: usize)
     requires { (n ≤ length tables.now) × (k ≤ length scratch.old) }
 {
     memory::fill(scratch);
     let words = memory::sum(tables);
     let before = memory::sum(scratch);
     let answer = check_part(tables, scratch, n, k);
-    out::value(b"check", n as u64);
-    out::next(b"scratch", k as u64);
-    out::next(b"answer", answer as u64);
-    out::next(b"sum", words);
-    out::next(b"then", memory::sum(tables));
-    out::next(b"sum", before);
-    out::next(b"then", memory::sum(scratch));
-    out::line();
+    out::value(rt, b"check", n as u64);
+    out::next(rt, b"scratch", k as u64);
+    out::next(rt, b"answer", answer as u64);
+    out::next(rt, b"sum", words);
+    out::next(rt, b"then", memory::sum(tables));
+    out::next(rt, b"sum", before);
+    out::next(rt, b"then", memory::sum(scratch));
+    out::line(rt);
 }
 
-fn show_fresh(tables: &mut [u32])
+fn show_fresh(rt: &impl Print, tables: &mut [u32])
     requires { 4097 ≤ length tables.old }
 {
-    fresh(tables, 0);
-    fresh(tables, 4095);
-    fresh(tables, 4097);
-    fresh(tables, 4096);
+    fresh(rt, tables, 0);
+    fresh(rt, tables, 4095);
+    fresh(rt, tables, 4097);
+    fresh(rt, tables, 4096);
 }
 
-fn show_tables(tables: &[u32], scratch: &mut [u32])
+fn show_tables(rt: &impl Print, tables: &[u32], scratch: &mut [u32])
     requires { (4097 ≤ length tables.now) × (257 ≤ length scratch.old) }
 {
-    check(tables, scratch, 0, 256);
-    check(tables, scratch, 4095, 256);
-    check(tables, scratch, 4097, 256);
-    check(tables, scratch, 4096, 256);
+    check(rt, tables, scratch, 0, 256);
+    check(rt, tables, scratch, 4095, 256);
+    check(rt, tables, scratch, 4097, 256);
+    check(rt, tables, scratch, 4096, 256);
 }
 
-fn show_scratch(tables: &[u32], scratch: &mut [u32])
+fn show_scratch(rt: &impl Print, tables: &[u32], scratch: &mut [u32])
     requires { (4097 ≤ length tables.now) × (257 ≤ length scratch.old) }
 {
-    check(tables, scratch, 4096, 0);
-    check(tables, scratch, 4096, 255);
-    check(tables, scratch, 4096, 257);
-    check(tables, scratch, 4095, 255);
+    check(rt, tables, scratch, 4096, 0);
+    check(rt, tables, scratch, 4096, 255);
+    check(rt, tables, scratch, 4096, 257);
+    check(rt, tables, scratch, 4095, 255);
 }
 
-pub fn show() {
+pub fn show(rt: &impl Print) {
     let mut tables = [0u32; 4097];
     let mut scratch = [0u32; 257];
     memory::fill(&mut tables);
-    show_tables(&tables, &mut scratch);
-    show_scratch(&tables, &mut scratch);
-    show_fresh(&mut tables);
-    show_tables(&tables, &mut scratch);
-    show_scratch(&tables, &mut scratch);
+    show_tables(rt, &tables, &mut scratch);
+    show_scratch(rt, &tables, &mut scratch);
+    show_fresh(rt, &mut tables);
+    show_tables(rt, &tables, &mut scratch);
+    show_scratch(rt, &tables, &mut scratch);
 }

@@ -12,23 +12,25 @@ mod out;
 mod scan;
 mod sweep;
 
+// More bytes than tests/tables.txt has.
+const ROOM: usize = 65_536;
+
 // The text is that of tests/tables.txt; each table begins behind a #.
-fn show_tables(text: &[u8], kept: &mut [u32])
+fn show_tables(rt: &impl Print, text: &[u8], kept: &mut [u32])
     requires { length kept.old ≡ table_words }
 {
-    let mut number: u64 = 0;
     let mut at = scan::table(text, 0, kept);
-    while number < 10 {
-        number += 1;
+    for number in 1..=10 {
         at = scan::table(text, at, kept);
-        sweep::table(number, kept);
+        sweep::table(rt, number, kept);
     }
 }
 
-fn main() {
-    let mut text = io::large_buffer();
+fn main(rt: HostRuntime) {
+    let mut text = [0u8; ROOM];
     let mut kept = [0u32; lent_tables::TABLE_WORDS];
-    lengths::show();
-    let n = io::read_full(libc::STDIN_FILENO, &mut text);
-    show_tables(&text[..n], &mut kept);
+    lengths::show(&rt);
+    let got = files::whole(&mut files::standard(&rt), &mut text);
+    let used = got.used;
+    show_tables(&rt, &text[..used], &mut kept);
 }

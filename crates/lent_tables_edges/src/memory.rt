@@ -4,45 +4,33 @@ ghost use Rattle.std.specs.Prelude.{◌≡◌, ◌<◌, length};
 // Words none of which is 0.
 pub fn fill(words: &mut [u32]) {
     let mut word: u32 = 0;
-    let mut i = 0;
-    while i < words.len() {
-        word = std::num::wrapping_add_u32(word, 0x9E37_79B9);
-        words[i] = word;
-        i += 1;
+    for w in words.iter_mut() {
+        word = word.wrapping_add(0x9E37_79B9);
+        *w = word;
     }
 }
 
 pub fn clear(words: &mut [u32]) {
-    let mut i = 0;
-    while i < words.len() {
-        words[i] = 0;
-        i += 1;
-    }
+    words.fill(0);
 }
 
 pub fn copy(to: &mut [u32], from: &[u32])
     requires { length to.old ≡ length from.now }
 {
-    let mut i = 0;
-    while i < from.len() {
-        to[i] = from[i];
-        i += 1;
-    }
+    to.copy_from_slice(from);
 }
 
 fn wide(word: u32) -> u64
     ensures { result < 4294967296 }
 {
-    word as u64
+    u64::from(word)
 }
 
 // A number by which two programs can see that they have the same words.
 pub fn sum(words: &[u32]) -> u64 {
     let mut sum: u64 = 0;
-    let mut i = 0;
-    while i < words.len() {
-        sum = (31 * sum + wide(words[i])) % 4_294_967_291;
-        i += 1;
+    for w in words {
+        sum = (31 * sum + wide(*w)) % 4_294_967_291;
     }
     sum
 }
@@ -60,10 +48,8 @@ pub fn differing(a: &[u32], b: &[u32]) -> u32
     requires { length a.now ≡ length b.now }
 {
     let mut n: u32 = 0;
-    let mut i = 0;
-    while i < a.len() {
-        n = std::num::wrapping_add_u32(n, unlike(a[i], b[i]));
-        i += 1;
+    for i in 0..a.len() {
+        n = n.wrapping_add(unlike(a[i], b[i]));
     }
     n
 }
@@ -71,10 +57,8 @@ pub fn differing(a: &[u32], b: &[u32]) -> u32
 // How many words are not 0.
 pub fn nonzero(words: &[u32]) -> u32 {
     let mut n: u32 = 0;
-    let mut i = 0;
-    while i < words.len() {
-        n = std::num::wrapping_add_u32(n, unlike(words[i], 0));
-        i += 1;
+    for w in words {
+        n = n.wrapping_add(unlike(*w, 0));
     }
     n
 }

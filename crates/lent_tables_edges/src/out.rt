@@ -1,23 +1,21 @@
 // What is written to standard output.
-use libc::STDOUT_FILENO;
 
-pub fn text(bytes: &[u8]) {
-    io::write_all(STDOUT_FILENO, bytes);
+pub fn text(rt: &impl Print, bytes: &[u8]) {
+    let _ = rt.write_all(bytes);
 }
 
 // A name and a number.
-pub fn value(name: &[u8], n: u64) {
-    text(name);
-    text(b" ");
-    io::print_decimal(STDOUT_FILENO, n);
+pub fn value(rt: &impl Print, name: &[u8], n: u64) {
+    text(rt, name);
+    let _ = print!(rt; " {n}");
 }
 
 // The same, behind another.
-pub fn next(name: &[u8], n: u64) {
-    text(b" ");
-    value(name, n);
+pub fn next(rt: &impl Print, name: &[u8], n: u64) {
+    text(rt, b" ");
+    value(rt, name, n);
 }
 
-pub fn line() {
-    text(b"\n");
+pub fn line(rt: &impl Print) {
+    text(rt, b"\n");
 }

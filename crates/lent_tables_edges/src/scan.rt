@@ -5,7 +5,7 @@ ghost use Rattle.std.specs.Prelude.{◌≤◌, length};
 use crate::memory;
 
 // What is known behind a byte: whether it stands in a remark, the number that goes on there, and the address before.
-#[derive(Drop)]
+#[derive(Clone, Copy)]
 struct Scan {
     remark: bool,
     digits: bool,
@@ -91,14 +91,12 @@ pub fn table(text: &[u8], from: usize, tables: &mut [u32]) -> usize
 {
     memory::clear(tables);
     let mut s = begin();
-    let mut i = from;
-    while i < text.len() {
+    for i in from..text.len() {
         let byte = text[i];
-        i += 1;
         if byte == b'#' {
-            return i;
+            return i + 1;
         }
         s = step(s, tables, byte);
     }
-    i
+    text.len()
 }

@@ -7,7 +7,7 @@ use lent_tables::{SCRATCH_WORDS, TABLE_WORDS};
 
 // What came of the changes of one kind. Wrong are words that the check changed, words that it left in the scratch, and
 // answers that it does not give.
-#[derive(Drop)]
+#[derive(Clone, Copy)]
 pub struct Tally {
     same: u32,
     sound: u32,
@@ -15,7 +15,7 @@ pub struct Tally {
     wrong: u32,
 }
 
-#[derive(Drop)]
+#[derive(Clone, Copy)]
 pub enum Change {
     Zero,
     More,
@@ -25,13 +25,13 @@ pub enum Change {
 fn changed(change: Change, word: u32) -> u32 {
     match change {
         Change::Zero => 0,
-        Change::More => std::num::wrapping_add_u32(word, 1),
+        Change::More => word.wrapping_add(1),
         Change::Ones => 0xFFFF_FFFF,
     }
 }
 
 fn more(n: u32) -> u32 {
-    std::num::wrapping_add_u32(n, 1)
+    n.wrapping_add(1)
 }
 
 fn same(c: Tally) -> Tally {
@@ -45,7 +45,7 @@ fn same(c: Tally) -> Tally {
 
 fn answered(c: Tally, answer: u32, wrong: u32) -> Tally {
     let mut d = c;
-    d.wrong = std::num::wrapping_add_u32(c.wrong, wrong);
+    d.wrong = c.wrong.wrapping_add(wrong);
     match answer {
         0 => d.sound = more(c.sound),
         17 => d.unsound = more(c.unsound),
@@ -72,7 +72,7 @@ fn turn(
     tables[at] = kept[at];
     let others = memory::differing(tables, kept);
     let left = memory::nonzero(scratch);
-    let wrong = std::num::wrapping_add_u32(moved, std::num::wrapping_add_u32(others, left));
+    let wrong = moved.wrapping_add(others).wrapping_add(left);
     answered(c, answer, wrong)
 }
 
@@ -103,56 +103,60 @@ fn sweep(change: Change, tables: &mut [u32], kept: &[u32], scratch: &mut [u32]) 
         unsound: 0,
         wrong: 0,
     };
-    let mut at = 0;
-    while at < kept.len() {
+    for at in 0..kept.len() {
         c = step(c, change, tables, kept, scratch, at);
-        at += 1;
     }
     c
 }
 
-fn show_name(change: Change) {
+fn show_name(rt: &impl Print, change: Change) {
     match change {
-        Change::Zero => out::text(b"zero"),
-        Change::More => out::text(b"more"),
-        Change::Ones => out::text(b"ones"),
+        Change::Zero => out::text(rt, b"zero"),
+        Change::More => out::text(rt, b"more"),
+        Change::Ones => out::text(rt, b"ones"),
     }
 }
 
-fn show(change: Change, c: Tally) {
-    show_name(change);
-    out::next(b"same", c.same as u64);
-    out::next(b"sound", c.sound as u64);
-    out::next(b"unsound", c.unsound as u64);
-    out::next(b"wrong", c.wrong as u64);
-    out::line();
+fn show(rt: &impl Print, change: Change, c: Tally) {
+    show_name(rt, change);
+    out::next(rt, b"same", c.same as u64);
+    out::next(rt, b"sound", c.sound as u64);
+    out::next(rt, b"unsound", c.unsound as u64);
+    out::next(rt, b"wrong", c.wrong as u64);
+    out::line(rt);
 }
 
-fn show_sweep(change: Change, tables: &mut [u32], kept: &[u32], scratch: &mut [u32])
+fn show_sweep(
+    rt: &impl Print,
+    change: Change,
+    tables: &mut [u32],
+    kept: &[u32],
+    scratch: &mut [u32],
+)
     requires { length tables.old ≡ length kept.now }
 {
-    show(change, sweep(change, tables, kept, scratch));
+    show(rt, change, sweep(change, tables, kept, scratch));
 }
 
 // The table as it is, with the scratch full of junk.
-fn show_whole(number: u64, tables: &[u32], scratch: &mut [u32]) {
+fn show_whole(rt: &impl Print, number: u64, tables: &[u32], scratch: &mut [u32]) {
     memory::fill(scratch);
-    out::value(b"table", number);
-    out::next(b"sum", memory::sum(tables));
-    out::next(b"answer", memory::check(tables, scratch) as u64);
-    out::next(b"wrong", memory::nonzero(scratch) as u64);
-    out::line();
+    out::value(rt, b"table", number);
+    out::next(rt, b"sum", memory::sum(tables));
+    out::next(rt, b"answer", memory::check(tables, scratch) as u64);
+    out::next(rt, b"wrong", memory::nonzero(scratch) as u64);
+    out::line(rt);
 }
 
 // A table's lines: the whole, and each kind of change.
-pub fn table(number: u64, kept: &[u32])
+pub fn table(rt: &impl Print, number: u64, kept: &[u32])
     requires { length kept.now ≡ table_words }
 {
     let mut tables = [0u32; TABLE_WORDS];
     let mut scratch = [0u32; SCRATCH_WORDS];
     memory::copy(&mut tables, kept);
-    show_whole(number, &tables, &mut scratch);
-    show_sweep(Change::Zero, &mut tables, kept, &mut scratch);
-    show_sweep(Change::More, &mut tables, kept, &mut scratch);
-    show_sweep(Change::Ones, &mut tables, kept, &mut scratch);
+    show_whole(rt, number, &tables, &mut scratch);
+    show_sweep(rt, Change::Zero, &mut tables, kept, &mut scratch);
+    show_sweep(rt, Change::More, &mut tables, kept, &mut scratch);
+    show_sweep(rt, Change::Ones, &mut tables, kept, &mut scratch);
 }

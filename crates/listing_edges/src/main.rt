@@ -3,16 +3,19 @@
 #![tactic(auto)]
 
 use calls::{Answer, Runner};
-use libc::STDOUT_FILENO;
 use listing::Listed;
 
-fn show_head() {
-    let mut buffer = [0u8; listing::ROOM];
-    let n = listing::head(&mut buffer);
-    io::write_all(STDOUT_FILENO, &buffer[..n]);
+fn text(rt: &impl Print, bytes: &[u8]) {
+    let _ = rt.write_all(bytes);
 }
 
-fn show(index: u64, call: u32, answer: Answer, running: Runner) {
+fn show_head(rt: &impl Print) {
+    let mut buffer = [0u8; listing::ROOM];
+    let n = listing::head(&mut buffer);
+    text(rt, &buffer[..n]);
+}
+
+fn show(rt: &impl Print, index: u64, call: u32, answer: Answer, running: Runner) {
     let mut buffer = [0u8; listing::ROOM];
     let listed = Listed {
         index,
@@ -21,7 +24,7 @@ fn show(index: u64, call: u32, answer: Answer, running: Runner) {
         running,
     };
     let n = listing::line(&mut buffer, listed);
-    io::write_all(STDOUT_FILENO, &buffer[..n]);
+    text(rt, &buffer[..n]);
 }
 
 fn answer(code: u32, count: u32, badge: u32, message: u32) -> Answer {
@@ -46,21 +49,23 @@ fn no_room() {
     check::expect(n == 0);
 }
 
-fn main() {
+fn main(rt: HostRuntime) {
     no_room();
-    show_head();
-    show(0, 1, answer(0, 0, 0, 0), Runner::Thread(1));
-    show(8, 8, answer(0, 0, 8, 200), Runner::Thread(3));
-    show(9, 10, answer(11, 99, 100, 101), Runner::Thread(0));
-    show(10, 9, answer(1, 2, 3, 4), Runner::Thread(255));
-    show(100, 0, answer(18, 0, 0, 0), Runner::Nobody);
+    show_head(&rt);
+    show(&rt, 0, 1, answer(0, 0, 0, 0), Runner::Thread(1));
+    show(&rt, 8, 8, answer(0, 0, 8, 200), Runner::Thread(3));
+    show(&rt, 9, 10, answer(11, 99, 100, 101), Runner::Thread(0));
+    show(&rt, 10, 9, answer(1, 2, 3, 4), Runner::Thread(255));
+    show(&rt, 100, 0, answer(18, 0, 0, 0), Runner::Nobody);
     show(
+        &rt,
         4294967295,
         12,
         answer(26, 4294967295, 268435455, 268435456),
         Runner::Nobody,
     );
     show(
+        &rt,
         18446744073709551615,
         4294967295,
         answer(4294967295, 4294967295, 4294967295, 4294967295),

@@ -1,11 +1,13 @@
-// A journal from standard input to standard output, listed or told in a form. Its words come little-endian; a word
-// that does not read as a call, and odd bytes at the end, stop it with a last line.
+// A journal from the input to the output, listed or told in a form. Its words come little-endian; a word that does not
+// read as a call, and odd bytes at the end, stop it with a last line.
 #![tactic(auto)]
 
 ghost use Rattle.std.specs.Prelude.{◌<◌, ◌≡◌, length};
 
+use files::Streams;
 use forms::Form;
 use lister::Lister;
+use std::io::{Read, Write};
 
 // So many bytes of a journal are read at once.
 const PART: usize = 512;
@@ -25,7 +27,8 @@ struct Stage {
 }
 
 // Lists a part and writes its text.
-fn list(
+fn list<R, W: Write, E: Write>(
+    s: &mut Streams<R, W, E>,
     form: Form,
     l: Lister,
     part: &[u8],
@@ -39,22 +42,30 @@ fn list(
     let mut out = [0u8; TEXT];
     let fed = lister::feed(form, l, part, tables, grants, scratch, &mut out);
     let used = fed.used;
-    let shown = files::show(&out[..used]);
+    let shown = files::show(s, &out[..used]);
     let after = fed.lister;
+    let going = after.going & shown;
     Stage {
         lister: after,
-        going: after.going & shown,
+        going,
         ended: false,
     }
 }
 
 // Reads once, what is there, and writes its text.
-fn turn(form: Form, l: Lister, tables: &mut [u32], grants: &mut [u32], scratch: &mut [u32]) -> Stage
+fn turn<R: Read, W: Write, E: Write>(
+    s: &mut Streams<R, W, E>,
+    form: Form,
+    l: Lister,
+    tables: &mut [u32],
+    grants: &mut [u32],
+    scratch: &mut [u32],
+) -> Stage
     requires { (l.held < 12) × (length l.bytes ≡ 12) }
     ensures { (result.lister.held < 12) × (length result.lister.bytes ≡ 12) }
 {
     let mut part = [0u8; PART];
-    let got = files::part(&mut part);
+    let got = files::part(s, &mut part);
     let used = got.used;
     if used == 0 {
         return Stage {
@@ -63,56 +74,63 @@ fn turn(form: Form, l: Lister, tables: &mut [u32], grants: &mut [u32], scratch: 
             ended: !got.failed,
         };
     }
-    list(form, l, &part[..used], tables, grants, scratch)
+    list(s, form, l, &part[..used], tables, grants, scratch)
 }
 
 // Writes the last line, if the bytes still held ask for one.
-fn finish(form: Form, l: Lister, tables: &[u32])
+fn finish<R, W: Write, E: Write>(s: &mut Streams<R, W, E>, form: Form, l: Lister, tables: &[u32])
     requires { (l.held < 12) × (length l.bytes ≡ 12) }
 {
     let mut out = [0u8; forms::ROOM];
     let n = lister::finish(form, l, tables, &mut out);
-    files::show(&out[..n]);
+    files::show(s, &out[..n]);
 }
 
-fn header() -> bool {
+fn header<R, W: Write, E: Write>(s: &mut Streams<R, W, E>) -> bool {
     let mut line = [0u8; listing::ROOM];
     let n = listing::head(&mut line);
-    files::show(&line[..n])
+    files::show(s, &line[..n])
 }
 
 // Lines have a header, and sentences have none.
-fn begin(form: Form) -> bool {
+fn begin<R, W: Write, E: Write>(s: &mut Streams<R, W, E>, form: Form) -> bool {
     match form {
-        Form::Lines => header(),
+        Form::Lines => header(s),
         Form::Sentences => true,
         Form::Numbered => true,
     }
 }
 
-// A proved loop has to end, and nothing says that a journal does. So the turns are counted down, from a number that
-// no run uses up.
-fn turns(form: Form, tables: &mut [u32], grants: &mut [u32], scratch: &mut [u32]) {
+// A proved loop has to end, and nothing says that a journal does. So the turns are counted, up to a number that no run
+// reaches.
+fn turns<R: Read, W: Write, E: Write>(
+    s: &mut Streams<R, W, E>,
+    form: Form,
+    tables: &mut [u32],
+    grants: &mut [u32],
+    scratch: &mut [u32],
+) {
     let mut p = Stage {
         lister: lister::start(),
-        going: begin(form),
+        going: begin(s, form),
         ended: false,
     };
-    let mut turns = u64::MAX;
-    while turns > 0 && p.going {
-        p = turn(form, p.lister, tables, grants, scratch);
-        turns -= 1;
+    for _ in 0..u64::MAX {
+        if !p.going {
+            break;
+        }
+        p = turn(s, form, p.lister, tables, grants, scratch);
     }
     if p.ended {
-        finish(form, p.lister, tables);
+        finish(s, form, p.lister, tables);
     }
 }
 
 // The whole journal, on fresh tables and grants.
-pub fn run(form: Form) {
+pub fn run<R: Read, W: Write, E: Write>(s: &mut Streams<R, W, E>, form: Form) {
     let mut tables = [0u32; lent_tables::TABLE_WORDS];
     let mut grants = [0u32; grants::GRANT_WORDS];
     let mut scratch = [0u32; lent_tables::SCRATCH_WORDS];
     lent_tables::fresh(&mut tables, &mut grants);
-    turns(form, &mut tables, &mut grants, &mut scratch);
+    turns(s, form, &mut tables, &mut grants, &mut scratch);
 }

@@ -13,40 +13,46 @@ const MARKS: [u32; 28] = [
     0x0ff, 0x000,
 ];
 
-fn write_level(l: Level) {
+fn text(rt: &impl Print, bytes: &[u8]) {
+    let _ = rt.write_all(bytes);
+}
+
+fn number(rt: &impl Print, n: u32) {
+    let _ = print!(rt; "{n}");
+}
+
+fn word(rt: &impl Print, w: u32) {
+    let _ = print!(rt; "{w:08x}");
+}
+
+fn write_level(rt: &impl Print, l: Level) {
     match l {
-        Level::At(p) => {
-            io::print_decimal(1, p as u64);
-        }
-        Level::Nothing => {
-            io::write_all(1, b"none");
-        }
+        Level::At(p) => number(rt, p),
+        Level::Nothing => text(rt, b"none"),
     }
 }
 
 // One line: the highest level, the top word, and the word of level p in hexadecimal.
-fn write_summary(s: Summary, p: u32)
+fn write_summary(rt: &impl Print, s: Summary, p: u32)
     requires { IsSummary s }
 {
     let w = (p / 32 % 8) as usize;
-    let word = s.words[w];
-    let top = s.top;
-    io::write_all(1, b" highest ");
-    write_level(s.highest());
-    io::write_all(1, b" top ");
-    io::print_decimal(1, top as u64);
-    io::write_all(1, b" word ");
-    io::print_hex(1, word as u64, 8);
-    io::write_all(1, b"\n");
+    text(rt, b" highest ");
+    write_level(rt, s.highest());
+    text(rt, b" top ");
+    number(rt, s.top);
+    text(rt, b" word ");
+    word(rt, s.words[w]);
+    text(rt, b"\n");
 }
 
-fn write_mark(occupied: bool, p: u32) {
+fn write_mark(rt: &impl Print, occupied: bool, p: u32) {
     if occupied {
-        io::write_all(1, b"+");
+        text(rt, b"+");
     } else {
-        io::write_all(1, b"-");
+        text(rt, b"-");
     }
-    io::print_decimal(1, p as u64);
+    number(rt, p);
 }
 
 // Makes one mark of the list.
@@ -61,14 +67,11 @@ fn marked(s: Summary, mark: u32) -> Summary
     s.emptied(p)
 }
 
-fn main() {
+fn main(rt: HostRuntime) {
     let mut s = Summary::new();
-    let mut i = 0;
-    while i < 28 {
-        let mark = MARKS[i];
+    for mark in MARKS {
         s = marked(s, mark);
-        write_mark(mark >= 256, mark % 256);
-        write_summary(s, mark % 256);
-        i += 1;
+        write_mark(&rt, mark >= 256, mark % 256);
+        write_summary(&rt, s, mark % 256);
     }
 }

@@ -3,23 +3,38 @@
 #![tactic(auto)]
 
 use forms::Form;
+use std::env::{Env, FillError};
 
-// Whether the program has the one argument -n.
-fn numbered(count: usize) -> bool {
+// Whether there is an argument of this number; the program's name has 0.
+fn has(rt: &HostRuntime, i: usize) -> bool {
     let mut word = [0u8; 2];
-    let n = os::arg(1, &mut word);
-    (count == 2) & (n == 2) & (word[0] == b'-') & (word[1] == b'n')
+    match rt.arg(i, &mut word) {
+        Err(FillError::NotPresent) => false,
+        _ => true,
+    }
 }
 
-fn main() {
-    let count = os::arg_count();
-    if count < 2 {
-        stream::run(Form::Sentences);
+// Whether the program has the one argument -n.
+fn numbered(rt: &HostRuntime) -> bool {
+    let mut word = [0u8; 2];
+    match rt.arg(1, &mut word) {
+        Ok(n) => (n == 2) & (word[0] == b'-') & (word[1] == b'n') & !has(rt, 2),
+        Err(_) => false,
+    }
+}
+
+fn main(rt: HostRuntime) {
+    let mut streams = files::standard(&rt);
+    if !has(&rt, 1) {
+        stream::run(&mut streams, Form::Sentences);
         return;
     }
-    if numbered(count) {
-        stream::run(Form::Numbered);
+    if numbered(&rt) {
+        stream::run(&mut streams, Form::Numbered);
         return;
     }
-    files::complain(b"nazsombet: tell takes the argument -n or none\n");
+    files::complain(
+        &mut streams,
+        b"nazsombet: tell takes the argument -n or none\n",
+    );
 }

@@ -3,6 +3,6 @@
 
 use forms::Form;
 
-fn main() {
-    stream::run(Form::Lines);
+fn main(rt: HostRuntime) {
+    stream::run(&mut files::standard(&rt), Form::Lines);
 }
