@@ -1,11 +1,11 @@
 #!/bin/sh
 # Runs all tests: the second machine's own; then `rt ci` proves every crate, tries every must-fail edit and runs every
-# program; then the programs and the libraries are built; then the journals are listed, by the program and by the host in C, and told in sentences, plain
-# and numbered; the documents' listings are tried; programs are run as compiled in several ways; the library is looked
-# at as compiled, tested from Rust, lent damaged tables and grants from C, and compared with the second machine over
-# 2,000,000 calls; a kernel around it is booted in an emulator; sentences, bills and the desk's command are tried. At
-# the end it says what was not tried, and why. The last line is 'N passed, M failed'; the exit status is 0 only where
-# nothing failed.
+# program; then the programs and the libraries are built; the journals are listed, by the program and by the host in C,
+# and told in sentences, plain and numbered; the documents' listings are tried; programs are run as compiled in several
+# ways; the library is looked at as compiled, tested from Rust, lent damaged tables and grants from C, and compared with
+# the second machine over 2,000,000 calls; a kernel around it is booted in an emulator; sentences, bills and the desk's
+# command are tried. At the end it says what was not tried, and why. The last line is 'N passed, M failed'; the exit
+# status is 0 only where nothing failed.
 set -eu
 cd "$(dirname "$0")"
 need() {
