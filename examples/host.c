@@ -1,7 +1,7 @@
 /*
  * Lists a journal, as the program trace does: host [FILE], or host < FILE. The words of the journal are little-endian.
  *
- *     rt staticlib core_c
+ *     ./build.sh core_c
  *     cc -std=c99 -Wall -Wextra -Iinclude -o target/host examples/host.c target/staticlib/libcore_c.a
  *     target/host tests/journals/example.words
  */

@@ -2,7 +2,7 @@
  * A host that makes calls: a page store, twelve writers under two badges, and a keeper that aborts. A badge is moved
  * from six writers to a newcomer, by an abort that is broken off twice and taken up.
  *
- *     rt staticlib core_c
+ *     ./build.sh core_c
  *     cc -std=c99 -Wall -Wextra -Iinclude -o target/writers examples/writers.c target/staticlib/libcore_c.a
  *     target/writers
  *

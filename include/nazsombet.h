@@ -1,7 +1,7 @@
 /*
  * Nazsombet: the kernel core of the realtime box, for C.
  *
- * The library is target/staticlib/libcore_c.a, built by `rt staticlib core_c` for x86-64 Linux. Of the C library it
+ * The library is target/staticlib/libcore_c.a, built by `./build.sh core_c` for x86-64 Linux. Of the C library it
  * uses memset alone. What each function answers and leaves, for all lengths and contents, is proved of its source,
  * crates/core_c/src/lib.rt. That these declarations fit it is tested only.
  *

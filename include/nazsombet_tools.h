@@ -1,7 +1,7 @@
 /*
  * Nazsombet: tools beside the kernel core, for C.
  *
- * The library is target/staticlib/libtools_c.a, built by `rt staticlib tools_c` for x86-64 Linux. It is not the core,
+ * The library is target/staticlib/libtools_c.a, built by `./build.sh tools_c` for x86-64 Linux. It is not the core,
  * and the box links none of it. A host that has the core too links both archives, in any order:
  *
  *     cc -std=c99 -Iinclude -o host host.c libcore_c.a libtools_c.a

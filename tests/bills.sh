@@ -8,9 +8,7 @@ set -eu
 cd "$(dirname "$0")/.."
 # The program and the libraries are built already where the caller says so.
 if [ -z "${NAZSOMBET_BUILT:-}" ]; then
-    rt check bill
-    rt staticlib core_c
-    rt staticlib tools_c
+    ./build.sh bill core_c tools_c
 fi
 program=target/bin/bill
 work=$(mktemp -d)

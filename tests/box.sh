@@ -12,7 +12,7 @@ if ! command -v qemu-system-x86_64 >/dev/null 2>&1; then
     exit 0
 fi
 if [ -z "${NAZSOMBET_BUILT:-}" ]; then
-    rt staticlib core_c >/dev/null && rt check trace tell >/dev/null || exit 2
+    ./build.sh core_c trace tell >/dev/null || exit 2
 fi
 work=$(mktemp -d) || exit 2
 trap 'rm -rf "$work"' EXIT

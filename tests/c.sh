@@ -5,7 +5,7 @@
 set -eu
 cd "$(dirname "$0")/.."
 library=target/staticlib/libcore_c.a
-rt staticlib core_c
+./build.sh core_c
 set -- -pedantic -Wall -Wextra -Werror -Iinclude
 for standard in c89 c99 c11 c17; do
     cc "-std=$standard" "$@" -o target/header tests/header.c "$library"

@@ -5,7 +5,7 @@
 set -eu
 cd "$(dirname "$0")/.."
 # The library is built already where the caller says so.
-[ -n "${NAZSOMBET_BUILT:-}" ] || rt staticlib core_c
+[ -n "${NAZSOMBET_BUILT:-}" ] || ./build.sh core_c
 (cd tests && cargo test --quiet -p compare && cargo build --quiet --release --bin compare)
 target/tests/release/compare "$@"
 echo "compare: 1 passed, 0 failed"

@@ -1,39 +1,55 @@
 #!/bin/sh
-# The compiler's back end is covered by no proof. Here programs run in four ways ('rt try'): on the interpreter, and
-# compiled at -O0, at -O3 and with the compiler's assumptions checked; in each they have to write what is expected.
-# `trace` lists two short journals in all four, and a long one in the three compiled ways: the interpreter has steps for
-# some fourteen calls. Of the programs at the edges those run that end in time. The last line is 'compiled: N passed,
-# M failed'; the exit status is 0 only where nothing failed.
+# The compilers' back ends are covered by no proof. Here programs run in five ways: as LLVM builds them, as Rattle's own
+# compiler does at its lowest level and at its highest ('rt run'), with the compiler's assumptions checked, and on the
+# interpreter ('rt try'); in each they have to write what is expected. `trace` lists two short journals in all five, and
+# a long one in the four compiled ways: the interpreter has steps for some fourteen calls. Of the programs at the edges
+# those run that end in time. The last line is 'compiled: N passed, M failed'; the exit status is 0 only where nothing
+# failed.
 set -u
 cd "$(dirname "$0")/.." || exit 2
-top=$PWD
 work=$(mktemp -d) || exit 2
 trap 'rm -rf "$work"' EXIT
 passed=0
 failed=0
 
-# A repository of the same crates, in which `trace` has another input and output.
-mkdir -p "$work/crates/trace"
-cp crates.txt "$work/"
-for crate in crates/*; do
-    [ "$crate" = crates/trace ] || ln -s "$top/$crate" "$work/$crate"
-done
-ln -s "$top/crates/trace/src" "$work/crates/trace/src"
+# The program of a crate as LLVM builds it, and by Rattle's own compiler. What that made does not stay in the crate's
+# out/, where it would be taken for LLVM's.
+build() {
+    ./build.sh "$1" >"$work/said" 2>&1 || return
+    cp "target/bin/$1" "$work/$1.llvm" || return
+    for level in 0 3; do
+        (cd "crates/$1" && rt run --backend rattle --opt-level "$level" </dev/null) >/dev/null 2>"$work/said"
+        mv "crates/$1/out/$1" "$work/$1.rattle$level" || return
+    done
+}
 
-# tried NAME WHAT WAY...: the program writes what its file stdout has, in each of these ways and in the compiled ones.
+# judge WAY STATUS: the last run, in this way, ended with this status; it wrote what is expected.
+judge() {
+    if [ "$2" -eq 0 ] && cmp -s "$work/written" "$work/expected"; then
+        passed=$((passed + 1))
+    else
+        echo "failed: $what, $1, status $2; said was:"
+        tail -n 20 "$work/said" | cut -c 1-300
+        failed=$((failed + 1))
+    fi
+}
+
+# tried NAME WHAT WAY...: on the file `input` the program writes the file `expected`, as built in each way and in these
+# ways of rt try.
 tried() {
     name=$1
     what=$2
     shift 2
-    (cd "$work" && rt try "$name") >"$work/said" 2>&1
-    for way in "$@" "native program at -O0" "native program at -O3" "native program with LLVM's assumptions checked"; do
-        if grep -q "^ok: the $way ended and wrote what is expected\$" "$work/said"; then
-            passed=$((passed + 1))
-        else
-            echo "failed: $what, the $way; rt says:"
-            cut -c 1-300 "$work/said"
-            failed=$((failed + 1))
-        fi
+    for way in llvm rattle0 rattle3; do
+        "$work/$name.$way" <"$work/input" >"$work/written" 2>"$work/said"
+        judge "$way" $?
+    done
+    (cd "crates/$name" && rt try <"$work/input") >"$work/written" 2>"$work/said"
+    tried=$?
+    for way in "$@"; do
+        status=$tried
+        grep -q "^$way: ended status=0\$" "$work/said" || status=1
+        judge "$way" "$status"
     done
 }
 
@@ -43,18 +59,27 @@ listed() {
     calls=$2
     words=$(od -An -v -w4 -tx4 "$journal.words" |
         awk -v left="$calls" '/^ *1/ && left-- == 0 { exit } { words++ } END { print words }')
-    head -c $((4 * words)) "$journal.words" >"$work/crates/trace/stdin"
-    head -n $((calls + 1)) "$journal.txt" >"$work/crates/trace/stdout"
-    what="$calls calls of the journal $1"
+    head -c $((4 * words)) "$journal.words" >"$work/input"
+    head -n $((calls + 1)) "$journal.txt" >"$work/expected"
+    told="$calls calls of the journal $1"
     shift 2
-    tried trace "$what" "$@"
+    tried trace "$told" "$@"
 }
 
-listed example 13 interpreter
-listed endpoints 13 interpreter
-listed long 1000
+for name in trace journal_edges summary_edges listing_edges; do
+    build "$name" || {
+        echo "failed: the program $name is not built; said was:"
+        tail -n 20 "$work/said" | cut -c 1-300
+        failed=$((failed + 1))
+    }
+done
+listed example 13 checked interpreter
+listed endpoints 13 checked interpreter
+listed long 1000 checked
+: >"$work/input"
 for edges in journal_edges summary_edges listing_edges; do
-    tried "$edges" "the program $edges" interpreter
+    cp "crates/$edges/stdout" "$work/expected"
+    tried "$edges" "the program $edges" checked interpreter
 done
 echo "compiled: $passed passed, $failed failed"
 [ "$failed" -eq 0 ]

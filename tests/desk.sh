@@ -121,15 +121,16 @@ make_box() {
 # A program that says its arguments, one that reads slowly, a kit that proves three crates of four, and an awk that
 # writes no byte 0.
 make_stubs() {
-    mkdir -p "$work/stub/crates" "$work/stub/target/bin" "$work/kit" "$work/poor"
-    cp nazsombet "$work/stub"
+    mkdir -p "$work/stub/crates/trace/out" "$work/stub/target/bin" "$work/kit" "$work/poor"
+    cp nazsombet build.sh "$work/stub"
     printf '%s\n' '# four' 'a:' 'b: a io' 'c: a' 'trace: b c' 'd: a' >"$work/stub/crates.txt"
     # shellcheck disable=SC2016  # for the stub
     printf '%s\n' '#!/bin/sh' 'cat >/dev/null' 'echo "told $*"' >"$work/stub/target/bin/tell"
     printf '%s\n' '#!/bin/sh' 'for i in 1 2 3 4; do dd bs=25 count=1 2>/dev/null; sleep 1; done' >"$work/slow"
     # shellcheck disable=SC2016  # for the stub
-    printf '%s\n' '#!/bin/sh' 'for i in a b c trace; do echo "rt: $i proved (1 s)"; done' \
-        'cp "$SLOW" target/bin/trace' >"$work/kit/rt"
+    printf '%s\n' '#!/bin/sh' '[ "$1" = run ] || exit 1' \
+        'for i in a b c trace; do echo "crate $i: modules loaded=0 checked=1"; echo "logic=proved functions=1"; done >&2' \
+        'cp "$SLOW" out/trace' >"$work/kit/rt"
     printf '%s\n' '#!/bin/sh' "$(command -v awk) \"\$@\" | tr -d '\\000'" >"$work/poor/awk"
     chmod a+x "$work/stub/target/bin/tell" "$work/slow" "$work/kit/rt" "$work/poor/awk"
 }
@@ -471,13 +472,13 @@ try_progress() {
         echo "not tried: progress on a terminal, since there is no command script"
         return
     }
-    rm -f "$work/stub/target/bin/trace"
+    rm -f "$work/stub/target/bin/trace" "$work/stub/crates/trace/out/trace"
     dd bs=100 count=1 if=tests/journals/long.words of="$work/hundred" 2>/dev/null
     on_terminal "PATH='$work/kit':\$PATH SLOW='$work/slow' sh '$work/stub/nazsombet' list '$work/hundred'"
     judge "crates are not counted" grep -q 'building trace, .*: 2 of 4 crates' "$work/screen"
     judge "no percentage" grep -q 'hundred: [1-9][0-9]*%' "$work/screen"
     judge "progress among the lines" cmp -s "$work/lines" "$work/hundred"
-    rm -f "$work/stub/target/bin/trace"
+    rm -f "$work/stub/target/bin/trace" "$work/stub/crates/trace/out/trace"
     cp target/bin/trace "$work/slow"
     status_is "no terminal" 0 with_kit list "$example.words"
     is_silent

@@ -20,7 +20,7 @@ if row 120 | long >/dev/null || ! row 121 | long >/dev/null; then
     failed=$((failed + 1))
 fi
 
-for file in $(find crates -name '*.rt' -o -name '*.antt'); do
+for file in $(find crates -name out -prune -o -name '*.rt' -print -o -name '*.antt' -print); do
     if found=$(long "$file"); then
         echo "lines: $file: over 120 characters:"
         echo "$found"

@@ -7,7 +7,7 @@ shift
 sanitizers="-fsanitize=address,undefined -fno-sanitize-recover=all"
 for file; do
     if [ ! -f "$file" ]; then
-        echo "sanitized.sh: $file is missing. For a library run: rt staticlib NAME" >&2
+        echo "sanitized.sh: $file is missing. For a library run: ./build.sh NAME" >&2
         exit 1
     fi
 done

@@ -6,7 +6,7 @@
 set -eu
 cd "$(dirname "$0")/.."
 tools=target/staticlib/libtools_c.a
-rt staticlib tools_c
+./build.sh tools_c
 uses=$(nm -u "$tools" | sed -n 's/^ *U //p' | tr '\n' ' ')
 if [ "$uses" != "memcpy memset " ]; then
     echo "sentences.sh: $tools uses '$uses', and its header says that it uses memcpy and memset alone" >&2

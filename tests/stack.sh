@@ -5,7 +5,7 @@
 # passed, M failed'; the exit status is 0 only where nothing failed.
 set -eu
 cd "$(dirname "$0")/.."
-rt staticlib tools_c
+./build.sh tools_c
 cc -std=c99 -Wall -Wextra -Wpedantic -Werror -O1 -Wl,-z,now -Iinclude -o target/stack tests/stack.c \
     target/staticlib/libcore_c.a target/staticlib/libtools_c.a
 passed=0

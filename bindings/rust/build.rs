@@ -6,7 +6,7 @@ use std::path::{Path, PathBuf};
 fn link(folder: &Path, name: &str) {
     let library = folder.join(format!("lib{name}.a"));
     if !library.exists() {
-        panic!("{} is missing: run `rt staticlib {name}` first", library.display());
+        panic!("{} is missing: run `./build.sh {name}` first", library.display());
     }
     println!("cargo:rerun-if-changed={}", library.display());
     println!("cargo:rustc-link-lib=static={name}");

@@ -1,7 +1,7 @@
 //! The host of examples/writers.c in Rust, with the same output: a page store, twelve writers under two badges, and a
 //! keeper that aborts. A badge is moved from six writers to a newcomer, by an abort that is broken off and taken up.
 //!
-//!     rt staticlib core_c
+//!     ./build.sh core_c
 //!     cd bindings/rust && cargo run --example writers
 
 use nazsombet::{codes, outcomes, rights, Answer, Call, Core, Waking};

@@ -1,6 +1,6 @@
 //! Nazsombet, the kernel core of the realtime box, from Rust: the entries of include/nazsombet.h over memory that a
 //! [`Core`] owns. What each entry answers and leaves, for all lengths and contents, is proved of the library's source;
-//! that these declarations fit it is tested. The library is built by `rt staticlib core_c`.
+//! that these declarations fit it is tested. The library is built by `./build.sh core_c`.
 //!
 //! ```
 //! use nazsombet::{codes, outcomes, rights, Call, Core};

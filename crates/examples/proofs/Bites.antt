@@ -36,14 +36,14 @@ two_lookups l =
     CreateThread 1 10 ∷ CreateThread 2 10 ∷ CreateEndpoint 0 ∷ Grant 1 0 1 7 ∷ Grant 2 0 1 7 ∷ Send 0 7 100
     ∷ Send 0 7 101 ∷ CreateThread 3 20 ∷ Grant 3 0 10 0 ∷ l
 
--- reported-ended: the second call 12 is answered 0, and the abort stands.
+-- reported_ended: the second call 12 is answered 0, and the abort stands.
 pub idler_fails :
     Claim (two_lookups (Abort 0 1 7 ∷ Abort 0 1 7 ∷ []))
     (history_by idler (two_lookups (Abort 0 1 7 ∷ Abort 0 1 7 ∷ []))) → ⊥
 unfolding computed idler
 idler_fails C = (C.reported_ended _ (inl refl) refl).ended.found
 
--- removed-exactly: the waiter of badge 8 is removed by the abort of badge 7.
+-- removed_exactly: the waiter of badge 8 is removed by the abort of badge 7.
 abbrev one_other : List Call
 one_other =
     CreateThread 1 10 ∷ CreateEndpoint 0 ∷ Grant 1 0 1 8 ∷ Send 0 8 200 ∷ CreateThread 3 20 ∷ Grant 3 0 8 0
@@ -61,13 +61,13 @@ pub copier_fails : Claim none_queued (history_by copier none_queued) → ⊥
 unfolding computed copier
 copier_fails C = omega (arith, C.counted _ (inl refl))
 
--- reported-ended: the first call 12 is answered 0 with a waiter left.
+-- reported_ended: the first call 12 is answered 0 with a waiter left.
 pub boaster_fails :
     Claim (two_lookups (Abort 0 1 7 ∷ [])) (history_by boaster (two_lookups (Abort 0 1 7 ∷ []))) → ⊥
 unfolding computed boaster
 boaster_fails C = (C.reported_ended _ (inl refl) refl).ended.found
 
--- no-old-message: the delete ends the abort, and the receive after it takes a message queued under badge 7 before.
+-- no_old_message: the delete ends the abort, and the receive after it takes a message queued under badge 7 before.
 abbrev closed_then_taken : List Call
 closed_then_taken =
     CreateThread 1 10 ∷ CreateThread 2 10 ∷ CreateThread 4 10 ∷ CreateEndpoint 0 ∷ Grant 1 0 1 7 ∷ Grant 2 0 1 7
@@ -109,7 +109,7 @@ pub marker_fails : Claim mark_again (history_by marker mark_again) → ⊥
 unfolding computed marker ghost
 marker_fails C = omega (arith, C.not_more _ (inr (_, inl refl, refl)))
 
--- not-twice: broken off at a kept waiter, the abort looks at it again.
+-- not_twice: broken off at a kept waiter, the abort looks at it again.
 abbrev two_others : List Call
 two_others =
     CreateThread 1 10 ∷ CreateThread 2 10 ∷ CreateEndpoint 0 ∷ Grant 1 0 1 8 ∷ Grant 2 0 1 8 ∷ Send 0 8 100
@@ -123,7 +123,7 @@ pub repeater_fails : Claim two_others (history_by repeater two_others) → ⊥
 unfolding computed repeater looked_again
 repeater_fails C = (C.not_twice looked_again (inl (0, refl))).0 (inl refl)
 
--- every-look-of-an-abort: refused by 20, the call has removed the waiter of badge 8.
+-- every_look_of_an_abort: refused by 20, the call has removed the waiter of badge 8.
 abbrev nobody_runs : List Call
 nobody_runs = CreateThread 1 10 ∷ CreateEndpoint 0 ∷ Grant 1 0 1 8 ∷ Send 0 8 200 ∷ Abort 0 5 7 ∷ []
 
@@ -131,7 +131,7 @@ pub thief_fails : Claim nobody_runs (history_by thief nobody_runs) → ⊥
 unfolding computed thief
 thief_fails C = omega (arith, ap length C.every_look_of_an_abort)
 
--- reported-ended: thread 3's first abort has ended, by thread 6's call, and its note is used up in call 14; its next is
+-- reported_ended: thread 3's first abort has ended, by thread 6's call, and its note is used up in call 14; its next is
 -- broken off in call 19, and call 20 is answered 0.
 abbrev noted_work : List Call
 noted_work =
@@ -149,7 +149,7 @@ latest = record { place = 9; endpoint = 0; badge = 7; message = 101; queue = 5 �
 not_the_later : some (Send 0 7 100) ≡ some (Send 0 7 101) → ⊥
 not_the_later h = let z : ◌≡◌ {A = ℕ} 100 101 = cc in omega (arith, z)
 
--- hands-over: of two messages the later is handed over.
+-- hands_over: of two messages the later is handed over.
 pub lifo_fails : Claim (two_lookups (Receive 0 ∷ [])) (history_by lifo (two_lookups (Receive 0 ∷ []))) → ⊥
 unfolding computed lifo head_of latest
 lifo_fails C =
@@ -157,7 +157,7 @@ lifo_fails C =
     let m : 5 ≡ H.message = ap head_of H.handed in
     not_the_later (ap (get_elem? (two_lookups (Receive 0 ∷ []))) m ∙ H.queued_by)
 
--- queues-are: who came by a call 7 does not send.
+-- queues_are: who came by a call 7 does not send.
 abbrev one_lookup : List Call
 one_lookup = CreateThread 1 10 ∷ CreateEndpoint 0 ∷ Grant 1 0 1 7 ∷ Send 0 7 100 ∷ []
 
@@ -165,7 +165,7 @@ pub hider_fails : Claim one_lookup (history_by hider one_lookup) → ⊥
 unfolding computed hider
 hider_fails C = omega (arith, ap (λ (w : Waiting). length (w.messages 0)) (C.queues_are _ (inl refl)))
 
--- looks-at-waiters: the second call 12 counts a look at a thread that has gone.
+-- looks_at_waiters: the second call 12 counts a look at a thread that has gone.
 abbrev gone_lookup : List Call
 gone_lookup =
     CreateThread 1 10 ∷ CreateThread 2 10 ∷ CreateEndpoint 0 ∷ Grant 1 0 1 7 ∷ Grant 2 0 1 8 ∷ Send 0 7 100

@@ -58,7 +58,7 @@ two l =
 abbrev pub queued0 : Waiting → ℕ
 queued0 w = length (w.queues 0)
 
--- queues-are, at the interrupt, and so after whatever comes then.
+-- queues_are, at the interrupt, and so after whatever comes then.
 abbrev in_limbo_lem : List Call
 in_limbo_lem = two (Abort 0 1 7 ∷ Interrupt 0 ∷ Abort 0 5 7 ∷ Receive 0 ∷ Tick ∷ [])
 
@@ -85,7 +85,7 @@ abbrev badge_of : Option Call → ℕ
 badge_of none = 0
 badge_of (some c) = badge_in7 c
 
--- handed-own: a tick hands the old message.
+-- handed_own: a tick hands the old message.
 pub limbo_hands : Claim in_limbo_lem (history_by limbo in_limbo_lem) → ⊥
 unfolding computed limbo badge_in7
 limbo_hands C =
@@ -103,7 +103,7 @@ destroyed =
     CreateThread 1 10 ∷ CreateEndpoint 0 ∷ Grant 1 0 1 7 ∷ Send 0 7 100 ∷ CreateThread 3 20 ∷ Grant 3 0 2 0
     ∷ DestroyThread 1 ∷ Receive 0 ∷ []
 
--- queues-are
+-- queues_are
 pub undead_fails : Claim destroyed (history_by undead destroyed) → ⊥
 unfolding computed undead
 undead_fails C = omega (arith, ap queued0 (C.queues_are _ (inr (inl refl))))
@@ -162,7 +162,7 @@ old_handed =
     ∷ Send 0 8 99 ∷ Send 0 7 100 ∷ CreateThread 3 20 ∷ Grant 3 0 12 0 ∷ Abort 0 1 7 ∷ Delete 0 1
     ∷ CreateThread 1 30 ∷ Grant 1 1 2 0 ∷ Receive 1 ∷ Grant 3 1 1 9 ∷ Send 1 9 500 ∷ []
 
--- handed-own
+-- handed_own
 pub parrot_fails : Claim old_handed (history_by parrot old_handed) → ⊥
 unfolding computed parrot exchanged exchanged_if swapped badge_in7
 parrot_fails C =
@@ -185,7 +185,7 @@ abbrev first0 : Waiting → ℕ
 first0 w = head_of (w.queues 0)
 
 -- A grant drops a waiter, a tick turns the queue about, a tick queues one twice, an interrupt moves one elsewhere:
--- queues-are.
+-- queues_are.
 pub dropper_fails : Claim (two []) (history_by (meddles 13 (with_queue 0 [])) (two [])) → ⊥
 unfolding computed meddles
 dropper_fails C = omega (arith, ap queued0 (C.queues_are _ (inl refl)))
@@ -204,7 +204,7 @@ pub mover_fails :
 unfolding computed meddles
 mover_fails C = omega (arith, ap queued0 (C.queues_are _ (inl refl)))
 
--- A send answered 1 queues nobody; a delete takes the last instead of the first: queues-are.
+-- A send answered 1 queues nobody; a delete takes the last instead of the first: queues_are.
 pub nobody_fails : Claim (two []) (history_by (meddles 7 (with_queue 0 [])) (two [])) → ⊥
 unfolding computed meddles
 nobody_fails C = omega (arith, ap queued0 (C.queues_are _ (inl refl)))
@@ -214,7 +214,7 @@ pub tail_fails :
 unfolding computed meddles
 tail_fails C = omega (arith, ap first0 (C.queues_are _ (inl refl)))
 
--- A tick writes an old message into a block: handed-own.
+-- A tick writes an old message into a block: handed_own.
 pub scribbler_fails :
     Claim (two (Tick ∷ []))
     (history_by (meddles 6 (λ s. set_thread 3 (with_place able 2 7 100 (s.threads 3)) s)) (two (Tick ∷ []))) → ⊥
@@ -223,7 +223,7 @@ scribbler_fails C =
     let H = C.handed_own _ (inl refl) 3 _ refl in
     let q : ◌≡◌ {A = ℕ} 0 (suc 7) = ap badge_of H.made ∙ ap badge_in7 H.gives.own in omega (arith, q)
 
--- A send answered 0 wakes its receiver with nothing: every-handing.
+-- A send answered 0 wakes its receiver with nothing: every_handing.
 abbrev pub to_waiting : List Call
 to_waiting =
     CreateThread 1 30 ∷ CreateEndpoint 0 ∷ Grant 1 0 2 0 ∷ Receive 0 ∷ CreateThread 3 20 ∷ Grant 3 0 1 9
@@ -271,7 +271,7 @@ latest_of (x ∷ l) = x
 abbrev last6 : Step
 last6 = latest_of (history_by mute to_waiting).books.steps
 
--- every-handing
+-- every_handing
 pub mute_fails : Claim to_waiting (history_by mute to_waiting) → ⊥
 unfolding computed meddles mute endpoint_in7
 mute_fails C =

@@ -187,7 +187,7 @@ blabber g s c =
     (step g s (Abort e a b)))
     c (step g s c)
 
--- reported-ended: thread 3's abort ends in call 3, with nobody to look at; then a message is queued, and call 7 is
+-- reported_ended: thread 3's abort ends in call 3, with nobody to look at; then a message is queued, and call 7 is
 -- answered 0.
 abbrev ended_alone : List Call
 ended_alone =
@@ -207,7 +207,7 @@ unfoldable pub clinger : Grants → State → Call → Result
 clinger g s c =
     with_state (pick (eqb (number_of c) 9) (keeping s.runs s (step g s c).state) (step g s c).state) (step g s c)
 
--- reported-ended: thread 3 begins in call 9 and leaves the set; thread 6 ends the abort in call 13, a message is
+-- reported_ended: thread 3 begins in call 9 and leaves the set; thread 6 ends the abort in call 13, a message is
 -- queued, and call 18 is answered 0.
 abbrev left_then_ended : List Call
 left_then_ended =
@@ -236,7 +236,7 @@ helper g s c =
     (step g s (Abort e a b)))
     c (step g s c)
 
--- reported-ended: thread 5 is broken off in call 15 in the abort that 3 began in call 12 and ends in call 17; a
+-- reported_ended: thread 5 is broken off in call 15 in the abort that 3 began in call 12 and ends in call 17; a
 -- message is queued, and its call 22 is answered 0.
 abbrev helped_then_ended : List Call
 helped_then_ended =
@@ -265,7 +265,7 @@ twin g s c =
     (step g s (Abort e a b)))
     c (step g s c)
 
--- reported-ended: thread 3 begins in call 9 and 6 ends that in call 12; 6 begins anew in call 21 and is broken off, 3
+-- reported_ended: thread 3 begins in call 9 and 6 ends that in call 12; 6 begins anew in call 21 and is broken off, 3
 -- is answered from its note in call 23, and 6 ends its abort in call 25. A message is queued, and 3's call 30 is
 -- answered 0.
 abbrev noted_twice : List Call
@@ -298,7 +298,7 @@ emptied s =
 unfoldable pub quencher : Grants → State → Call → Result
 quencher g s c = with_state (emptied (step g s c).state) (step g s c)
 
--- only-those: thread 3 leaves the set of the abort that it began in call 9, a message is queued in call 13, and call 14
+-- only_those: thread 3 leaves the set of the abort that it began in call 9, a message is queued in call 13, and call 14
 -- looks at it.
 abbrev left_alone : List Call
 left_alone =

@@ -41,7 +41,7 @@ pub quitter_fails : Claim (two (Delete 0 1 ∷ [])) (history_by (answers_as 11 d
 unfolding computed answers_as
 quitter_fails C = omega (arith, ap length (C.emptied _ (inl refl) 0 1 _ refl refl refl))
 
--- With two senders queued a third is answered 0: its message goes to the first of them, whose own is lost. handed-own:
+-- With two senders queued a third is answered 0: its message goes to the first of them, whose own is lost. handed_own:
 -- a message was queued there.
 unfoldable pub overtaker : Grants → State → Call → Result
 overtaker g s c =
@@ -61,7 +61,7 @@ overtaker_fails C =
     let e : 0 ≡ H.gives.endpoint = ap endpoint_of H.made ∙ ap endpoint_in7 H.gives.own in
     omega (arith, ap (λ (k : ℕ). length (overtaken.was.messages k)) e ∙ ap length H.receives)
 
--- A receive is answered 1 and its caller queued behind the messages. one-kind.
+-- A receive is answered 1 and its caller queued behind the messages. one_kind.
 unfoldable pub holder : Grants → State → Call → Result
 holder g s c =
     pick (eqb (number_of c) 8 && is_sending (s.threads 1).place)
@@ -77,7 +77,7 @@ holder_fails C =
     go (inl h) p q = omega (arith, ap length h)
     go (inr h) p q = omega (arith, ap length h)
 
--- A tick answers an old badge and message. words-zero.
+-- A tick answers an old badge and message. words_zero.
 abbrev pub spoken : Answer → Answer
 spoken a = record { code = a.code; count = a.count; badge = 7; message = 100 }
 
@@ -86,7 +86,7 @@ unfolding computed answers_as
 teller_fails C = omega (arith, (C.words_zero 9 Tick _ refl refl (λ m. omega (arith, m.0))).0)
 
 -- A tick wipes the block of who has been handed a message; an abort tells a sender whom it removes that its message was
--- taken; it leaves badge and message in that block. blocks-are.
+-- taken; it leaves badge and message in that block. blocks_are.
 abbrev told_tick : List Call
 told_tick = to_waiting ++ (Tick ∷ [])
 

@@ -111,7 +111,7 @@ pub record Claim (calls : List Call) (h : History) : Type 0 where
   pub no_old_message :
       (z : Ended) → In z h.aborts.ended → (d : Delivery) → In d h.deliveries → z.by < d.place
       → (w : ℕ) → Mem w d.handed → is_old calls z.abort w ≡ false
-  -- So too where a thread is handed the message in its block: it is the message of the call itself (handed-own).
+  -- So too where a thread is handed the message in its block: it is the message of the call itself (handed_own).
   pub no_old_handing :
       (z : Ended) → In z h.aborts.ended → (x : Step) → In x h.books.steps → z.by < x.place
       → (t : ℕ) (n : Message) → x.handed t ≡ some n → is_old calls z.abort x.place ≡ false

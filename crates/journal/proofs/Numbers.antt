@@ -32,21 +32,21 @@ by_number P p0 p1 p2 p3 p4 p5 p6 p7 p8 p9 p10 p11 p12 p13 more (suc (suc (suc (s
 
 pub taken_low : (top : ℕ) → top < 17 → words_taken top ≡ 0
 unfolding words_taken
-taken_low top h = simp (ne_eqb top 0x17 (omega arith), lt-leb 0x1_c top (omega arith), lt-leb 0x11 top h)
+taken_low top h = simp (ne_eqb top 0x17 (omega arith), lt-leb 0x1C top (omega arith), lt-leb 0x11 top h)
 
 pub taken_one : (top : ℕ) → 17 ≤ top → top < 28 → (top ≡ 23 → ⊥) → words_taken top ≡ 1
 unfolding words_taken
 taken_one top l h n =
-    simp (ne_eqb top 0x17 n, lt-leb 0x1_c top (omega arith), le-leb 0x11 top l, le-leb top 0x1_b (omega arith))
+    simp (ne_eqb top 0x17 n, lt-leb 0x1C top (omega arith), le-leb 0x11 top l, le-leb top 0x1B (omega arith))
 
 pub taken_two : (top : ℕ) → 28 ≤ top → top < 30 → words_taken top ≡ 2
 unfolding words_taken
-taken_two top l h = simp (ne_eqb top 0x17 (omega arith), le-leb 0x1_c top l, le-leb top 0x1_d (omega arith))
+taken_two top l h = simp (ne_eqb top 0x17 (omega arith), le-leb 0x1C top l, le-leb top 0x1D (omega arith))
 
 pub taken_high : (top : ℕ) → 29 < top → words_taken top ≡ 0
 unfolding words_taken
 taken_high top h =
-    simp (ne_eqb top 0x17 (omega arith), lt-leb top 0x1_d (omega arith), lt-leb top 0x1_b (omega arith), and-false)
+    simp (ne_eqb top 0x17 (omega arith), lt-leb top 0x1D (omega arith), lt-leb top 0x1B (omega arith), and-false)
 
 most : (b : Bool) (x y : ℕ) → x ≤ 3 → y ≤ 3 → pick b x y ≤ 3
 most true x y hx hy = hx
@@ -55,6 +55,6 @@ most false x y hx hy = hy
 pub taken_most : (top : ℕ) → words_taken top ≤ 3
 unfolding words_taken
 taken_most top =
-    let one = most (leb 0x11 top && leb top 0x1_b) 1 0 (omega arith) (omega arith) in
-    let two = most (leb 0x1_c top && leb top 0x1_d) 2 _ (omega arith) one in
+    let one = most (leb 0x11 top && leb top 0x1B) 1 0 (omega arith) (omega arith) in
+    let two = most (leb 0x1C top && leb top 0x1D) 2 _ (omega arith) one in
     most (eqb top 0x17) 3 _ (omega arith) two

@@ -106,7 +106,7 @@ grant_in_range s a rest c h g = subst (λ (x : Call). in_range x ≡ true) g.is 
           lt-ltb g.badge (2 ^ 28) g.word.0,
         )
 
-grant_read : (w : ℕ) (rest : List ℕ) (c : Call) → top_byte w ≡ 0x1_d → call_at w rest ≡ some c → in_range c ≡ true
+grant_read : (w : ℕ) (rest : List ℕ) (c : Call) → top_byte w ≡ 0x1D → call_at w rest ≡ some c → in_range c ≡ true
 unfolding call_at call_of
 grant_read w rest c top e =
     let one : top_bits w ≡ 1 = omega (arith, top) in
@@ -116,7 +116,7 @@ grant_read w rest c top e =
 
 -- so no reading that begins with the call word of a grant is refused by 19, in any journal and at any place.
 pub never_nineteen :
-    (journal : List ℕ) (at place : ℕ) → top_byte (get_or journal at 0) ≡ 0x1_d → read_at journal at ≢ Refused 19 place
+    (journal : List ℕ) (at place : ℕ) → top_byte (get_or journal at 0) ≡ 0x1D → read_at journal at ≢ Refused 19 place
 never_nineteen journal at place top e = go (read_at journal at) (outcome journal at) e
   where
     first : (w : ℕ) (rest : List ℕ) → drop at journal ≡ w ∷ rest → get_or journal at 0 ≡ w

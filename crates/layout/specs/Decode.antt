@@ -1,5 +1,5 @@
 -- The state read off any memory. Where a word makes no sense, anything in range stands for it: the image of the state
--- is then another memory. Nothing here has to be believed: stateOf, for which it is, has its own theorem.
+-- is then another memory. Nothing here has to be believed: state_of, for which it is, has its own theorem.
 use Rattle.std.specs.Prelude.{ℕ, zero, suc, ◌-◌, ◌^◌, List, [], ◌∷◌, eqb, ltb, leb}
 use Rattle.std.proofs.Math.Option.{Option, none, some}
 use Rattle.machine.specs.Lists.{pick}
