@@ -191,7 +191,8 @@ latecomer_fails N =
 -- "Nothing else changes a thread's ticks" than creation, destruction and the tick: a yield does.
 abbrev TicksKept : (Grants → State → Call → Result) → Type 0
 TicksKept f =
-    (g : Grants) (s : State) (c : Call) → (number_of c ≡ 1 → ⊥) → (number_of c ≡ 2 → ⊥) → (number_of c ≡ 6 → ⊥) → (u : ℕ)
+    (g : Grants) (s : State) (c : Call) → (number_of c ≡ 1 → ⊥) → (number_of c ≡ 2 → ⊥) → (number_of c ≡ 6 → ⊥)
+    → (u : ℕ)
     → ((f g s c).state.threads u).ticks ≡ (s.threads u).ticks
 
 pub step_keeps : TicksKept step

@@ -194,7 +194,8 @@ pub shuffler_fails : Claim (two (Tick ∷ [])) (history_by (meddles 6 (with_queu
 unfolding computed meddles
 shuffler_fails C = omega (arith, ap first0 (C.queues_are _ (inl refl)))
 
-pub doubler_fails : Claim (two (Tick ∷ [])) (history_by (meddles 6 (with_queue 0 (1 ∷ 2 ∷ 2 ∷ []))) (two (Tick ∷ []))) → ⊥
+pub doubler_fails : Claim (two (Tick ∷ [])) (history_by (meddles 6 (with_queue 0 (1 ∷ 2 ∷ 2 ∷ []))) (two (Tick ∷ [])))
+    → ⊥
 unfolding computed meddles
 doubler_fails C = omega (arith, ap queued0 (C.queues_are _ (inl refl)))
 

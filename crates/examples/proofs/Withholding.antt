@@ -105,7 +105,8 @@ unfolding computed meddles
 liar_fails C = omega (arith, ap (λ (k : ℕ → Block). (k 1).outcome) (C.blocks_are _ (inl refl)))
 
 pub leftover_fails :
-    Claim removed_two (history_by (meddles 12 (λ s. set_thread 1 (with_place able 3 7 100 (s.threads 1)) s)) removed_two)
+    Claim removed_two (history_by (meddles 12 (λ s. set_thread 1 (with_place able 3 7 100 (s.threads 1)) s))
+    removed_two)
     → ⊥
 unfolding computed meddles
 leftover_fails C = omega (arith, ap (λ (k : ℕ → Block). (k 1).badge) (C.blocks_are _ (inl refl)))

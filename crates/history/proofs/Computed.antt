@@ -25,13 +25,17 @@ use Rattle.history.specs.Recorded.{delivered_if, delivered, abort_calls_of, reco
 unfoldable pub computed : Unit {0}
 unfolding put without only below enqueue enqueue_first unqueue stand_down stand_back wake block highest_below highest
     dispatch_head dispatch_at dispatch displace choose_for choose join_endpoint leave_endpoint wake_from drop_debt
-    note_all note end_abort one_more remove_up_to deleted delete_from delete_at delete hits look_at look after_look look_up_to
+    note_all note end_abort one_more remove_up_to deleted delete_from delete_at delete hits look_at look after_look
+    look_up_to
     join begin ended looked_own work_own begin_after finished looked_other work_other under_badge abort_from
     abort_open abort_at abort_unless abort create_if create_thread leave_ready leave destroy_if
-    destroy_thread move_ready change_unless priority_if set_priority create_at create_endpoint fire interrupt leave_ticks
-    tick_for tick send_to send_unless send_at send receive_from receive_at receive yield wait_at wait grant_at grant_if grant
+    destroy_thread move_ready change_unless priority_if set_priority create_at create_endpoint fire interrupt
+    leave_ticks
+    tick_for tick send_to send_unless send_at send receive_from receive_at receive yield wait_at wait grant_at grant_if
+    grant
     perform perform_unless perform_if step lacks regranted grants_after named left_of begins ends passes settles settle
-    takes take_look walk takes_up joins_in lets_go hears closes close deletes walks aborts_by aborts_of outcome_of outcome_if
+    takes take_look walk takes_up joins_in lets_go hears closes close deletes walks aborts_by aborts_of outcome_of
+    outcome_if
     delivered_if delivered abort_calls_of recorded told run_from queues_by queues_if blocks_by
     blocks_if
 computed = tt

@@ -10,7 +10,8 @@ use Rattle.calls.specs.declared.Call.TheVariants.{Interrupt, Tick, Send, Receive
 use Rattle.calls.specs.declared.Call.TheVariants.{Grant}
 use Rattle.calls.specs.Answers.{is_accepted}
 use Rattle.machine.specs.Lists.{put, first}
-use Rattle.machine.specs.State.{State, Thread, no_outcome, message_taken, message_received, message_aborted, endpoint_gone}
+use Rattle.machine.specs.State.{State, Thread, no_outcome, message_taken, message_received, message_aborted}
+use Rattle.machine.specs.State.{endpoint_gone}
 use Rattle.machine.specs.State.{line_fired}
 use Rattle.machine.specs.Results.{Look, removals}
 use Rattle.history.specs.Queues.{Queues}

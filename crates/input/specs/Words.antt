@@ -4,7 +4,8 @@ use Rattle.std.specs.Prelude.{ℕ, ◌+◌, ◌*◌, ◌^◌, List, [], ◌∷�
 -- "little-endian": the word at a place, its lowest byte first
 abbrev pub little_endian : List ℕ → ℕ → ℕ
 little_endian bytes at =
-    get_or bytes at 0 + get_or bytes (at + 1) 0 * 2 ^ 8 + get_or bytes (at + 2) 0 * 2 ^ 16 + get_or bytes (at + 3) 0 * 2 ^ 24
+    get_or bytes at 0 + get_or bytes (at + 1) 0 * 2 ^ 8 + get_or bytes (at + 2) 0 * 2 ^ 16
+    + get_or bytes (at + 3) 0 * 2 ^ 24
 
 -- "little-endian words": the whole ones in these bytes, in order; one to three bytes at the end are no word
 unfoldable pub words_in : List ℕ → List ℕ

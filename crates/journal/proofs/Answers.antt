@@ -101,7 +101,15 @@ pub read_word_at :
     n ≡ words_taken (top_byte (get_or j at 0)) → judged at (at + n) (call_named words) ≡ read_at j at
 unfolding read_at read_from
 read_word_at j at n words h e t =
-    rw (e, part_is j (at + 1), name_named (call_at (get_or j at 0) (drop (at + 1) j)), drop-cons j at 0 h, t, add-one at)
+    rw (
+      e,
+      part_is j (at + 1),
+      name_named (call_at (get_or j at 0) (drop (at + 1) j)),
+      drop-cons j at 0 h,
+      t,
+      add-one
+          at,
+    )
 
 -- what `abort`, `grant` and `send` find in the words after a call word
 pub abort_nothing : (e a : ℕ) (rest : List ℕ) → number_in 2 rest ≡ none → Nothing ≡ as_named (abort_of e a rest)

@@ -164,7 +164,8 @@ word_missing s a (x ∷ y ∷ rest) n h = absurd (omega (arith, taken_most (16 +
 -- a word names a call only where its top bits are 1, and then by its parts
 unless_one :
     (w : ℕ) (rest : List ℕ) →
-    (top_byte w ≡ 16 + call_number w → call_of (call_number w) (subject w) (argument w) rest ≡ none) → call_at w rest ≡ none
+    (top_byte w ≡ 16 + call_number w → call_of (call_number w) (subject w) (argument w) rest ≡ none) → call_at w rest
+    ≡ none
 unfolding call_at
 unless_one w rest f = go (eqb (top_bits w) 1) refl
   where

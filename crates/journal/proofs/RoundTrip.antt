@@ -82,7 +82,8 @@ writes_the_words c h =
     rw h (λ i. record { code = 0; count = length (words_of c); words = spare c i })
 
 -- A call out of range gives 19 and zeros.
-pub writes_nothing : (c : Call) → in_range c ≡ false → written c ≡ record { code = 19; count = 0; words = replicate 3 0 }
+pub writes_nothing : (c : Call) → in_range c ≡ false → written c
+    ≡ record { code = 19; count = 0; words = replicate 3 0 }
 unfolding written
 writes_nothing c h = rw h
 

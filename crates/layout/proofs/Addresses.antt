@@ -183,12 +183,14 @@ unfolding at link_at
 in_thread_lem t zero i h g e = record { name = slot (Slot.Thread Field.Place t); valid = h; here = e }
 in_thread_lem t (suc zero) i h g e = record { name = slot (Slot.Thread Field.Priority t); valid = h; here = e }
 in_thread_lem t (suc (suc zero)) i h g e = record { name = slot (Slot.Thread Field.Ticks t); valid = h; here = e }
-in_thread_lem t (suc (suc (suc zero))) i h g e = record { name = slot (Slot.Thread Field.Outcome t); valid = h; here = e }
+in_thread_lem t (suc (suc (suc zero))) i h g e =
+    record { name = slot (Slot.Thread Field.Outcome t); valid = h; here = e }
 in_thread_lem t (suc (suc (suc (suc zero)))) i h g e =
     record { name = slot (Slot.Thread Field.Badge t); valid = h; here = e }
 in_thread_lem t (suc (suc (suc (suc (suc zero))))) i h g e =
     record { name = slot (Slot.Thread Field.Message t); valid = h; here = e }
-in_thread_lem t (suc (suc (suc (suc (suc (suc zero)))))) i h g e = record { name = link (Link.Next t); valid = h; here = e }
+in_thread_lem t (suc (suc (suc (suc (suc (suc zero)))))) i h g e =
+    record { name = link (Link.Next t); valid = h; here = e }
 in_thread_lem t (suc (suc (suc (suc (suc (suc (suc zero))))))) i h g e =
     record { name = link (Link.Prev t); valid = h; here = e }
 in_thread_lem t (suc (suc (suc (suc (suc (suc (suc (suc zero)))))))) i h g e =
@@ -208,7 +210,8 @@ unfolding at
 in_endpoint_lem n zero i h g e = record { name = slot (Slot.Endpoint Part.Status n); valid = h; here = e }
 in_endpoint_lem n (suc zero) i h g e = record { name = slot (Slot.Endpoint Part.Aborting n); valid = h; here = e }
 in_endpoint_lem n (suc (suc zero)) i h g e = record { name = slot (Slot.Endpoint Part.Aborted n); valid = h; here = e }
-in_endpoint_lem n (suc (suc (suc zero))) i h g e = record { name = slot (Slot.Endpoint Part.Cursor n); valid = h; here = e }
+in_endpoint_lem n (suc (suc (suc zero))) i h g e =
+    record { name = slot (Slot.Endpoint Part.Cursor n); valid = h; here = e }
 in_endpoint_lem n (suc (suc (suc (suc zero)))) i h g e =
     record { name = slot (Slot.Endpoint Part.End n); valid = h; here = e }
 in_endpoint_lem n (suc (suc (suc (suc (suc k))))) i h g e = absurd (omega arith)

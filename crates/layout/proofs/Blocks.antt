@@ -10,7 +10,8 @@ use Rattle.machine.specs.Sound.{Stores, DebtInRange, Numbers}
 use Rattle.machine.proofs.Lists.{Same, same, other, same?}
 use Rattle.layout.specs.declared.Field.{Field}
 use Rattle.layout.specs.Words.{thread_word, place_code}
-use Rattle.layout.specs.Decode.{or_zero, place_of, debt_of, outcome_in, stored_in, present_thread, thread_by, thread_from}
+use Rattle.layout.specs.Decode.{or_zero, place_of, debt_of, outcome_in, stored_in, present_thread, thread_by}
+use Rattle.layout.specs.Decode.{thread_from}
 use Rattle.layout.proofs.RoundTrip.{within_small, within_same, ticks_range, ticks_back, PlaceSmall, place_small}
 use Rattle.layout.proofs.RoundTrip.{place_back, DebtSmall, debt_small, debt_back, not_absent}
 

@@ -47,7 +47,8 @@ module _ (m : List ℕ) (size : length m ≡ table_words) (v : ℕ) where
     pub link_same : word (set m (link_at k) v) (link_at k) ≡ v
     link_same = word_set_same m (link_at k) v (omega (arith, link_at_small k h))
 
-    pub link_other : (j : Link) → ValidLink j → (j ≡ k → ⊥) → word (set m (link_at k) v) (link_at j) ≡ word m (link_at j)
+    pub link_other : (j : Link) → ValidLink j → (j ≡ k → ⊥) → word (set m (link_at k) v) (link_at j)
+        ≡ word m (link_at j)
     link_other j g n = word_set_other m (link_at k) (link_at j) v (λ e. n (link_at_injective j k g h e))
 
     pub link_slot : (a : Slot) → ValidSlot a → word (set m (link_at k) v) (at a) ≡ word m (at a)

@@ -1,5 +1,6 @@
 -- Who runs, read from the tables.
-use Rattle.std.proofs.Common.{◌≡◌, ℕ, zero, suc, ◌+◌, ◌%◌, ◌^◌, ◌<◌, ◌≤◌, Bool, true, false, eqb, leb, List, length, sym, refl, ap, ◌∙◌, arith, eq-eqb, ne_eqb, le-leb, leb-true}
+use Rattle.std.proofs.Common.{◌≡◌, ℕ, zero, suc, ◌+◌, ◌%◌, ◌^◌, ◌<◌, ◌≤◌, Bool, true, false, eqb, leb, List, length}
+use Rattle.std.proofs.Common.{sym, refl, ap, ◌∙◌, arith, eq-eqb, ne_eqb, le-leb, leb-true}
 use mathlib.Core.Option.{Option, none, some, some-injective}
 use Rattle.calls.specs.declared.Runner.TheVariants.{Nobody, Thread}
 use Rattle.machine.specs.Lists.{pick}
@@ -43,7 +44,8 @@ module _ (m : List ℕ) {r : ℕ} (h : length m ≡ table_words) (e : r ≡ word
 -- Whatever the words are, whoever runs is a thread.
 pub running_within : (m : List ℕ) (t : ℕ) → thread_of (runner_in m) ≡ some t → t ≤ 255
 unfolding runner_in
-running_within m t = go (eqb (length m) table_words) (leb (word m (at Slot.Running)) 256) (word m (at Slot.Running)) refl
+running_within m t = go (eqb (length m) table_words) (leb (word m (at Slot.Running)) 256) (word m (at Slot.Running))
+    refl
   where
     small : (w : ℕ) → w ≤ 256 → thread_of (runner_of w) ≡ some t → t ≤ 255
     small zero k e = none_some e

@@ -1,5 +1,6 @@
 -- From the tests to the entries' promises.
-use Rattle.std.proofs.Common.{◌≡◌, ℕ, ◌<◌, Bool, true, false, ◌&&◌, eqb, ◌⊎◌, ◌↔◌, List, length, replicate, sym, refl, ap, ◌∙◌, inl, inr, ⊎_elim, true≢false, arith, eq-eqb, ne_eqb}
+use Rattle.std.proofs.Common.{◌≡◌, ℕ, ◌<◌, Bool, true, false, ◌&&◌, eqb, ◌⊎◌, ◌↔◌, List, length, replicate, sym, refl}
+use Rattle.std.proofs.Common.{ap, ◌∙◌, inl, inr, ⊎_elim, true≢false, arith, eq-eqb, ne_eqb}
 use mathlib.Core.Option.{Option, none, some}
 use lib.ListN.{length-replicate}
 use Rattle.machine.specs.Lists.{pick}

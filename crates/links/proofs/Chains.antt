@@ -47,12 +47,14 @@ pub record Around (m n : List ℕ) (q p w t : ℕ) : Type 0 where
 
 module _ {m n : List ℕ} {q p w t : ℕ} (A : Around m n q p w t) where
   pub nexts :
-      (u : ℕ) → u ≤ 255 → (u ≡ t → ⊥) → (suc u ≡ p → ⊥) → word n (link_at (Link.Next u)) ≡ word m (link_at (Link.Next u))
+      (u : ℕ) → u ≤ 255 → (u ≡ t → ⊥) → (suc u ≡ p → ⊥) → word n (link_at (Link.Next u))
+      ≡ word m (link_at (Link.Next u))
   nexts u h a b =
       A.others (Link.Next u) h (λ e. b (next_after u q p e)) (next_before u q w) (λ e. a (cc)) (next_prev u t)
 
   pub prevs :
-      (u : ℕ) → u ≤ 255 → (u ≡ t → ⊥) → (suc u ≡ w → ⊥) → word n (link_at (Link.Prev u)) ≡ word m (link_at (Link.Prev u))
+      (u : ℕ) → u ≤ 255 → (u ≡ t → ⊥) → (suc u ≡ w → ⊥) → word n (link_at (Link.Prev u))
+      ≡ word m (link_at (Link.Prev u))
   prevs u h a b =
       A.others (Link.Prev u) h (prev_after u q p) (λ e. b (prev_before u q w e)) (λ e. next_prev t u (sym e))
       (λ e. a (cc))

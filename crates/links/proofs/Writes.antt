@@ -17,7 +17,8 @@ pub record WroteLink (m n : List ℕ) (k : Link) (v : ℕ) : Type 0 where
   pub slots : (a : Slot) → ValidSlot a → word n (at a) ≡ word m (at a)
 
 pub wrote :
-    {m n : List ℕ} {v : ℕ} (k : Link) → length m ≡ table_words → ValidLink k → n ≡ set m (link_at k) v → WroteLink m n k v
+    {m n : List ℕ} {v : ℕ} (k : Link) → length m ≡ table_words → ValidLink k → n ≡ set m (link_at k) v
+    → WroteLink m n k v
 wrote {m} {n} {v} k size h f =
     rw f
     (record {

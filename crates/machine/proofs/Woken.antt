@@ -271,7 +271,8 @@ deletes_by (some t) e a s d h = deletes _ t e a s d h
 abbrev Looks : State → Result → Type 0
 Looks s r = Chosen s (removals r.looks) r.state
 
-ended_own_lem : (l : List ℕ) (t e : ℕ) (v : List Look) (s r : State) → Behind s (removals v) r → Looks s (ended l t e v r)
+ended_own_lem : (l : List ℕ) (t e : ℕ) (v : List Look) (s r : State) → Behind s (removals v) r
+    → Looks s (ended l t e v r)
 unfolding ended
 ended_own_lem [] t e v s r A =
     chosen_self (end_abort live e (drop_debt t r)) (then_still (then_still A (drops t r)) (ends live e (drop_debt t r)))

@@ -113,7 +113,11 @@ row21 c s =
 
 -- "1: thread present | 22"
 abbrev pub row22 : Call → State → Refusal
-row22 c s = record { cause = one_of (1 ∷ []) (number_of c) && not (is_absent (thread_named c s).place); number = some 22 }
+row22 c s = record {
+  cause = one_of (1 ∷ []) (number_of c) && not (is_absent (thread_named c s).place);
+  number =
+      some 22;
+}
 
 -- Of the note: a member's "next abort call of that endpoint and badge is answered 0, count 0, before 23 is tried": it
 -- is not refused.
@@ -140,7 +144,11 @@ row24 c s =
 -- "7, 8, 12: endpoint closing | 25"
 abbrev pub row25 : Call → State → Refusal
 row25 c s =
-    record { cause = one_of (7 ∷ 8 ∷ 12 ∷ []) (number_of c) && is_closing (endpoint_named c s).status; number = some 25 }
+    record {
+      cause = one_of (7 ∷ 8 ∷ 12 ∷ []) (number_of c) && is_closing (endpoint_named c s).status;
+      number =
+          some 25;
+    }
 
 -- "7: that badge is under abort there | 26"
 abbrev pub row26 : Call → State → Refusal

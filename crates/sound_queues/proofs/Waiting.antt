@@ -14,7 +14,8 @@ use Rattle.layout.specs.declared.Link.{Link}
 use Rattle.layout.specs.Addresses.{word, link_at, endpoint_queue}
 use Rattle.soundness.specs.declared.Phase.{Phase}
 use Rattle.soundness.specs.Checks.{phase_at, phase_behind, allowed, complete, thread_at, endpoint_at}
-use Rattle.soundness.specs.Checks.{kind_of, banned_of, waiters_from, waiters_test, status_test, abort_test, endpoint_test}
+use Rattle.soundness.specs.Checks.{kind_of, banned_of, waiters_from, waiters_test, status_test, abort_test}
+use Rattle.soundness.specs.Checks.{endpoint_test}
 use Rattle.soundness.specs.Checks.{met_from, met_below, met}
 use Rattle.sound_queues.specs.Met.{met_in, Meets, Follows, FollowsAll}
 use Rattle.sound_queues.specs.Steps.{waiters_as, kind_fits}
@@ -45,7 +46,8 @@ pub record WaitersAt (m : List ℕ) (e k c d b : ℕ) (before after : List ℕ) 
   pub few : left ≤ 257
   pub kept : length after ≡ 256
   pub same : waiters_as m e k ≡ waiters_from left y f m (endpoint_queue e) k c d b x
-  pub passed : MetSoFar before after (met_from 257 (word m (link_at (Link.Head (endpoint_queue e)))) m) (met_from left y m)
+  pub passed : MetSoFar before after (met_from 257 (word m (link_at (Link.Head (endpoint_queue e)))) m)
+      (met_from left y m)
 
 -- Thread t is met behind link x, in phase f, as it should be.
 abbrev met_well : List ℕ → ℕ → ℕ → ℕ → Phase → ℕ → ℕ → Bool
@@ -124,10 +126,12 @@ module _ (m : List ℕ) (e k : ℕ) where
       rw (i, j, l, o) (record { few = omega arith; kept = h; same = refl; passed = passed_none _ _ })
 
   waiters_met :
-      waiters_as m e k ≡ true → met_from 257 (word m (link_at (Link.Head (endpoint_queue e)))) m ≡ met m (endpoint_queue e)
+      waiters_as m e k ≡ true → met_from 257 (word m (link_at (Link.Head (endpoint_queue e)))) m
+      ≡ met m (endpoint_queue e)
   unfolding met
   waiters_met h =
-      waiters_short m (endpoint_queue e) k (endpoint_at m Part.Cursor e) (endpoint_at m Part.End e) (banned_of m e k) 256
+      waiters_short m (endpoint_queue e) k (endpoint_at m Part.Cursor e) (endpoint_at m Part.End e) (banned_of m e k)
+      256
       (word m (link_at (Link.Head (endpoint_queue e)))) Phase.Ahead 0 h
 
   module _

@@ -17,7 +17,8 @@ ready_behind m p x t = eqb (word m (link_at (Link.Prev t))) x && ready_test m p 
 -- Thread t behind link x of an endpoint's queue, in phase f: linked back, of place k, and allowed where b is banned.
 abbrev pub stands_behind : List ℕ → ℕ → ℕ → Phase → ℕ → ℕ → Bool
 stands_behind m k b f x t =
-    eqb (word m (link_at (Link.Prev t))) x && eqb (thread_at m Field.Place t) k && allowed f b (thread_at m Field.Badge t)
+    eqb (word m (link_at (Link.Prev t))) x && eqb (thread_at m Field.Place t) k
+    && allowed f b (thread_at m Field.Badge t)
 
 -- The queue of endpoint e, whose threads have place k.
 abbrev pub waiters_as : List ℕ → ℕ → ℕ → Bool

@@ -11,7 +11,8 @@ use Rattle.layout.specs.declared.Field.{Field}
 use Rattle.layout.specs.declared.Part.{Part}
 use Rattle.layout.specs.declared.Slot.{Slot}
 use Rattle.layout.specs.Addresses.{at, word}
-use Rattle.soundness.specs.Checks.{thread_at, endpoint_at, numbers_test, stored_test, waits_test, owes_test, absent_test}
+use Rattle.soundness.specs.Checks.{thread_at, endpoint_at, numbers_test, stored_test, waits_test, owes_test}
+use Rattle.soundness.specs.Checks.{absent_test}
 use Rattle.soundness.specs.Checks.{present_test, block_test}
 
 module _ (m : List ℕ) (t : ℕ) {p : ℕ} (is : p ≡ thread_at m Field.Place t) where
@@ -74,7 +75,8 @@ module _ (m : List ℕ) (t : ℕ) {n : Bool} (numbers : n ≡ numbers_test m t) 
   present_not h = rw (← numbers, h)
 
   pub present_all :
-      {s w o : Bool} → n ≡ true → s ≡ stored_test m t → w ≡ waits_test m t → o ≡ owes_test (thread_at m Field.Owes t) m t
+      {s w o : Bool} → n ≡ true → s ≡ stored_test m t → w ≡ waits_test m t → o
+      ≡ owes_test (thread_at m Field.Owes t) m t
       → ((s && w) && o) ≡ present_test m t
   unfolding present_test
   present_all h e f g = rw (← numbers, h, e, f, g)

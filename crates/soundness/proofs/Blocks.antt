@@ -23,7 +23,8 @@ use Rattle.layout.proofs.Blocks.{NeatThread, absent_neat, thread_back, debt_in_r
 use Rattle.layout.proofs.Neat.{seat_small}
 use Rattle.layout.proofs.Tests.{Decides, tells_map, tells_and, tells_or, tells_eqb, tells_leb}
 use Rattle.layout.proofs.Tests.{tells_awaited, tells_stands}
-use Rattle.soundness.specs.Checks.{thread_at, endpoint_at, absent_test, numbers_test, stored_test, waits_test, owes_test}
+use Rattle.soundness.specs.Checks.{thread_at, endpoint_at, absent_test, numbers_test, stored_test, waits_test}
+use Rattle.soundness.specs.Checks.{owes_test}
 use Rattle.soundness.specs.Checks.{present_test, block_test}
 use Rattle.soundness.proofs.Tests.{tells_ltb, tells_pick, decided}
 use Rattle.soundness.proofs.Reading.{Reads}

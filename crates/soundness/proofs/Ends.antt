@@ -129,7 +129,8 @@ module _ (m : List ℕ) (e : ℕ) where
 
     end_at :
         (n : ℕ) → endpoint_at m Part.Status e ≡ n → Standing m e n → Aborting m e (endpoint_at m Part.Aborting e)
-        → Chain m (endpoint_queue e) 0 l 0 → Same-end (λ p. endpoint_at m p e) l (endpoint_by n (λ p. endpoint_at m p e) l)
+        → Chain m (endpoint_queue e) 0 l 0
+        → Same-end (λ p. endpoint_at m p e) l (endpoint_by n (λ p. endpoint_at m p e) l)
     end_at zero z t a c =
         end_read missing_endpoint (sym z) (no_abort t.1 a)
         (sym (first_zero l (sym (chain_first m (endpoint_queue e) 0 l c) ∙ t.0)))

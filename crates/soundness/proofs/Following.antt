@@ -80,7 +80,8 @@ waiters_split m q k c d b (suc n) (suc t) f x =
     ap (λ (z : Bool).
     (leb t 255 && eqb (word m (before_at q (suc t))) x && eqb (thread_at m Field.Place t) k
     && allowed (phase_at f c (suc t)) b (thread_at m Field.Badge t)) && z)
-    (waiters_split m q k c d b n (word m (link_at (Link.Next t))) (phase_behind (phase_at f c (suc t)) d (suc t)) (suc t))
+    (waiters_split m q k c d b n (word m (link_at (Link.Next t))) (phase_behind (phase_at f c (suc t)) d (suc t))
+    (suc t))
     ∙ and_sort_three (leb t 255 && eqb (word m (before_at q (suc t))) x) (eqb (thread_at m Field.Place t) k)
     (allowed (phase_at f c (suc t)) b (thread_at m Field.Badge t)) _ _ _
 

@@ -29,7 +29,8 @@ pub record Tried (m : List ℕ) : Type 0 where
   pub levels : (p : ℕ) → p < 256 → level_test m p ≡ true
   pub ends :
       (e : ℕ) → e < 64
-      → ((status_test (endpoint_at m Part.Status e) m e ≡ true) × (abort_test (endpoint_at m Part.Aborting e) m e ≡ true))
+      → ((status_test (endpoint_at m Part.Status e) m e ≡ true)
+      × (abort_test (endpoint_at m Part.Aborting e) m e ≡ true))
       × (waiters_test m e ≡ true)
   pub lines : (l : ℕ) → l < 32 → line_test m l ≡ true
   pub summary : summary_test m ≡ true

@@ -61,7 +61,8 @@ module _ (m : List ℕ) (e : ℕ) where
   tells_threads : (l : List ℕ) → Distinct l → Decides (threads_test m e l) (AllOf m e l × Marks-in m e l)
   tells_threads l d =
       tells_and (tells_every _ _ l (λ t k. tells_eqb (thread_at m Field.Place t) (kind_in m e)))
-      (tells_marked (endpoint_at m Part.Cursor e) (endpoint_at m Part.End e) (banned_in m e) (thread_at m Field.Badge) l d)
+      (tells_marked (endpoint_at m Part.Cursor e) (endpoint_at m Part.End e) (banned_in m e) (thread_at m Field.Badge) l
+      d)
 
   tells_kind :
       Decides
@@ -78,7 +79,8 @@ module _ (m : List ℕ) (e : ℕ) where
   -- The test finds the queue, with its marks.
   pub end_found :
       waiters_test m e ≡ true
-      → Chain m (endpoint_queue e) 0 (queue_from m (endpoint_queue e)) 0 × Marks-in m e (queue_from m (endpoint_queue e))
+      → Chain m (endpoint_queue e) 0 (queue_from m (endpoint_queue e)) 0
+      × Marks-in m e (queue_from m (endpoint_queue e))
   end_found h =
       let r = walk_found m (endpoint_queue e) (threads_test m e)
       (sym (waiters_split m (endpoint_queue e) (kind_in m e) (endpoint_at m Part.Cursor e) (endpoint_at m Part.End e)
@@ -111,11 +113,13 @@ banned_hit m e a k = rw (eq-eqb (endpoint_at m Part.Aborting e) 1 a, eq-eqb (kin
 banned_miss :
     (m : List ℕ) (e : ℕ) → ((endpoint_at m Part.Aborting e ≡ 1) × (kind_in m e ≡ 2 + e) → ⊥) → banned_in m e ≡ 2 ^ 28
 unfolding banned_of
-banned_miss m e n = go (decided (tells_eqb (endpoint_at m Part.Aborting e) 1)) (decided (tells_eqb (kind_in m e) (2 + e)))
+banned_miss m e n = go (decided (tells_eqb (endpoint_at m Part.Aborting e) 1))
+    (decided (tells_eqb (kind_in m e) (2 + e)))
   where
     go : (endpoint_at m Part.Aborting e ≡ 1) ⊎ (endpoint_at m Part.Aborting e ≡ 1 → ⊥)
         → (kind_in m e ≡ 2 + e) ⊎ (kind_in m e ≡ 2 + e → ⊥)
-        → pick (eqb (endpoint_at m Part.Aborting e) 1 && eqb (kind_in m e) (2 + e)) (endpoint_at m Part.Aborted e) (2 ^ 28)
+        → pick (eqb (endpoint_at m Part.Aborting e) 1 && eqb (kind_in m e) (2 + e)) (endpoint_at m Part.Aborted e)
+        (2 ^ 28)
         ≡ 2 ^ 28
     go (inl a) (inl k) = absurd (n (a, k))
     go (inl a) (inr k) = rw (eq-eqb (endpoint_at m Part.Aborting e) 1 a, ne_eqb (kind_in m e) (2 + e) k)

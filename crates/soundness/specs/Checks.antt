@@ -128,7 +128,8 @@ kind_of (suc t) m e = pick (leb t 255) (thread_at m Field.Place t) 0
 
 unfoldable pub banned_of : List ℕ → ℕ → ℕ → ℕ
 banned_of m e k =
-    pick (eqb (endpoint_at m Part.Aborting e) 1 && eqb k (place_code (sending e))) (endpoint_at m Part.Aborted e) (2 ^ 28)
+    pick (eqb (endpoint_at m Part.Aborting e) 1 && eqb k (place_code (sending e))) (endpoint_at m Part.Aborted e)
+    (2 ^ 28)
 
 abbrev pub kind_in : List ℕ → ℕ → ℕ
 kind_in m e = kind_of (word m (link_at (Link.Head (endpoint_queue e)))) m e
@@ -225,5 +226,6 @@ placed_test m t =
 -- All tests.
 unfoldable pub good_test : List ℕ → Bool
 good_test m =
-    all 256 (block_test m) && all 256 (level_test m) && all 64 (endpoint_test m) && all 32 (line_test m) && summary_test m
+    all 256 (block_test m) && all 256 (level_test m) && all 64 (endpoint_test m) && all 32 (line_test m)
+    && summary_test m
     && running_test m && all 534 (unused_test m) && all 256 (placed_test m)

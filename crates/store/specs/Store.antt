@@ -1,7 +1,8 @@
 -- The steps on single entries of the state, and what each asks: a number in range.
 use Rattle.std.specs.Prelude.{ℕ, ◌≤◌, ◌≡◌, List}
 use Rattle.std.proofs.Math.Option.{Option}
-use Rattle.machine.specs.State.{State, Thread, Place, able, Debt, nothing, Abort, Status, Line, absent_thread, set_thread}
+use Rattle.machine.specs.State.{State, Thread, Place, able, Debt, nothing, Abort, Status, Line, absent_thread}
+use Rattle.machine.specs.State.{set_thread}
 use Rattle.machine.specs.State.{set_runs, set_endpoint, set_line, with_priority, with_ticks, with_debt, with_place}
 use Rattle.machine.specs.Endpoints.{set_abort}
 use Rattle.layout.specs.declared.Slot.{Slot}

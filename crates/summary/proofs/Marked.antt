@@ -141,7 +141,8 @@ changed s p word top = record { words = set s.words (p / 32) word; top = top }
 module _ (f : ℕ → Bool) (p : ℕ) (h : p < 256) where
   set_word_lem : set_word (summary_of f) p ≡ word_of (put f p true) (p / 32)
   unfolding summary_of
-  set_word_lem = ap₂ bit_or (words_at f (p / 32) (omega arith)) (one_shifted (p % 32) (omega arith)) ∙ sym (word_set f p)
+  set_word_lem = ap₂ bit_or (words_at f (p / 32) (omega arith)) (one_shifted (p % 32) (omega arith))
+      ∙ sym (word_set f p)
 
   set_top : bit_or (summary_of f).top (one (p / 32)) ≡ top_of (put f p true)
   unfolding summary_of

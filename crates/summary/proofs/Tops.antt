@@ -50,7 +50,8 @@ pub none_highest : (n : ℕ) (f : ℕ → Bool) → ((k : ℕ) → k < n → f k
 unfolding highest_in
 none_highest zero f h = refl
 none_highest (suc n) f h =
-    ap (λ (b : Bool). pick b (some n) (highest_in n f)) (h n (omega arith)) ∙ none_highest n f (λ k l. h k (omega arith))
+    ap (λ (b : Bool). pick b (some n) (highest_in n f)) (h n (omega arith))
+    ∙ none_highest n f (λ k l. h k (omega arith))
 
 -- And the other way round.
 

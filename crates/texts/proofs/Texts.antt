@@ -49,7 +49,8 @@ set_is out at d h = rw (add-one, append_snoc, set_split out at d)
 
 drop_set : (l : List ℕ) (i d : ℕ) → i < length l → drop i (set l i d) ≡ d ∷ drop (suc i) l
 drop_set l i d h =
-    drop-cons (set l i d) i 0 (rw length-set h) ∙ rw (get_or-set_same l i d 0 h, drop-set-lt (suc i) l i d (omega arith))
+    drop-cons (set l i d) i 0 (rw length-set h)
+    ∙ rw (get_or-set_same l i d 0 h, drop-set-lt (suc i) l i d (omega arith))
 
 -- A text whose last byte was stored first.
 pub pasted_last :

@@ -76,7 +76,8 @@ outcome_printable (suc (suc zero)) = refl
 outcome_printable (suc (suc (suc n))) = simp (all_append, decimal_printable, cause_printable)
 
 detail_printable :
-    (asked : Bool) (name : List ℕ) (n : ℕ) → all is_printable name ≡ true → all is_printable (detail asked name n) ≡ true
+    (asked : Bool) (name : List ℕ) (n : ℕ) → all is_printable name ≡ true → all is_printable (detail asked name n)
+    ≡ true
 detail_printable asked name n h =
     detail_cases asked name n (λ (l : List ℕ). all is_printable l ≡ true) (simp (all_append, h, decimal_printable)) refl
 

@@ -15,7 +15,8 @@ sentence_room = 160
 -- untouched."
 unfoldable pub sentence_for : Call → Answer → List ℕ → Filed
 sentence_for c a out =
-    pick (leb sentence_room (length out)) (pick (in_range c) (filed (sentence c a) out) (unfiled 19 out)) (unfiled 28 out)
+    pick (leb sentence_room (length out)) (pick (in_range c) (filed (sentence c a) out) (unfiled 19 out))
+    (unfiled 28 out)
 
 -- The line that ends a journal's telling, in the same buffer.
 unfoldable pub stop_for : ℕ → List ℕ → Filed

@@ -4,7 +4,8 @@ use Rattle.std.specs.Io.KnownBytes.{Consumes}
 use Rattle.files.proofs.whole.Given as goal
 
 abbrev pub invariant-loop-done : goal.invariant-loop-done
-invariant-loop-done g l = (length l.buf ≡ length l.initial.buf) × (l.done ≤ length l.buf) × (l.s.output ≡ l.initial.s.output)
+invariant-loop-done g l =
+    (length l.buf ≡ length l.initial.buf) × (l.done ≤ length l.buf) × (l.s.output ≡ l.initial.s.output)
     × Consumes (g.R.Read.remaining l.initial.s.input) (g.R.Read.remaining l.s.input) (take l.done l.buf)
 
 abbrev pub decreases-loop-done : goal.decreases-loop-done

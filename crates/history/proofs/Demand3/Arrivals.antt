@@ -64,7 +64,8 @@ module _ (s : State) (S : Sound s) (t : ℕ) (runs : s.runs ≡ some t) where
         between = drop_debt t s;
         leaves = leaves_drop_debt t s;
         able =
-            ap (λ (q : Place). waiter_call q ((drop_debt t s).threads t).badge ((drop_debt t s).threads t).message) stands;
+            ap (λ (q : Place). waiter_call q ((drop_debt t s).threads t).badge ((drop_debt t s).threads t).message)
+            stands;
         aside = λ e a h i. differ ((M.marks.part e a h).sends t i) stands refl;
         entry = with_place p 0 b m ((drop_debt t s).threads t);
         calls = calls;

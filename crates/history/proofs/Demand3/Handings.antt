@@ -24,7 +24,8 @@ use Rattle.machine.specs.Scheduling.{enqueue, wake}
 use Rattle.machine.specs.Endpoints.{receivers, leave_endpoint, wake_from, drop_debt}
 use Rattle.machine.specs.Results.{Look, removals}
 use Rattle.machine.specs.Grants.{Grants}
-use Rattle.machine.specs.Machine.{send_to, send_unless, send_at, send, by_caller, perform, perform_unless, perform_if, step}
+use Rattle.machine.specs.Machine.{send_to, send_unless, send_at, send, by_caller, perform, perform_unless, perform_if}
+use Rattle.machine.specs.Machine.{step}
 use Rattle.machine.specs.Sound.{Sound}
 use Rattle.history.specs.Queues.{Queues, Message, has_message, handed_to, Gives, queues_in}
 use Rattle.history.specs.Blocks.{Block, bare, worded, tell_if, tell_all, met_blocks, blocks_by, blocks_if}

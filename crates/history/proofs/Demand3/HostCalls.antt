@@ -96,10 +96,12 @@ module _ (s : State) where
       go true = still_thread r t absent_thread (sym h)
       go false = still_thread r t absent_thread (sym h)
   still_leave (sending e) t r h =
-      still_then r (leave_endpoint t e r) (set_thread t absent_thread (leave_endpoint t e r)) (still_leave_endpoint r t e)
+      still_then r (leave_endpoint t e r) (set_thread t absent_thread (leave_endpoint t e r))
+      (still_leave_endpoint r t e)
       (still_thread (leave_endpoint t e r) t absent_thread (sym h))
   still_leave (receiving e) t r h =
-      still_then r (leave_endpoint t e r) (set_thread t absent_thread (leave_endpoint t e r)) (still_leave_endpoint r t e)
+      still_then r (leave_endpoint t e r) (set_thread t absent_thread (leave_endpoint t e r))
+      (still_leave_endpoint r t e)
       (still_thread (leave_endpoint t e r) t absent_thread (sym h))
   still_leave (waiting l) t r h = still_thread r t absent_thread (sym h)
 

@@ -599,7 +599,8 @@ module _ (s : State) (S : Sound s) where
   by c (some t) f h k = k t
 
   performs : (c : Call) → is_accepted (perform c s).answer ≡ true → By c s.runs (perform c s)
-  unfolding By queues_by perform create_thread destroy_thread set_priority create_endpoint interrupt tick send receive wait
+  unfolding By queues_by perform create_thread destroy_thread set_priority create_endpoint interrupt tick send receive
+      wait
       delete abort grant Meets
   performs (CreateThread t p) h = creates _ t p
   performs (DestroyThread t) h = destroys _ t h

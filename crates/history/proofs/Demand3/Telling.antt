@@ -17,18 +17,24 @@ use Rattle.machine.specs.State.{State, Thread, Place, absent, able, sending, rec
 use Rattle.machine.specs.State.{closing, Abort as Standing, Line, quiet, pending, awaited, set_line}
 use Rattle.machine.specs.State.{absent_thread}
 use Rattle.machine.specs.Scheduling.{enqueue, unqueue, stand_down, wake, block, choose}
-use Rattle.machine.specs.Endpoints.{receivers, senders, join_endpoint, leave_endpoint, wake_from, drop_debt, note_all, note}
+use Rattle.machine.specs.Endpoints.{receivers, senders, join_endpoint, leave_endpoint, wake_from, drop_debt, note_all}
+use Rattle.machine.specs.Endpoints.{note}
 use Rattle.machine.specs.Endpoints.{end_abort}
 use Rattle.machine.specs.Results.{Look, Result, removals}
 use Rattle.machine.specs.Sound.{Sound}
 use Rattle.machine.specs.Grants.{Grants}
 use Rattle.machine.specs.Machine.{is_running, create_if, create_thread, leave_ready, leave, destroy_if, destroy_thread}
-use Rattle.machine.specs.Machine.{move_ready, change_unless, priority_if, set_priority, create_at, create_endpoint, fire}
-use Rattle.machine.specs.Machine.{interrupt, leave_ticks, tick_for, tick, send_to, send_unless, send_at, send, receive_from}
-use Rattle.machine.specs.Machine.{receive_at, receive, yield, wait_at, wait, grant_at, grant_if, grant, by_caller, perform}
+use Rattle.machine.specs.Machine.{move_ready, change_unless, priority_if, set_priority, create_at, create_endpoint}
+use Rattle.machine.specs.Machine.{fire}
+use Rattle.machine.specs.Machine.{interrupt, leave_ticks, tick_for, tick, send_to, send_unless, send_at, send}
+use Rattle.machine.specs.Machine.{receive_from}
+use Rattle.machine.specs.Machine.{receive_at, receive, yield, wait_at, wait, grant_at, grant_if, grant, by_caller}
+use Rattle.machine.specs.Machine.{perform}
 use Rattle.machine.specs.Machine.{perform_unless, perform_if, step}
-use Rattle.machine.specs.Aborts.{Removal, one_more, remove_up_to, deleted, delete_from, delete_at, delete, hits, look_at}
-use Rattle.machine.specs.Aborts.{look, Looked, after_look, look_up_to, pending_at, join, begin, ended, looked_own, work_own}
+use Rattle.machine.specs.Aborts.{Removal, one_more, remove_up_to, deleted, delete_from, delete_at, delete, hits}
+use Rattle.machine.specs.Aborts.{look_at}
+use Rattle.machine.specs.Aborts.{look, Looked, after_look, look_up_to, pending_at, join, begin, ended, looked_own}
+use Rattle.machine.specs.Aborts.{work_own}
 use Rattle.machine.specs.Aborts.{begin_after, finished, looked_other, work_other, under_badge, abort_from, abort_open}
 use Rattle.machine.specs.Aborts.{abort_at, abort_unless, abort}
 use Rattle.history.specs.Queues.{waiter_on, queues_in}
@@ -49,7 +55,8 @@ blocks_of f t = block_of (f t)
 block_put : (f : ℕ → Thread) (t : ℕ) (x : Thread) → blocks_of (put f t x) ≡ put (blocks_of f) t (block_of x)
 block_put f t x =
     fun_ext
-    (put_all (λ u y. block_of y ≡ put (blocks_of f) t (block_of x) u) f t x (sym (put_same (blocks_of f) t (block_of x)))
+    (put_all (λ u y. block_of y ≡ put (blocks_of f) t (block_of x) u) f t x
+    (sym (put_same (blocks_of f) t (block_of x)))
     (λ u n. sym (put_other (blocks_of f) t u (block_of x) n)))
 
 block_keep : (f : ℕ → Thread) (t : ℕ) (x : Thread) → block_of x ≡ block_of (f t) → blocks_of (put f t x) ≡ blocks_of f
@@ -162,7 +169,8 @@ out_under false t e a b s r A =
     out_finished _ t e a b _ s
     (looks_up a (pending_at e r) e r ∙ ap (tell_all (removals (look_up_to a (pending_at e r) e r).looks) (bare 3)) A)
 
-out_from : (o : Option Standing) (t e a b : ℕ) (s r : State) → blocks_in r ≡ blocks_in s → OutBy s (abort_from o t e a b r)
+out_from : (o : Option Standing) (t e a b : ℕ) (s r : State) → blocks_in r ≡ blocks_in s
+    → OutBy s (abort_from o t e a b r)
 unfolding abort_from
 out_from none t e a b s r A = out_own t e a [] s (begin t e b r) (begins t e b r ∙ A)
 out_from (some x) t e a b s r A = out_under (eqb x.badge b) t e a b s r A
@@ -192,7 +200,8 @@ removes (suc n) (w ∷ l) e s h d =
   where
     go : (r : State) → (r.endpoints e).waiters ≡ l → blocks_in r ≡ put (blocks_in s) w (bare 4)
         → ((z : State) → (z.endpoints e).waiters ≡ l
-        → blocks_in (remove_up_to n l e z).state ≡ tell_all (take (remove_up_to n l e z).count l) (bare 4) (blocks_in z))
+        → blocks_in (remove_up_to n l e z).state
+        ≡ tell_all (take (remove_up_to n l e z).count l) (bare 4) (blocks_in z))
         → blocks_in (remove_up_to n (r.endpoints e).waiters e r).state
         ≡ tell_all (take (remove_up_to n (r.endpoints e).waiters e r).count l) (bare 4) (put (blocks_in s) w (bare 4))
     go r q p ih =
@@ -388,7 +397,8 @@ module _ (s : State) (S : Sound s) where
   by c (some t) f h k = k t
 
   performs : (c : Call) → is_accepted (perform c s).answer ≡ true → By c s.runs (perform c s)
-  unfolding By blocks_by perform create_thread destroy_thread set_priority create_endpoint interrupt tick send receive wait
+  unfolding By blocks_by perform create_thread destroy_thread set_priority create_endpoint interrupt tick send receive
+      wait
       delete abort grant
   performs (CreateThread t p) h = creates _ t p h
   performs (DestroyThread t) h = destroys _ t h

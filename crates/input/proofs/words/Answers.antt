@@ -13,4 +13,4 @@ returns-clause-words_after c =
     let words = c.loop-i.words in
     let count = length bytes / 4 in
     let all = fewer_words bytes words c.loop-i.i count c.loop-i.invariant.1 (search rules) in
-     taken_words bytes words count refl (search rules) all
+    taken_words bytes words count refl (search rules) all

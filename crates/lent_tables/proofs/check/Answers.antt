@@ -16,19 +16,22 @@ returns-then-scratch-ne-SCRATCH_WORDS c = scratch_bad _ _ _ c.if-scratch-ne-SCRA
 
 pub returns-then-not-sound : goal.returns-then-not-sound
 returns-then-not-sound c =
-    check_ungranted _ _ _ c.if-tables-ne-TABLE_WORDS.false c.if-grants-ne-GRANT_WORDS.false c.if-scratch-ne-SCRATCH_WORDS.false c.sound.ensures
+    check_ungranted _ _ _ c.if-tables-ne-TABLE_WORDS.false c.if-grants-ne-GRANT_WORDS.false
+    c.if-scratch-ne-SCRATCH_WORDS.false c.sound.ensures
     (zeroed c.args.scratch.now c.clear.ensures c.if-scratch-ne-SCRATCH_WORDS.false) c.if-not-sound.true
 
 pub returns-then-passed : goal.returns-then-passed
 returns-then-passed c =
-    check_sound _ _ _ c.if-tables-ne-TABLE_WORDS.false c.if-grants-ne-GRANT_WORDS.false c.if-scratch-ne-SCRATCH_WORDS.false c.sound.ensures
+    check_sound _ _ _ c.if-tables-ne-TABLE_WORDS.false c.if-grants-ne-GRANT_WORDS.false
+    c.if-scratch-ne-SCRATCH_WORDS.false c.sound.ensures
     (zeroed c.passes-passed.new.scratch c.clear-2.ensures
     (c.passes-passed.auto.scratch ∙ (c.clear.auto.words ∙ c.if-scratch-ne-SCRATCH_WORDS.false)))
     c.passes-passed.ensures c.if-not-sound.false c.if-passed.true
 
 pub returns : goal.returns
 returns c =
-    check_unsound _ _ _ c.if-tables-ne-TABLE_WORDS.false c.if-grants-ne-GRANT_WORDS.false c.if-scratch-ne-SCRATCH_WORDS.false c.sound.ensures
+    check_unsound _ _ _ c.if-tables-ne-TABLE_WORDS.false c.if-grants-ne-GRANT_WORDS.false
+    c.if-scratch-ne-SCRATCH_WORDS.false c.sound.ensures
     (zeroed c.passes-passed.new.scratch c.clear-2.ensures
     (c.passes-passed.auto.scratch ∙ (c.clear.auto.words ∙ c.if-scratch-ne-SCRATCH_WORDS.false)))
     c.passes-passed.ensures c.if-not-sound.false c.if-passed.false

@@ -73,7 +73,8 @@ refused_state g s c h =
 
 -- "Count is 0 except for 11 and 12."
 pub count_zero :
-    (g : Grants) (s : State) (c : Call) → (number_of c ≡ 11 → ⊥) → (number_of c ≡ 12 → ⊥) → (step g s c).answer.count ≡ 0
+    (g : Grants) (s : State) (c : Call) → (number_of c ≡ 11 → ⊥) → (number_of c ≡ 12 → ⊥) → (step g s c).answer.count
+    ≡ 0
 count_zero g s c = go (shape g s c)
   where
     go : {d : Call} {r : Result} → Comes s d r → (number_of d ≡ 11 → ⊥) → (number_of d ≡ 12 → ⊥)

@@ -41,7 +41,8 @@ module _ {u : ℕ} {C : ℕ → Type 0} {R : State → State → Type 0} (L : St
 
   send_to_passes : (x : Option ℕ) (t e b m : ℕ) (s : State) → R s (send_to x t e b m s).state
   unfolding send_to
-  send_to_passes none t e b m s = chosen L (L.both (queue_passes L t e s) (block_passes L t _ b m (join_endpoint t e s)))
+  send_to_passes none t e b m s =
+      chosen L (L.both (queue_passes L t e s) (block_passes L t _ b m (join_endpoint t e s)))
   send_to_passes (some r) t e b m s = chosen L (wake_from_passes L e r 2 b m s)
 
   send_unless_passes : (x : Bool) (t e b m : ℕ) (s : State) → C t → R s (send_unless x t e b m s).state
@@ -168,7 +169,8 @@ module _ {u : ℕ} {C : ℕ → Type 0} {R : State → State → Type 0} (L : St
   caller_passes (some t) f s e h = h t e
 
   pub perform_passes : (c : Call) (s : State) → Suits u C R s c → R s (perform c s).state
-  unfolding perform create_thread destroy_thread set_priority create_endpoint interrupt tick send receive wait delete abort
+  unfolding perform create_thread destroy_thread set_priority create_endpoint interrupt tick send receive wait delete
+      abort
       grant
   perform_passes (CreateThread t p) s S = create_passes _ t p s (S.created t p refl)
   perform_passes (DestroyThread t) s S = destroy_passes _ t s (S.destroyed t refl)

@@ -190,7 +190,8 @@ caller_agrees none s v f h = refl
 caller_agrees (some t) s v f h = h t
 
 perform_agrees : (c : Call) (s : State) → Agrees (first_cause (row20 c s ∷ table_rows c s)) s (perform c s)
-unfolding perform create_thread destroy_thread set_priority create_endpoint interrupt tick send receive yield wait delete
+unfolding perform create_thread destroy_thread set_priority create_endpoint interrupt tick send receive yield wait
+    delete
     abort grant
 perform_agrees (CreateThread t p) s = create_agrees (is_absent (s.threads t).place) t p s
 perform_agrees (DestroyThread t) s = destroy_agrees (is_absent (s.threads t).place) t s

@@ -330,7 +330,8 @@ caller_shape s c none f h = refused 20 (lit≤ tt) (lit≤ tt)
 caller_shape s c (some t) f h = h t
 
 pub perform_shape : (s : State) (c : Call) → in_range c ≡ true → Shape s c (perform c s)
-unfolding perform create_thread destroy_thread set_priority create_endpoint interrupt tick send receive yield wait delete
+unfolding perform create_thread destroy_thread set_priority create_endpoint interrupt tick send receive yield wait
+    delete
     abort grant
 perform_shape s (CreateThread t p) h = create_shape s _ t p
 perform_shape s (DestroyThread t) h = destroy_shape s _ t

@@ -131,7 +131,8 @@ module _ (s : State) (t : ℕ) where
   pub mid_drop_debt : Mid s → Mid (drop_debt t s)
   unfolding drop_debt
   mid_drop_debt M =
-      mid_debt s t nothing M (record { in_range_lem = λ h. tt; unused = λ h. refl }) (λ e h. absurd (nothing_works refl h))
+      mid_debt s t nothing M (record { in_range_lem = λ h. tt; unused = λ h. refl })
+      (λ e h. absurd (nothing_works refl h))
 
 -- Members get their notes.
 

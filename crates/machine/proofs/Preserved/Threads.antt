@@ -376,7 +376,8 @@ tick_sound s S = choose_sound (tick_for s.runs s) (go s.runs refl)
     left_ticks :
         (t : ℕ) → s.runs ≡ some t → (n : ℕ) → n ≤ 5 → Mid (leave_ticks n t s)
     left_ticks t r zero most =
-        mid_stand_down (set_thread t (with_ticks 5 (s.threads t)) s) t (mid_ticks s t 5 M r (omega arith) (omega arith)) r
+        mid_stand_down (set_thread t (with_ticks 5 (s.threads t)) s) t (mid_ticks s t 5 M r (omega arith) (omega arith))
+        r
     left_ticks t r (suc n) most = mid_ticks s t (suc n) M r (omega arith) most
 
     go : (r : Option ℕ) → s.runs ≡ r → Mid (tick_for r s)

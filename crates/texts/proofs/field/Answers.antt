@@ -16,16 +16,19 @@ number-end-requires c =
 pub bounds-out-end : goal.bounds-out-end
 unfolding spaced
 bounds-out-end c =
-    let space : Room c.number-end.new.out c.number-end.result (32 ∷ []) = rest_room (decimal c.args.n) (32 ∷ []) c.requires c.number-end.ensures in  omega (arith, space.fits)
+    let space : Room c.number-end.new.out c.number-end.result (32 ∷ []) =
+    rest_room (decimal c.args.n) (32 ∷ []) c.requires c.number-end.ensures in omega (arith, space.fits)
 
 pub overflow_add-result : goal.overflow_add-result
 unfolding spaced
 overflow_add-result c =
-    let space : Room c.number-end.new.out c.number-end.result (32 ∷ []) = rest_room (decimal c.args.n) (32 ∷ []) c.requires c.number-end.ensures in  omega (arith, space.fits)
+    let space : Room c.number-end.new.out c.number-end.result (32 ∷ []) =
+    rest_room (decimal c.args.n) (32 ∷ []) c.requires c.number-end.ensures in omega (arith, space.fits)
 
 pub returns : goal.returns
 unfolding spaced
 returns c =
-    let space : Room c.number-end.new.out c.number-end.result (32 ∷ []) = rest_room (decimal c.args.n) (32 ∷ []) c.requires c.number-end.ensures in 
+    let space : Room c.number-end.new.out c.number-end.result (32 ∷ []) =
+    rest_room (decimal c.args.n) (32 ∷ []) c.requires c.number-end.ensures in
     in_turn c.requires c.number-end.ensures
     (wrote_byte (omega (arith, space.fits)) refl refl)

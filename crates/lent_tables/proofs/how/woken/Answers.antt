@@ -8,7 +8,8 @@ returns-then-tables-ne-TABLE_WORDS c = no_tables _ _ c.plain.ensures c.if-tables
 
 pub returns-then-thread-gt255 : goal.returns-then-thread-gt255
 returns-then-thread-gt255 c =
-    no_thread _ _ c.if-tables-ne-TABLE_WORDS.false c.plain-then-thread-gt255.ensures (omega (arith, c.if-thread-gt255.true))
+    no_thread _ _ c.if-tables-ne-TABLE_WORDS.false c.plain-then-thread-gt255.ensures
+    (omega (arith, c.if-thread-gt255.true))
 
 pub returns-then-outcome-ne-MESSAGE_RECEIVED : goal.returns-then-outcome-ne-MESSAGE_RECEIVED
 returns-then-outcome-ne-MESSAGE_RECEIVED c =

@@ -8,7 +8,8 @@ returns-then-tables-ne-TABLE_WORDS c = no_tables _ c.if-tables-ne-TABLE_WORDS.tr
 
 pub returns-then-thread-gt255 : goal.returns-then-thread-gt255
 returns-then-thread-gt255 c =
-    nobody_runs _ c.if-tables-ne-TABLE_WORDS.false c.get-link.ensures c.wrapping_sub_u32-thread.ensures.value (search rules)
+    nobody_runs _ c.if-tables-ne-TABLE_WORDS.false c.get-link.ensures c.wrapping_sub_u32-thread.ensures.value
+    (search rules)
     c.if-thread-gt255.true
 
 pub returns : goal.returns

@@ -9,11 +9,13 @@ returns-then-top-eq0 c = finds_nothing c.args.self c.if-top-eq0.true
 
 pub bounds-words-i : goal.bounds-words-i
 bounds-words-i c =
-    let led_here : Led c.args.self c.requires.levels = led c.args.self c.requires.levels c.requires.shown c.if-top-eq0.false in  omega (arith, led_here.inside)
+    let led_here : Led c.args.self c.requires.levels =
+    led c.args.self c.requires.levels c.requires.shown c.if-top-eq0.false in omega (arith, led_here.inside)
 
 pub overflow_sub-bit : goal.overflow_sub-bit
 overflow_sub-bit c =
-    let led_here : Led c.args.self c.requires.levels = led c.args.self c.requires.levels c.requires.shown c.if-top-eq0.false in  omega (arith, led_here.fits_word)
+    let led_here : Led c.args.self c.requires.levels =
+    led c.args.self c.requires.levels c.requires.shown c.if-top-eq0.false in omega (arith, led_here.fits_word)
 
 pub returns : goal.returns
 returns c =
