@@ -24,7 +24,8 @@ pub closes_ended :
 closes_ended {s} t {e} M h n =
     record {
       mid =
-          mid_end_abort closing e (drop_debt t s) (closing_present refl) (λ k. n (sym ((drop_debt_drops s t).status e) ∙ k))
+          mid_end_abort closing e (drop_debt t s) (closing_present refl)
+          (λ k. n (sym ((drop_debt_drops s t).status e) ∙ k))
           (mid_drop_debt s t M);
       endpoint = h;
       status = ap (λ (x : Endpoint). x.status) (end_abort_entry (drop_debt t s) e closing);

@@ -27,7 +27,8 @@ unfolding remove_up_to
 remove_none zero e s z = refl
 remove_none (suc a) e s z = absurd (omega arith)
 
-remove_empty : (a : ℕ) (l : List ℕ) (e : ℕ) (s : State) → l ≡ [] → remove_up_to a l e s ≡ record { state = s; count = 0 }
+remove_empty : (a : ℕ) (l : List ℕ) (e : ℕ) (s : State) → l ≡ [] → remove_up_to a l e s
+    ≡ record { state = s; count = 0 }
 unfolding remove_up_to
 remove_empty zero l e s k = refl
 remove_empty (suc a) [] e s k = refl
