@@ -41,7 +41,9 @@ pub line_asked : {m : List ℕ} {t l : ℕ} → Shown m (Dropped t (l ≤ 31)) �
 line_asked S = record { state = S.state; shows = S.shows; holds = S.holds.calling.numbers }
 
 module _ {n o : List ℕ} {t l : ℕ} where
-  lined : {code : ℕ} (x : Line) → line_code x ≡ code → SetsLine n l code o → Does n o (Dropped t (l ≤ 31)) (set_line l x)
+  lined :
+      {code : ℕ} (x : Line) → line_code x ≡ code → SetsLine n l code o
+      → Does n o (Dropped t (l ≤ 31)) (set_line l x)
   lined x k W = record { shows = λ s M h. (W.does x k).shows s M h.calling.numbers }
 
   pub taken_asked : {code : ℕ} → SetsLine n l code o → Shown n (Dropped t (l ≤ 31)) → Shown o Chooses

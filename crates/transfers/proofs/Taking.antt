@@ -76,8 +76,8 @@ module _ {m : List ℕ} {t e r : ℕ} (F : FirstAt m e (2 + e) r) where
   link_is s M h = (F.sends refl).tells s M (mid_alike (dropped_mid h) h.calling.numbers)
 
   pub queued_receive :
-      {n o : List ℕ} {a : Answer} → r ≡ 0 → Does m n (ToEndpoint t e) (join_endpoint t e) → Suspends n t (66 + e) 0 0 a o
-      → Performs m o a (Dropped t (e ≤ 63)) (taking t e)
+      {n o : List ℕ} {a : Answer} → r ≡ 0 → Does m n (ToEndpoint t e) (join_endpoint t e)
+      → Suspends n t (66 + e) 0 0 a o → Performs m o a (Dropped t (e ≤ 63)) (taking t e)
   unfolding receive_from
   queued_receive z J H =
       performs_as (queued (λ h. h) J (receiving e) refl H)
@@ -87,7 +87,8 @@ module _ {m : List ℕ} {t e r : ℕ} (F : FirstAt m e (2 + e) r) where
 
   module _ (z : r ≡ 0 → ⊥) where
     takes : (s : State) → Shows m s → Dropped t (e ≤ 63) s → TakesFrom (r - 1) e s
-    takes s M h = record { caller = t; dropped = h; waits = first_queued (dropped_mid h) is_sending e (link_is s M h) z }
+    takes s M h =
+        record { caller = t; dropped = h; waits = first_queued (dropped_mid h) is_sending e (link_is s M h) z }
 
     pub takes_asked : Shown m (Dropped t (e ≤ 63)) → Shown m (TakesFrom (r - 1) e)
     takes_asked S =
