@@ -92,7 +92,7 @@ pub fn counted(code: u32, count: u32) -> Answer
 }
 
 // Who runs after a call.
-#[derive(Drop)]
+#[derive(Clone, Copy)]
 pub enum Runner {
     Nobody,
     Thread(u32),
