@@ -4,17 +4,12 @@ use mathlib.Core.Path.{◌≡◌, ◌∙◌, ap, subst}
 use mathlib.Core.List.{List, []}
 use Rattle.calls.specs.declared.Answer.{Answer}
 use Rattle.machine.specs.State.{State}
-use Rattle.machine.specs.Scheduling.{choose}
-use Rattle.machine.specs.Results.{Result, accept, refuse, done}
+use Rattle.machine.specs.Results.{Result, accept, refuse}
 use Rattle.calls.specs.Answers.{plain}
 use Rattle.layout.specs.Shows.{Shows}
 use Rattle.store.specs.Steps.{Shown, Does}
 use Rattle.queues.specs.Queues.{Chooses}
 use Rattle.endings.specs.Results.{Performs, Accepts}
-
--- Chosen, and answered by code 0.
-pub done_is : {m n : List ℕ} {a : Answer} → Does m n Chooses choose → a ≡ plain 0 → Performs m n a Chooses done
-done_is D e = record { answers = λ s M h. e; shows = λ s M h. D.shows s M h }
 
 -- An accepted call that has no looks.
 pub answered :

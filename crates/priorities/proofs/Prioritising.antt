@@ -34,9 +34,6 @@ use Rattle.priorities.proofs.Places.{code_absent, code_present, ready_is}
 thread_small : {t p : ℕ} (s : State) → Changes t p s → t ≤ 255
 thread_small s h = present_thread_lem (sound_mid h.sound) h.present
 
-pub reading_asked : {m : List ℕ} {t p : ℕ} → Shown m (Changes t p) → Shown m (IsThread t)
-reading_asked S = shown_for S thread_small
-
 module _ {m : List ℕ} {t : ℕ} (p : ℕ) {b : Bool} (R : Says m (IsThread t) b (ready_in t)) where
   said : (s : State) → Shows m s → Changes t p s → b ≡ ready_in t s
   said s M h = R.says s M (thread_small s h)
@@ -45,16 +42,9 @@ module _ {m : List ℕ} {t : ℕ} (p : ℕ) {b : Bool} (R : Says m (IsThread t) 
     stands : (s : State) → Shows m s → Changes t p s → InLevel t s
     stands s M h = ready_stands (sound_mid h.sound) (ready_is t s (sym (said s M h) ∙ z))
 
-    pub unqueue_asked : Shown m (Changes t p) → Shown m (InLevel t)
-    unqueue_asked S =
-        record { state = S.state; shows = S.shows; holds = stands S.state S.shows S.holds }
-
     module _ {n : List ℕ} (D : Does m n (InLevel t) (unqueue t)) where
       leaves : Does m n (Changes t p) (unqueue t)
       leaves = record { shows = λ s M h. D.shows s M (stands s M h) }
-
-      pub priority_asked : Shown m (Changes t p) → Shown n (IsThread t)
-      priority_asked S = shown_next leaves (λ s M h. thread_small s h) S
 
       module _ {o : List ℕ} (E : Does n o (IsThread t) (prioritising t p)) where
         sets : Does m o (Changes t p) (λ s. prioritising t p (unqueue t s))
@@ -127,10 +117,6 @@ module _ {m : List ℕ} {t r : ℕ} (p : ℕ) (T : Tells m (IsThread t) r (threa
           present = λ k. clash (ap is_absent k) (there s M h);
           level = h.numbers.1;
         }
-
-    pub change_asked : Shown m (Given t p) → Shown m (Changes t p)
-    change_asked S =
-        record { state = S.state; shows = S.shows; holds = changes S.state S.shows S.holds }
 
     module _ {q : ℕ} (Q : Tells m (IsThread t) q (thread_in Field.Priority t)) where
       -- What the call comes to, by whether the priority is another.

@@ -1,22 +1,21 @@
 -- Joining a queue: what it asks, what it does, and steps one after the other that end in it.
-use Prim.Native.Nat.{ℕ, ◌≤◌, ◌<◌}
-use mathlib.Core.Path.{◌≡◌, refl, ◌∙◌}
+use Prim.Native.Nat.{ℕ, ◌≤◌}
+use mathlib.Core.Path.{◌≡◌, refl}
 use mathlib.Core.Bool.{true}
 use mathlib.Core.Option.{Option, none}
 use mathlib.Core.List.{List, [], ◌∷◌, ◌++◌}
 use native.Mathlib.Omega.{arith}
-use lib.ListN.{length}
 use Rattle.machine.specs.Lists.{put}
 use Rattle.machine.specs.State.{State, Place, able, set_runs, set_level}
 use Rattle.machine.specs.Scheduling.{enqueue, enqueue_first, stand_down, stand_back, wake, block, occupied}
 use Rattle.machine.specs.Endpoints.{join_endpoint}
 use Rattle.machine.proofs.Lists.{put_same}
-use Rattle.layout.specs.Addresses.{table_words, endpoint_queue}
+use Rattle.layout.specs.Addresses.{endpoint_queue}
 use Rattle.layout.specs.declared.Field.{Field}
 use Rattle.layout.specs.Words.{queues_of}
 use Rattle.layout.specs.Shows.{Linked, Shows}
 use Rattle.layout.proofs.Standing.{queues_level, queues_endpoint}
-use Rattle.links.specs.Links.{Joinable, JoinsQueue, JoinsFirst, JoinsLast}
+use Rattle.links.specs.Links.{JoinsQueue, JoinsFirst, JoinsLast}
 use Rattle.store.specs.Steps.{Shown, Does, Tells}
 use Rattle.store.specs.Store.{IsThread, placing, SetsPlace, SetsRunning}
 use Rattle.store.specs.Readings.{thread_in}
@@ -45,22 +44,7 @@ module _ {m : List ℕ} {t p : ℕ} (R : Tells m (IsThread t) p (thread_in Field
   pub level_of_lem : (s : State) → Shows m s → Loose t s → p ≡ (s.threads t).priority
   level_of_lem s M h = R.tells s M h.thread
 
-  pub joinable_level : Shown m (Loose t) → Joinable m p t
-  joinable_level S =
-      record {
-        size = S.shows.size;
-        queue = omega (arith, level_of_lem S.state S.shows S.holds, S.holds.level);
-        thread = S.holds.thread;
-        queues = queues_of S.state;
-        linked = S.shows.links;
-        free = S.holds.free;
-      }
-
   module _ {place : List ℕ → List ℕ} {n : List ℕ} (J : JoinsQueue place m p t n) where
-    pub markable : Shown m (Loose t) → (length n ≡ table_words) × (p < 256)
-    markable S =
-        (J.kept.size ∙ S.shows.size, omega (arith, level_of_lem S.state S.shows S.holds, S.holds.level))
-
     -- At whichever end it joins.
     joined_level :
         {o : List ℕ} → ((l : List ℕ) → true ≡ occupied (place l)) → SetsLevel n p true o → (s : State) → Shows m s
@@ -151,17 +135,6 @@ module _ {t : ℕ} {m n : List ℕ} (R : SetsRunning m 0 n) where
 
 -- Joining an endpoint's queue.
 module _ {m : List ℕ} {t e : ℕ} where
-  pub joinable_endpoint : Shown m (ToEndpoint t e) → Joinable m (endpoint_queue e) t
-  joinable_endpoint S =
-      record {
-        size = S.shows.size;
-        queue = omega (arith, S.holds.endpoint);
-        thread = S.holds.thread;
-        queues = queues_of S.state;
-        linked = S.shows.links;
-        free = S.holds.free;
-      }
-
   pub joined : {n : List ℕ} → JoinsLast m (endpoint_queue e) t n → Does m n (ToEndpoint t e) (join_endpoint t e)
   unfolding join_endpoint
   joined {n} J = record { shows = λ s M h. go s M h }

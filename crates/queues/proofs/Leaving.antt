@@ -106,14 +106,6 @@ module _ {m : List ℕ} {t p : ℕ} (R : Tells m (IsThread t) p (thread_in Field
   own_level s M h =
       let e = R.tells s M h.thread in record { level = rw e h.level; stands = rw e h.stands }
 
-  pub own_shown : Shown m (InLevel t) → Shown m (InLevelAt p t)
-  own_shown S =
-      record {
-        state = S.state;
-        shows = S.shows;
-        holds = own_level S.state S.shows S.holds;
-      }
-
   pub unqueued : {n : List ℕ} → Does m n (InLevelAt p t) (leave_level p t) → Does m n (InLevel t) (unqueue t)
   unfolding unqueue
   unqueued D =

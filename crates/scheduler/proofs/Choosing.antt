@@ -18,7 +18,7 @@ use Rattle.summary.specs.declared.Summary.{Summary}
 use Rattle.summary.specs.declared.Level.{Level}
 use Rattle.summary.specs.declared.Level.TheVariants.{At, Nothing}
 use Rattle.summary.proofs.Tops.{highest_levels}
-use Rattle.summary.specs.Levels.{level_of, IsSummary, Finds}
+use Rattle.summary.specs.Levels.{level_of, Finds}
 use Rattle.layout.specs.declared.Field.{Field}
 use Rattle.layout.specs.Words.{first_of, queues_of, occupied_in}
 use Rattle.layout.specs.Shows.{Shows}
@@ -32,9 +32,6 @@ use Rattle.queues.specs.Queues.{Loose, InLevelAt, HeadAt, Chooses, FindsLevel, l
 use Rattle.queues.proofs.Joining.{shown_next}
 
 -- The level that the summary finds is the machine's.
-
-pub summary_loaded : {m : List ℕ} {sm : Summary} → Shown m Any → LoadsSummary m sm → IsSummary sm
-summary_loaded S L = record { levels = occupied_in S.state; shown = L.shown S.state S.shows }
 
 module _ {m : List ℕ} {sm : Summary} {l : Level} (L : LoadsSummary m sm) (F : Finds sm l) where
   pub finds : FindsLevel m l
@@ -156,9 +153,6 @@ module _ {m : List ℕ} {t p : ℕ} {l : Level} (R : Tells m (IsThread t) p (thr
         go s M k =
             let j : q ≤ (s.threads t).priority = omega (arith, R.tells s M k.thread) in
             rw (level_at T q at_q s M, le-ltb (s.threads t).priority q j) M
-
-pub stood_shown : {m n : List ℕ} {t : ℕ} → Does m n (Loose t) (stand_back t) → Shown m (Loose t) → Shown n Any
-stood_shown D S = shown_next D (λ _ _ _. tt) S
 
 -- Nobody runs, or the thread of the link does.
 module _ {m : List ℕ} {link : ℕ} (L : Tells m Any link running_in) where

@@ -24,7 +24,7 @@ use Rattle.store.specs.Readings.{thread_in}
 use Rattle.queues.specs.Queues.{Chooses}
 use Rattle.queues.proofs.Joining.{shown_next, and_then}
 use Rattle.endings.specs.Results.{Asked, Performs}
-use Rattle.endings.proofs.Ends.{refused, performs_as, performs_after, does_for, shown_for}
+use Rattle.endings.proofs.Ends.{refused, performs_as, performs_after, does_for}
 use Rattle.threads.specs.Threads.{Goes, leaving}
 use Rattle.endings.proofs.Runner.{mid_apart, apart_chooses, apart_thread, apart_leave}
 use Rattle.priorities.proofs.Places.{code_absent, code_present}
@@ -33,9 +33,6 @@ use Rattle.threads.proofs.Leaving.{mid_goes}
 -- What the call asks.
 abbrev Given : ℕ → State → Type 0
 Given t = Asked (t ≤ 255)
-
-pub drop_asked : {m : List ℕ} {t : ℕ} → Shown m (Given t) → Shown m (IsThread t)
-drop_asked S = shown_for S (λ s h. h.numbers)
 
 -- Dropping its debt leaves the thread where it is.
 dropped_place : (s : State) (t : ℕ) → ((drop_debt t s).threads t).place ≡ (s.threads t).place

@@ -20,12 +20,11 @@ use Rattle.layout.specs.declared.Field.{Field}
 use Rattle.layout.specs.Words.{place_code}
 use Rattle.layout.specs.Shows.{Shows}
 use Rattle.layout.proofs.Addresses.{below?}
-use Rattle.store.specs.Steps.{Shown, Does}
-use Rattle.store.specs.Store.{IsThread, IsLine, SetsRunning, SetsLine}
+use Rattle.store.specs.Steps.{Does}
+use Rattle.store.specs.Store.{IsThread, SetsRunning, SetsLine}
 use Rattle.store.specs.Readings.{thread_in}
 use Rattle.queues.specs.Queues.{InLevel, InEndpoint}
 use Rattle.debts.specs.Debts.{Says}
-use Rattle.endings.proofs.Ends.{shown_for}
 use Rattle.endings.proofs.Conditions.{present_thread_lem, ready_stands, queued_waits}
 use Rattle.priorities.specs.Priorities.{ready_in}
 use Rattle.threads.specs.Threads.{Able, leaving_ready, CanLeave, Goes, leaving}
@@ -41,10 +40,6 @@ module _ {m : List ℕ} {t : ℕ} {b : Bool} (R : Says m (IsThread t) b (ready_i
 
   stands_there : (s : State) → Shows m s → Able t s → b ≡ true → InLevel t s
   stands_there s M h z = h.stands (not_running s.runs (idle s M h z))
-
-  pub stands_asked : b ≡ true → Shown m (Able t) → Shown m (InLevel t)
-  stands_asked z S =
-      record { state = S.state; shows = S.shows; holds = stands_there S.state S.shows S.holds z }
 
   pub left_level : {n : List ℕ} → b ≡ true → Does m n (InLevel t) (unqueue t) → Does m n (Able t) (leaving_ready t)
   unfolding leave_ready
@@ -73,16 +68,6 @@ module _ {s : State} {t code : ℕ} (G : Goes t code s) where
       go (sending e) k h = absurd (omega arith)
       go (receiving e) k h = absurd (omega arith)
       go (waiting l) k h = absurd (omega arith)
-
-  at_least : (code ≡ 1 → ⊥) → 2 ≤ code
-  at_least b = go (s.threads t).place G.place G.can
-    where
-      go : (x : Place) → code ≡ place_code x → CanLeave x t s → 2 ≤ code
-      go absent k h = absurd h
-      go able k h = absurd (b k)
-      go (sending e) k h = omega arith
-      go (receiving e) k h = omega arith
-      go (waiting l) k h = omega arith
 
   at_sending : (code ≡ 1 → ⊥) → code < 66 → (s.threads t).place ≡ sending (code - 2)
   at_sending b c = go (s.threads t).place G.place G.can
@@ -118,11 +103,8 @@ module _ {s : State} {t code : ℕ} (G : Goes t code s) where
   can_leave : (x : Place) → (s.threads t).place ≡ x → CanLeave x t s
   can_leave x p = subst (λ (y : Place). CanLeave y t s) p G.can
 
--- The step for each place asks what it should and is the machine's.
+-- The step for each place is the machine's.
 module _ {m : List ℕ} {t code : ℕ} where
-  pub able_asked : code ≡ 1 → Shown m (Goes t code) → Shown m (Able t)
-  able_asked z S = shown_for S (λ s G. can_leave G able (at_able G z))
-
   pub leave_able :
       {n : List ℕ} → code ≡ 1 → Does m n (Able t) (leaving_ready t) → Does m n (Goes t code) (leaving t)
   unfolding leave
@@ -132,12 +114,6 @@ module _ {m : List ℕ} {t code : ℕ} where
             let p = at_able G z in
             subst (λ (x : Place). Shows n (leave x t s)) (sym p) (D.shows s M (can_leave G able p));
       }
-
-  pub blocked_least : (code ≡ 1 → ⊥) → Shown m (Goes t code) → 2 ≤ code
-  blocked_least b S = at_least S.holds b
-
-  pub sending_asked : (code ≡ 1 → ⊥) → code < 66 → Shown m (Goes t code) → Shown m (InEndpoint t (code - 2))
-  sending_asked b c S = shown_for S (λ s G. can_leave G (sending (code - 2)) (at_sending G b c))
 
   pub leave_sending :
       {n : List ℕ} → (code ≡ 1 → ⊥) → code < 66 → Does m n (InEndpoint t (code - 2)) (leave_endpoint t (code - 2))
@@ -151,9 +127,6 @@ module _ {m : List ℕ} {t code : ℕ} where
             (D.shows s M (can_leave G (sending (code - 2)) p));
       }
 
-  pub receiving_asked : 66 ≤ code → code < 130 → Shown m (Goes t code) → Shown m (InEndpoint t (code - 66))
-  receiving_asked b c S = shown_for S (λ s G. can_leave G (receiving (code - 66)) (at_receiving G b c))
-
   pub leave_receiving :
       {n : List ℕ} → 66 ≤ code → code < 130 → Does m n (InEndpoint t (code - 66)) (leave_endpoint t (code - 66))
       → Does m n (Goes t code) (leaving t)
@@ -165,9 +138,6 @@ module _ {m : List ℕ} {t code : ℕ} where
             subst (λ (x : Place). Shows n (leave x t s)) (sym p)
             (D.shows s M (can_leave G (receiving (code - 66)) p));
       }
-
-  pub line_asked : 130 ≤ code → Shown m (Goes t code) → Shown m (IsLine (code - 130))
-  line_asked b S = shown_for S (λ s G. can_leave G (waiting (code - 130)) (at_line G b))
 
   pub leave_line : {n : List ℕ} → 130 ≤ code → SetsLine m (code - 130) 0 n → Does m n (Goes t code) (leaving t)
   unfolding leave

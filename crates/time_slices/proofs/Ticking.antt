@@ -120,19 +120,6 @@ module _ {m : List ℕ} {link : ℕ} (L : Tells m Any link running_in) where
     calls : (s : State) → Shows m s → Asked (Unit {0}) s → Caller (link - 1) s
     calls s M h = record { sound = h.sound; runs = runner L n s M; numbers = tt }
 
-    pub runner_asked : Shown m (Asked (Unit {0})) → Shown m (Caller (link - 1))
-    runner_asked S =
-        record { state = S.state; shows = S.shows; holds = calls S.state S.shows S.holds }
-
-    pub runner_ticks :
-        {o : List ℕ} → Does m o (Caller (link - 1)) (tick_for (some (link - 1)))
-        → Does m o (Asked (Unit {0})) ticking_for
-    runner_ticks {o} D =
-        record {
-          shows = λ s M h.
-              subst (λ (x : Option ℕ). Shows o (tick_for x s)) (sym (runner L n s M)) (D.shows s M (calls s M h));
-        }
-
 -- Whoever runs is in no queue after a tick.
 
 apart_ticks :
