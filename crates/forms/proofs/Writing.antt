@@ -1,37 +1,25 @@
--- A text behind the bytes used: the bytes in the whole buffer, from those in the part lent for it; and that it is the
--- text in its form.
+-- A text behind the bytes used: the bytes in the whole buffer, from those in the part lent for it.
 use Prim.Native.Nat.{ℕ, ◌+◌, ◌≤◌}
-use mathlib.Core.Path.{◌≡◌, refl, sym, ◌∙◌, ap}
+use mathlib.Core.Path.{◌≡◌, sym, ◌∙◌, ap}
 use mathlib.Core.Bool.{true}
-use mathlib.Core.Option.{Option}
-use mathlib.Core.List.{List, [], ◌∷◌, ◌++◌}
+use mathlib.Core.List.{List, ◌++◌}
 use native.Mathlib.Omega.{arith}
 use native.Mathlib.Nat.{zero-add}
-use denote.Enum.Declared.{tag_of}
-use types.Run.{OneOf}
 use lib.ListN.{length, take, drop, length-drop}
 use lib.Seq.{length-take-le}
 use Rattle.calls.specs.declared.Answer.{Answer}
 use Rattle.calls.specs.declared.Call.{Call}
-use Rattle.calls.specs.Calls.{number_of, in_range}
-use Rattle.calls.specs.Answers.{plain}
-use Rattle.journal.specs.Rows.{Row}
+use Rattle.calls.specs.Calls.{in_range}
 use Rattle.texts.specs.declared.Output.{Output}
 use Rattle.texts.specs.Buffer.{pasted, Wrote}
 use Rattle.texts.specs.Filed.{Filed, filed}
-use Rattle.texts.proofs.Writing.{part_wrote, wrote_is}
+use Rattle.texts.proofs.Writing.{part_wrote}
 use Rattle.texts.proofs.Filing.{filing}
-use Rattle.listing.specs.Line.{line_of}
 use Rattle.listing.specs.Buffer.{line_room, line_length, after_line}
 use Rattle.listing.proofs.Fronts.{front_wrote}
 use Rattle.wording.specs.Sentence.{sentence, stop_line}
 use Rattle.wording.specs.Entry.{sentence_room, sentence_for, stop_for}
 use Rattle.wording.proofs.Entry.{line_for, stop_line_for}
-use Rattle.numbered.specs.Numbered.{numbered_sentence, numbered_stop}
-use Rattle.forms.specs.declared.Form.{Form}
-use Rattle.forms.specs.declared.Form.TheVariants.{Lines, Sentences, Numbered}
-use Rattle.forms.specs.Forms.{call_text, stop_text}
-use Rattle.forms.specs.contracts.Form.{the_type}
 
 pub line_added :
     (out : List ℕ) (used k : ℕ) → used + line_room ≤ length out → k ≡ line_room
@@ -86,59 +74,3 @@ module _
         (code : ℕ) → filing r part ≡ stop_for code (take k (drop used out))
         → Wrote out used (stop_line code) (used + r.used) out'
     stop_line_added code e = filed_added (stop_line code) (e ∙ sym (stop_line_for code (take k (drop used out)) long))
-
--- In a form.
-
-abbrev row : ℕ → ℕ → Answer → Option ℕ → Row
-row i call a running = record { index = i; call = call; answer = a; running = running }
-
-in_lines : (f : Form) → OneOf (0 ∷ []) (tag_of the_type f) → Lines ≡ f
-in_lines Lines t = refl
-in_lines Sentences t = absurd (omega (arith, t))
-in_lines Numbered t = absurd (omega (arith, t))
-
-in_sentences : (f : Form) → OneOf (1 ∷ []) (tag_of the_type f) → Sentences ≡ f
-in_sentences Lines t = absurd (omega (arith, t))
-in_sentences Sentences t = refl
-in_sentences Numbered t = absurd (omega (arith, t))
-
-in_numbered : (f : Form) → OneOf (2 ∷ []) (tag_of the_type f) → Numbered ≡ f
-in_numbered Lines t = absurd (omega (arith, t))
-in_numbered Sentences t = absurd (omega (arith, t))
-in_numbered Numbered t = refl
-
-module _ {out out' : List ℕ} {used n : ℕ} (f : Form) (i : ℕ) (runs : Option ℕ) where
-  module _ (ran : Option ℕ) (c : Call) (a : Answer) where
-    pub call_line :
-        (number : ℕ) → OneOf (0 ∷ []) (tag_of the_type f) → number ≡ number_of c
-        → Wrote out used (line_of (row i number a runs)) n out' → Wrote out used (call_text f i ran c a runs) n out'
-    call_line number t e =
-        wrote_is
-        (ap (λ (k : ℕ). line_of (row i k a runs)) e ∙ ap (λ (g : Form). call_text g i ran c a runs) (in_lines f t))
-
-    pub call_sentence :
-        OneOf (1 ∷ []) (tag_of the_type f)
-        → Wrote out used (sentence c a) n out' → Wrote out used (call_text f i ran c a runs) n out'
-    call_sentence t = wrote_is (ap (λ (g : Form). call_text g i ran c a runs) (in_sentences f t))
-
-    pub call_numbered :
-        OneOf (2 ∷ []) (tag_of the_type f)
-        → Wrote out used (numbered_sentence i ran c a runs) n out' → Wrote out used (call_text f i ran c a runs) n out'
-    call_numbered t = wrote_is (ap (λ (g : Form). call_text g i ran c a runs) (in_numbered f t))
-
-  pub stop_numbers :
-      (code : ℕ) (a : Answer) → OneOf (0 ∷ []) (tag_of the_type f) → a ≡ plain code
-      → Wrote out used (line_of (row i 0 a runs)) n out' → Wrote out used (stop_text f i code runs) n out'
-  stop_numbers code a t e =
-      wrote_is
-      (ap (λ (b : Answer). line_of (row i 0 b runs)) e ∙ ap (λ (g : Form). stop_text g i code runs) (in_lines f t))
-
-  pub stop_sentence :
-      (code : ℕ) → OneOf (1 ∷ []) (tag_of the_type f)
-      → Wrote out used (stop_line code) n out' → Wrote out used (stop_text f i code runs) n out'
-  stop_sentence code t = wrote_is (ap (λ (g : Form). stop_text g i code runs) (in_sentences f t))
-
-  pub stop_numbered :
-      (code : ℕ) → OneOf (2 ∷ []) (tag_of the_type f)
-      → Wrote out used (numbered_stop i code runs) n out' → Wrote out used (stop_text f i code runs) n out'
-  stop_numbered code t = wrote_is (ap (λ (g : Form). stop_text g i code runs) (in_numbered f t))

@@ -12,7 +12,8 @@ use Rattle.machine.specs.Lists.{put, pick}
 use Rattle.machine.specs.State.{State, Status, missing, live, closing, Endpoint, fresh_state}
 use Rattle.calls.specs.Answers.{plain}
 use Rattle.machine.specs.Grants.{Grants, lacks, regranted, grants_after, fresh_grants, SoundGrants}
-use Rattle.machine.specs.Machine.{create_if, create_thread, create_at, create_endpoint, perform, perform_unless, perform_if}
+use Rattle.machine.specs.Machine.{create_if, create_thread, create_at, create_endpoint, perform, perform_unless}
+use Rattle.machine.specs.Machine.{perform_if}
 use Rattle.machine.specs.Machine.{step, grants_by, tick}
 use Rattle.machine.specs.Sound.{Sound}
 use Rattle.machine.proofs.Lists.{put_all}

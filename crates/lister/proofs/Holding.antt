@@ -18,27 +18,12 @@ use Rattle.lister.specs.Feeding.{Progress, Told, ready, holding, told_of, told_b
 use Rattle.lister.specs.Buffers.{progress_of, with_byte, takes_call, Feeds}
 use Rattle.lister.proofs.Taking.{fed_to}
 
--- Bytes that are ready, and those that are not.
-
-pub too_short : (bytes : List ℕ) → length bytes < 4 → false ≡ ready bytes
-too_short bytes h = rw (lt-leb 4 (length bytes) h)
-
-pub ready_is :
-    (bytes : List ℕ) (w t : ℕ) → 4 ≤ length bytes → w ≡ little_endian bytes 0 → t ≡ words_taken (top_byte w)
-    → leb (t * 4) (length bytes) ≡ ready bytes
-ready_is bytes w t h e f =
-    ap (λ (k : ℕ). leb (k * 4) (length bytes)) (f ∙ ap (λ (v : ℕ). words_taken (top_byte v)) e)
-    ∙ rw (le-leb 4 (length bytes) h)
-
--- Twelve bytes are: no call has more.
+-- Twelve bytes are ready: no call has more.
 all_ready : (bytes : List ℕ) → 12 ≤ length bytes → ready bytes ≡ true
 all_ready bytes h =
     let n = words_taken (top_byte (little_endian bytes 0)) in
     let enough : n * 4 ≤ length bytes = omega (arith, h, taken_most (top_byte (little_endian bytes 0))) in
     rw (le-leb 4 (length bytes) (omega (arith, h)), le-leb (n * 4) (length bytes) enough)
-
-ready_four : (bytes : List ℕ) → ready bytes ≡ true → 4 ≤ length bytes
-ready_four bytes e = leb-true 4 (length bytes) ((and-eq-true_iff _ _).0 e).0
 
 few : (bytes : List ℕ) → ready bytes ≡ false → length bytes < 12
 few bytes e = go (leb 12 (length bytes)) refl
@@ -75,7 +60,7 @@ stays f l b m out used g =
 
 module _ (l : Lister) (b : ℕ) (h : l.held < 12) (long : length l.bytes ≡ 12) (k : Lister) (is : k ≡ with_byte l b)
   where
-    pub one_held : k.held ≡ l.held + 1
+    one_held : k.held ≡ l.held + 1
     one_held = ap (λ (j : Lister). j.held) is
 
     pub as_long : length k.bytes ≡ 12
@@ -88,14 +73,11 @@ module _ (l : Lister) (b : ℕ) (h : l.held < 12) (long : length l.bytes ≡ 12)
         ∙ ap (λ (n : ℕ). take n (set l.bytes l.held b)) one
         ∙ take-suc-set l.bytes l.held b (omega (arith, h, long))
 
-    pub many : length (take k.held k.bytes) ≡ k.held
+    many : length (take k.held k.bytes) ≡ k.held
     many = length-take-le k.held k.bytes (omega (arith, one_held, h, as_long))
 
     pub still_few : ready (take k.held k.bytes) ≡ false → k.held < 12
     still_few e = omega (arith, few (take k.held k.bytes) e, many)
-
-    pub enough : ready (take k.held k.bytes) ≡ true → 4 ≤ k.held
-    enough e = omega (arith, ready_four (take k.held k.bytes) e, many)
 
     module _ (f : Form) (m : Lent) (out : List ℕ) (used : ℕ) where
       bytes_offered :
@@ -192,11 +174,3 @@ module _ (f : Form) (l : Lister) (m : Lent) (out : List ℕ) where
           Feeds (byte_to f (get_or part i 0) (fed f (take i part) (progress_of l m)).after) out₁ a.used r m₂ out₂
       new' =
           subst (λ (s : Progress). Feeds (byte_to f (get_or part i 0) s) out₁ a.used r m₂ out₂) so_far.after new
-
-  -- All of it.
-  pub all_fed :
-      (part : List ℕ) (i : ℕ) → length part ≤ i
-      → (a : Fed) (m₁ : Lent) (out₁ : List ℕ) → Feeds (fed f (take i part) (progress_of l m)) out 0 a m₁ out₁
-      → Feeds (fed f part (progress_of l m)) out 0 a m₁ out₁
-  all_fed part i h a m₁ out₁ =
-      subst (λ (bytes : List ℕ). Feeds (fed f bytes (progress_of l m)) out 0 a m₁ out₁) (take_all i part h)

@@ -1,4 +1,4 @@
--- What a call's bytes come to, from what the functions promise: a call's text, the text that stops the journal, or
+-- What a call's bytes come to, from what the functions promise: a call in range, the text that stops the journal, or
 -- nothing; and the end.
 use Rattle.std.proofs.Common.{◌≡◌, ℕ, zero, suc, ◌+◌, ◌%◌, ◌^◌, Bool, true, false, List, [], ◌∷◌, length, take, sym, refl, ap, ◌∙◌, subst, inl, inr, arith}
 use denote.Enum.Declared.{tag_of}
@@ -40,6 +40,13 @@ not_took : OneOf (1 ∷ 2 ∷ []) 0 → ⊥
 not_took (inl e) = omega (arith, e)
 not_took (inr e) = omega (arith, e)
 
+-- A turn that did not stop.
+pub unstopped :
+    (t : Turn) → ((code : ℕ) (w : Runner) → t ≡ Stopped code w → ⊥) → OneOf (0 ∷ 2 ∷ []) (tag_of the_type t)
+unstopped (Took c a w next) h = inl refl
+unstopped (Stopped code w) h = absurd (h code w refl)
+unstopped Over h = inr refl
+
 -- A call that was taken was read, so it is in range.
 
 abbrev Ranged : Turn → Type 0
@@ -70,16 +77,6 @@ module _ (f : Form) (l : Lister) (out : List ℕ) (used : ℕ) where
   over_told Over t e is m =
       record { after = ap (λ (k : Lister). progress_of k m) is; text = wrote_nothing out used }
 
-  -- A turn that stopped: its text.
-  pub stop_told_lem :
-      (turn : Turn) (code : ℕ) (who : Runner) → turn ≡ Stopped code who
-      → (e : Lister) → e ≡ emptied l l.index false
-      → (n : ℕ) (out' : List ℕ) → Wrote out used (stop_text f l.index code (thread_of who)) n out'
-      → (m : Lent) → Feeds (stopping f turn (progress_of l m)) out used (fed_to e n) m out'
-  stop_told_lem turn code who found e is n out' w m =
-      subst (λ (t : Turn). Feeds (stopping f t (progress_of l m)) out used (fed_to e n) m out') (sym found)
-      (record { after = ap (λ (k : Lister). progress_of k m) is; text = w })
-
   module _ (m m' : Lent) (out' : List ℕ) where
     -- What the bytes held come to is what the turn of their words does.
     turn_told :
@@ -106,26 +103,6 @@ module _ (f : Form) (l : Lister) (out : List ℕ) (used : ℕ) where
         → Feeds (takes_call f (progress_of l m)) out used r m' out'
     left_answered turn e t r all =
         subst (λ (o : Told). Feeds o out used r m' out') (left_told turn t ∙ turn_told turn e) (all m')
-
-    -- A call was taken.
-    pub call_answered :
-        (turn : Turn)
-        → ◌≡◌ {A = Turned} (record { turn = turn; left = m' })
-        (turned (read_at (words_in (take l.held l.bytes)) 0) m)
-        → (c : Call) (a : Answer) (who : Runner) (next : ℕ) → turn ≡ Took c a who next
-        → (ran : Runner) → ran ≡ runner_in m.tables
-        → (index : ℕ) → index ≡ (l.index + 1) % 2 ^ 64
-        → (k : Lister) → k ≡ emptied l index l.going
-        → (n : ℕ) → Wrote out used (call_text f l.index (thread_of ran) c a (thread_of who)) n out'
-        → Feeds (takes_call f (progress_of l m)) out used (fed_to k n) m' out'
-    call_answered turn e c a who next found ran before index one k is n w =
-        subst (λ (o : Told). Feeds o out used (fed_to k n) m' out')
-        (ap (λ (t : Turn). told_of f t m' (progress_of l m)) (sym found) ∙ turn_told turn e)
-        (record {
-          after =
-              ap (λ (j : Lister). progress_of j m') (is ∙ ap (λ (i : ℕ). emptied l i l.going) one);
-          text = wrote_is (ap (λ (r : Runner). call_text f l.index (thread_of r) c a (thread_of who)) before) w;
-        })
 
 -- The end.
 

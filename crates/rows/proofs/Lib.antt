@@ -1,3 +1,2 @@
--- One turn by its cases, and a journal's run turn by turn.
-pub mod Taking
+-- A journal's run, turn by turn.
 pub mod Run

@@ -150,6 +150,14 @@ not_took : OneOf (1 ∷ 2 ∷ []) 0 → ⊥
 not_took (inl e) = omega (arith, e)
 not_took (inr e) = omega (arith, e)
 
+-- A turn that is not one that took a call.
+pub other_turn :
+    (t : Turn) → ((c : Call) (a : Answer) (w : Runner) (next : ℕ) → t ≡ Took c a w next → ⊥)
+    → OneOf (1 ∷ 2 ∷ []) (tag_of the_type t)
+other_turn (Took c a w next) h = absurd (h c a w next refl)
+other_turn (Stopped code w) h = inl refl
+other_turn Over h = inr refl
+
 -- What a turn does where a journal has been run up to its word.
 module _ {journal : List ℕ} {at i : ℕ} {who : Option ℕ} {m : Lent} {rest : Course} (r : Ran journal at i who m rest)
   where
