@@ -13,9 +13,8 @@ use Rattle.calls.specs.declared.Call.{Call}
 use Rattle.calls.specs.declared.Runner.{Runner}
 use Rattle.calls.specs.Answers.{thread_of, seat}
 use Rattle.machine.specs.State.{State, fresh_state}
-use Rattle.machine.specs.Grants.{Grants, SoundGrants, fresh_grants}
+use Rattle.machine.specs.Grants.{Grants, fresh_grants}
 use Rattle.machine.specs.Machine.{step, grants_by}
-use Rattle.machine.specs.Sound.{Sound}
 use Rattle.machine.proofs.Granted.{fresh_grants_sound, grants_sound}
 use Rattle.machine.proofs.Preserved.Steps.{step_sound, fresh_sound}
 use Rattle.journal.specs.declared.types.Read.{Read}
