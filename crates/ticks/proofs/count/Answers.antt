@@ -1,7 +1,6 @@
 -- Refused by 30 or the reader; else the counts.
-use mathlib.Core.Path.{◌∙◌, sym, ap}
+use mathlib.Core.Path.{◌∙◌}
 use native.Mathlib.Omega.{arith}
-use borrow.Author.Rules.{rules}
 use Rattle.ticks.proofs.Entry.{too_long, too_dear, other_counts, unread, all_read}
 use Rattle.ticks.proofs.count.Goals as goal
 

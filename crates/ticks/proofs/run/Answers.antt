@@ -1,8 +1,6 @@
 -- On fresh memory.
 use Prim.Native.Nat.{ℕ}
-use mathlib.Core.List.{List}
 use lib.ListN.{replicate, length-replicate}
-use borrow.Author.Rules.{rules}
 use Rattle.layout.specs.Addresses.{table_words, scratch_words}
 use Rattle.grants.specs.Memory.{grant_words}
 use Rattle.rows.proofs.Run.{ran_freshened}

@@ -1,6 +1,4 @@
 -- By the test.
-use borrow.Author.Rules.{rules}
-use mathlib.Core.Path.{◌∙◌, ap, sym}
 use Rattle.billing.specs.Ticks.{ticked}
 use Rattle.ticks.proofs.Counting.{tick_is, tick_not}
 use Rattle.ticks.proofs.tick.Goals as goal
