@@ -2,7 +2,7 @@
 use Prim.Native.Nat.{ℕ, zero, suc, ◌%◌, ◌≤◌, ◌<◌}
 use mathlib.Core.Path.{◌≡◌, refl, sym, ap, subst, ◌∙◌}
 use mathlib.Core.Bool.{Bool, true, false, ◌&&◌}
-use mathlib.Core.List.{List, [], ◌∷◌}
+use mathlib.Core.List.{List}
 use native.Mathlib.Omega.{arith}
 use borrow.Author.Tests.{le-leb, lt-leb, leb-true}
 use lib.Dec.{leb, eqb}
@@ -13,7 +13,7 @@ use Rattle.layout.proofs.Image.{length_tabulate}
 use Rattle.journal.specs.Course.{course_of, stop_code}
 use Rattle.input.specs.Words.{little_endian, words_in}
 use Rattle.billing.specs.Ticks.{ticks_of, count_words, counts_of, most_words, most_rate, Counted, unless_refused, count_for}
-use Rattle.billing.specs.Bills.{bill_of, alone, unless_odd, bill_unless, billed, printed}
+use Rattle.billing.specs.Bills.{bill_of, alone, unless_odd, bill_unless, printed}
 use Rattle.billing.proofs.Few.{ticks_few}
 use Rattle.bills.specs.Lines.{Few}
 

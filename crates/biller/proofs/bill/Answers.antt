@@ -1,8 +1,7 @@
 -- By the order of the refusals.
-use Prim.Native.Nat.{◌≤◌}
 use mathlib.Core.Path.{sym}
 use native.Mathlib.Omega.{arith}
-use lib.ListN.{length, drop, replicate}
+use lib.ListN.{drop, replicate}
 use Rattle.texts.proofs.Writing.{room_is, wrote_is}
 use Rattle.texts.proofs.Filing.{wrote_counts}
 use Rattle.input.specs.Words.{words_in}
