@@ -1,6 +1,6 @@
 -- What a call's bytes come to, from what the functions promise: a call in range, the text that stops the journal, or
 -- nothing; and the end.
-use Rattle.std.proofs.Common.{◌≡◌, ℕ, zero, suc, ◌+◌, ◌%◌, ◌^◌, Bool, true, false, List, [], ◌∷◌, length, take, sym, refl, ap, ◌∙◌, subst, inl, inr, arith}
+use Rattle.std.proofs.Common.{◌≡◌, ℕ, zero, suc, Bool, true, false, List, [], ◌∷◌, length, take, sym, refl, ap, ◌∙◌, subst, inl, inr, arith}
 use denote.Enum.Declared.{tag_of}
 use types.Run.{OneOf}
 use Rattle.calls.specs.declared.Answer.{Answer}
@@ -14,7 +14,7 @@ use Rattle.journal.specs.declared.types.Read.TheVariants.{Found, Refused, Ended}
 use Rattle.journal.specs.Words.{read_at}
 use Rattle.journal.proofs.RoundTrip.{writes_what_was_read}
 use Rattle.texts.specs.Buffer.{Wrote}
-use Rattle.texts.proofs.Writing.{wrote_nothing, wrote_is}
+use Rattle.texts.proofs.Writing.{wrote_nothing}
 use Rattle.lent_tables.specs.Entries.{Lent, runner_in}
 use Rattle.input.specs.Words.{words_in}
 use Rattle.rows.specs.declared.Turn.{Turn}
@@ -24,7 +24,7 @@ use Rattle.rows.specs.contracts.Turn.{the_type}
 use Rattle.forms.specs.declared.Form.{Form}
 use Rattle.lister.specs.declared.Lister.{Lister}
 use Rattle.lister.specs.declared.Fed.{Fed}
-use Rattle.forms.specs.Forms.{call_text, stop_text}
+use Rattle.forms.specs.Forms.{stop_text}
 use Rattle.lister.specs.Feeding.{Progress, Told, told_of, told_by, ending_with, ending}
 use Rattle.lister.specs.Buffers.{progress_of, emptied, takes_call, stopping, Feeds}
 

@@ -1,5 +1,5 @@
 -- Its tests are those of the definition.
-use Rattle.std.proofs.Common.{◌/◌, ◌^◌, arith, rules}
+use Rattle.std.proofs.Common.{◌/◌, ◌^◌, arith}
 use Rattle.journal.proofs.Numbers.{taken_most}
 use Rattle.lister.proofs.whole.Goals as goal
 
