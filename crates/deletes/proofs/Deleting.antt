@@ -44,9 +44,6 @@ module _ {m n : List ℕ} {e a c : ℕ} (R : Removes m e a c n) where
   pub broken_asked : Shown m (Closes e) → Shown n Chooses
   broken_asked S = shown_for (removed_shown S) (λ s C. mid_chooses C.mid)
 
-  pub status_asked : Shown m (Closes e) → Shown n (IsEndpoint e)
-  status_asked S = shown_for (removed_shown S) (λ s C. C.endpoint)
-
   module _ {r : ℕ} (F : First n (endpoint_queue e) r) where
     -- Somebody is left.
     pub broken_off :

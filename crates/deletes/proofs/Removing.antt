@@ -4,11 +4,10 @@ use Prim.Native.Nat.{ℕ, zero, suc, ◌+◌, ◌-◌, ◌≤◌, ◌<◌}
 use mathlib.Core.Path.{◌≡◌, refl, sym, ◌∙◌, ap, subst}
 use mathlib.Core.List.{List, [], ◌∷◌}
 use native.Mathlib.Omega.{arith}
-use lib.ListN.{length}
 use Rattle.machine.specs.State.{State}
 use Rattle.machine.specs.Endpoints.{wake_from}
 use Rattle.machine.specs.Aborts.{Removal, one_more, remove_up_to}
-use Rattle.layout.specs.Addresses.{table_words, endpoint_queue}
+use Rattle.layout.specs.Addresses.{endpoint_queue}
 use Rattle.layout.specs.Words.{first_of}
 use Rattle.layout.specs.Shows.{Shows}
 use Rattle.links.specs.Links.{First}
@@ -80,18 +79,7 @@ pub record Removing (m₀ m : List ℕ) (e a left : ℕ) : Type 0 where
   pub there : Shown m (Closes e)
   pub reached : (s : State) → Shows m₀ s → Closes e s → Reached m e a left s
 
-pub removing_none : {m : List ℕ} {e a : ℕ} → Shown m (Closes e) → Removing m m e a a
-removing_none S =
-    record {
-      within = omega arith;
-      there = S;
-      reached = λ s M C. record { state = s; shows = M; closes = C; rest = refl; counts = refl };
-    }
-
 module _ {m₀ m : List ℕ} {e a left : ℕ} (R : Removing m₀ m e a left) where
-  pub first_asked : (length m ≡ table_words) × (endpoint_queue e ≤ 319)
-  first_asked = (R.there.shows.size, omega (arith, R.there.holds.endpoint))
-
   -- Nothing is left to do.
   removed :
       {c : ℕ} → c + left ≡ a → ((s : State) → Shows m s → removal left e s ≡ record { state = s; count = 0 })

@@ -10,7 +10,7 @@ use Rattle.calls.specs.declared.Answer.{Answer}
 use Rattle.calls.specs.declared.Call.{Call}
 use Rattle.calls.specs.declared.Call.TheVariants.{CreateThread, DestroyThread, SetPriority, CreateEndpoint}
 use Rattle.calls.specs.declared.Call.TheVariants.{Interrupt, Tick, Send, Receive, Yield, Wait, Delete, Abort, Grant}
-use Rattle.calls.specs.Calls.{number_of, endpoint_of, in_range}
+use Rattle.calls.specs.Calls.{number_of, in_range}
 use Rattle.machine.specs.State.{State}
 use Rattle.machine.specs.Results.{Result, refuse}
 use Rattle.calls.specs.Answers.{plain, thread_of}
@@ -30,7 +30,7 @@ use Rattle.store.specs.Steps.{Shown, Tells}
 use Rattle.store.specs.Store.{Any}
 use Rattle.store.specs.Readings.{running_in}
 use Rattle.endings.specs.Results.{Asked, Calling, Performs}
-use Rattle.endings.proofs.Ends.{refused, performs_as, performs_for, shown_for}
+use Rattle.endings.proofs.Ends.{refused, performs_as, performs_for}
 use Rattle.lent_tables.specs.Entries.{runner_of}
 use Rattle.dispatch.specs.Steps.{Ranged, Served, Grantable, admitting, stepping}
 
@@ -62,9 +62,6 @@ module _ {link : ℕ} {c d : Call} {N : Type 0} {f : State → Result} (e : c �
   asked : Arm d N f → (s : State) → Served link c s → Asked N s
   asked A s h = record { sound = h.sound; numbers = A.asks (subst (λ x. Ranged x) e h.numbers) }
 
-  pub host_asked : {m : List ℕ} → Arm d N f → Shown m (Served link c) → Shown m (Asked N)
-  host_asked A S = shown_for S (asked A)
-
   pub host_done :
       {m n : List ℕ} {a : Answer} → Arm d N f → Performs m n a (Asked N) f
       → Performs m n a (Served link c) (perform c)
@@ -83,15 +80,6 @@ module _ {link : ℕ} {c d : Call} {N : Type 0} {f : State → Result} (e : c �
         runs = runs A s h;
         numbers = A.asks (subst (λ x. Ranged x) e h.numbers);
       }
-
-  pub somebody : {m : List ℕ} → OwnArm (link - 1) d N f → Shown m (Served link c) → 1 ≤ link
-  somebody A S =
-      let own = subst (λ x. (7 ≤ number_of x) × (number_of x ≤ 12)) (sym e) A.own in
-      S.holds.made own.0 own.1
-
-  pub thread_asked :
-      {m : List ℕ} → OwnArm (link - 1) d N f → Shown m (Served link c) → Shown m (Calling (link - 1) N)
-  thread_asked A S = shown_for S (calling A)
 
   pub thread_done :
       {m n : List ℕ} {a : Answer} → OwnArm (link - 1) d N f → Performs m n a (Calling (link - 1) N) f
@@ -236,10 +224,6 @@ module _ {m : List ℕ} {link number : ℕ} (c : Call) (R : Tells m Any link run
             (λ i. clash (unmade.back ((subst (λ x. 7 ≤ x) (sym K) l, subst (λ x. x ≤ 12) (sym K) u), i)) h);
       }
 
-  pub served_asked : own && eqb link 0 ≡ false → Shown m (Asked (Ranged c)) → Shown m (Served link c)
-  served_asked h S =
-      record { state = S.state; shows = S.shows; holds = served h S.state S.shows S.holds }
-
   -- Under the grants g: 20, 29, or the call.
   module _ (g : Grants) where
     pub nobody_calls :
@@ -278,26 +262,8 @@ module _ {m : List ℕ} {link number : ℕ} (c : Call) (R : Tells m Any link run
     served_done h B F =
         performs_as (performs_for F (served h)) (λ s M k. ap (λ x. perform_unless x c s) (sym (barred_in B s M)))
 
--- Nobody lacks nothing; a thread what its word and its call say.
-pub nobody_lacks : {link : ℕ} (g : Grants) (c : Call) → link ≡ 0 → false ≡ barred (thread_of (runner_of link)) g c
-nobody_lacks g c z = ap (λ x. barred (thread_of (runner_of x)) g c) (sym z)
-
-pub thread_lacks :
-    {link : ℕ} {b : Bool} (g : Grants) (c : Call) → (link ≡ 0 → ⊥) → b ≡ lacks (g (link - 1) (endpoint_of c)) c
-    → b ≡ barred (thread_of (runner_of link)) g c
-thread_lacks {link} {b} g c h e = go link h e
-  where
-    go : (l : ℕ) → (l ≡ 0 → ⊥) → b ≡ lacks (g (l - 1) (endpoint_of c)) c → b ≡ barred (thread_of (runner_of l)) g c
-    go zero h e = absurd (h refl)
-    go (suc t) h e =
-        let same : suc t - 1 ≡ t = omega arith in
-        e ∙ ap (λ (u : ℕ). lacks (g u (endpoint_of c)) c) same
-
 -- The range is tried first.
 module _ {m : List ℕ} {b : Bool} (c : Call) (r : b ≡ in_range c) where
-  pub range_asked : b ≡ true → Shown m Sound → Shown m (Asked (Ranged c))
-  range_asked z S = shown_for S (λ s k. record { sound = k; numbers = sym r ∙ z })
-
   module _ (g : Grants) where
     pub out_of_range : {a : Answer} → b ≡ false → a ≡ plain 19 → Performs m m a Sound (stepping g c)
     unfolding step perform_if

@@ -20,15 +20,15 @@ use Rattle.layout.specs.declared.Field.{Field}
 use Rattle.layout.specs.declared.Part.{Part}
 use Rattle.layout.specs.Words.{status_code}
 use Rattle.layout.specs.Shows.{Shows}
-use Rattle.store.specs.Steps.{Shown, Tells}
+use Rattle.store.specs.Steps.{Tells}
 use Rattle.store.specs.Store.{IsThread, IsEndpoint}
 use Rattle.store.specs.Readings.{thread_in, endpoint_in}
 use Rattle.endings.specs.Results.{Asked, Performs}
-use Rattle.endings.proofs.Ends.{refused, performs_as, performs_for, shown_for}
+use Rattle.endings.proofs.Ends.{refused, performs_as}
 use Rattle.priorities.proofs.Places.{code_absent, code_present}
 use Rattle.grants.specs.Memory.{grant_words, grants_of, grant_image}
 use Rattle.grants.proofs.Memory.{image_of}
-use Rattle.dispatch.specs.Steps.{Grantable, Regrants}
+use Rattle.dispatch.specs.Steps.{Regrants}
 
 -- A refused call leaves the grants' memory.
 pub refused_grants :
@@ -53,10 +53,6 @@ pub accepted_regrants :
     {g h : List ℕ} (a : Answer) (c : Call) → a.code ≤ 2 → h ≡ grant_image (regranted c (grants_of g))
     → Regrants g h a c
 accepted_regrants {g} a c k e = record { left = e ∙ ap grant_image (sym (accepted_grants a c (grants_of g) k)) }
-
--- The same by the call that was given.
-pub regrants_as : {g h : List ℕ} {a : Answer} {c d : Call} → c ≡ d → Regrants g h a d → Regrants g h a c
-regrants_as {g} {h} {a} e R = subst (λ (k : Call). Regrants g h a k) (sym e) R
 
 -- What the call asks.
 abbrev Given : ℕ → ℕ → State → Type 0
@@ -102,13 +98,3 @@ module _ {m : List ℕ} {t e p : ℕ} (T : Tells m (IsThread t) p (thread_in Fie
         go s missing j = absurd (z j)
         go s live j = refl
         go s closing j = refl
-
--- It asks no more of its other numbers.
-pub granting_asked :
-    {m : List ℕ} {t e rights badge : ℕ} → Shown m (Asked (Grantable t e rights badge)) → Shown m (Given t e)
-granting_asked S = shown_for S (λ s h. record { sound = h.sound; numbers = (h.numbers.0, h.numbers.1) })
-
-pub granting :
-    {m n : List ℕ} {a : Answer} {t e rights badge : ℕ} → Performs m n a (Given t e) (grant t e)
-    → Performs m n a (Asked (Grantable t e rights badge)) (grant t e)
-granting F = performs_for F (λ s M h. record { sound = h.sound; numbers = (h.numbers.0, h.numbers.1) })
