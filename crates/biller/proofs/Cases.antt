@@ -12,7 +12,8 @@ use Rattle.layout.specs.Words.{tabulate}
 use Rattle.layout.proofs.Image.{length_tabulate}
 use Rattle.journal.specs.Course.{course_of, stop_code}
 use Rattle.input.specs.Words.{little_endian, words_in}
-use Rattle.billing.specs.Ticks.{ticks_of, count_words, counts_of, most_words, most_rate, Counted, unless_refused, count_for}
+use Rattle.billing.specs.Ticks.{ticks_of, count_words, counts_of, most_words, most_rate, Counted, unless_refused}
+use Rattle.billing.specs.Ticks.{count_for}
 use Rattle.billing.specs.Bills.{bill_of, alone, unless_odd, bill_unless, printed}
 use Rattle.billing.proofs.Few.{ticks_few}
 use Rattle.bills.specs.Lines.{Few}

@@ -1,5 +1,6 @@
 -- The text of the words in bytes: that of whole bytes comes first, and the rest is the text of what comes behind them.
-use Rattle.std.proofs.Common.{◌≡◌, ℕ, zero, suc, ◌%◌, ◌<◌, ◌≤◌, Bool, true, false, leb, List, ◌++◌, length, drop, sym, refl, ap, ◌∙◌, add-zero, arith, length-append, leb-false, leb-true}
+use Rattle.std.proofs.Common.{◌≡◌, ℕ, zero, suc, ◌%◌, ◌<◌, ◌≤◌, Bool, true, false, leb, List, ◌++◌, length, drop, sym}
+use Rattle.std.proofs.Common.{refl, ap, ◌∙◌, add-zero, arith, length-append, leb-false, leb-true}
 use mathlib.Core.Option.{Option}
 use lib.Seq.{drop-append_seam}
 use Rattle.calls.specs.declared.Call.{Call}

@@ -1,5 +1,6 @@
 -- The listing and the tellings of a journal do not depend on how its bytes are divided into parts.
-use Rattle.std.proofs.Common.{◌≡◌, ℕ, suc, ◌^◌, ◌<◌, List, [], ◌++◌, length, sym, refl, ap, ◌∙◌, subst, append_assoc, arith}
+use Rattle.std.proofs.Common.{◌≡◌, ℕ, suc, ◌^◌, ◌<◌, List, [], ◌++◌, length, sym, refl, ap, ◌∙◌, subst, append_assoc}
+use Rattle.std.proofs.Common.{arith}
 use Rattle.machine.specs.State.{fresh_state}
 use Rattle.machine.specs.Grants.{fresh_grants}
 use Rattle.machine.proofs.Granted.{fresh_grants_sound}

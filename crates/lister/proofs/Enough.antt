@@ -1,5 +1,6 @@
 -- Bytes that have all the words that their first word asks for, and bytes that lack some: how they read.
-use Rattle.std.proofs.Common.{◌≡◌, ℕ, ◌+◌, ◌*◌, ◌<◌, ◌≤◌, Bool, true, false, ◌&&◌, leb, List, [], ◌∷◌, ◌++◌, length, drop, sym, refl, ap, ◌∙◌, subst, arith, length-append, leb-false, leb-true}
+use Rattle.std.proofs.Common.{◌≡◌, ℕ, ◌+◌, ◌*◌, ◌<◌, ◌≤◌, Bool, true, false, ◌&&◌, leb, List, [], ◌∷◌, ◌++◌, length}
+use Rattle.std.proofs.Common.{drop, sym, refl, ap, ◌∙◌, subst, arith, length-append, leb-false, leb-true}
 use Rattle.calls.specs.declared.Call.{Call}
 use Rattle.journal.specs.declared.types.Read.TheVariants.{Found, Refused, Ended}
 use Rattle.journal.specs.Words.{top_byte, words_taken, read_at}

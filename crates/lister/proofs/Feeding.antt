@@ -1,6 +1,7 @@
 -- Bytes fed in parts are fed in one; a byte is held or makes the bytes ready; what a call does to a memory that holds a
 -- sound state and sound grants.
-use Rattle.std.proofs.Common.{◌≡◌, ℕ, suc, ◌+◌, ◌%◌, ◌^◌, ◌<◌, Bool, true, false, List, [], ◌∷◌, ◌++◌, length, sym, refl, ap, ◌∙◌, append_assoc, arith}
+use Rattle.std.proofs.Common.{◌≡◌, ℕ, suc, ◌+◌, ◌%◌, ◌^◌, ◌<◌, Bool, true, false, List, [], ◌∷◌, ◌++◌, length, sym}
+use Rattle.std.proofs.Common.{refl, ap, ◌∙◌, append_assoc, arith}
 use mathlib.Core.Option.{Option}
 use Rattle.calls.specs.declared.Call.{Call}
 use Rattle.machine.specs.Lists.{pick}
@@ -79,7 +80,8 @@ module _ (f : Form) (b : ℕ) (held : List ℕ) (i : ℕ) (g : Grants) (s : Stat
   abbrev offers : Bool → Told
   offers t =
       pick t
-      (told_by f (turned (read_at (words_in (held ++ (b ∷ []))) 0) (lent (image s) (grant_image g) x)) (on held i g s x))
+      (told_by f (turned (read_at (words_in (held ++ (b ∷ []))) 0) (lent (image s) (grant_image g) x))
+      (on held i g s x))
       (holding (held ++ (b ∷ [])) (on held i g s x))
 
   -- Bytes that are not ready are held,
@@ -135,7 +137,8 @@ stop_told f i code g s x = record { after = stopped i g s x; text = stop_text f 
 
 pub refused_told :
     (f : Form) (code at : ℕ) (held : List ℕ) (i : ℕ) (g : Grants) (s : State) (x : List ℕ) → Sound s
-    → told_by f (turned (Refused code at) (lent (image s) (grant_image g) x)) (on held i g s x) ≡ stop_told f i code g s x
+    → told_by f (turned (Refused code at) (lent (image s) (grant_image g) x)) (on held i g s x)
+    ≡ stop_told f i code g s x
 refused_told f code at held i g s x S =
     ap
     (λ (running : Option ℕ). record { after = stopped i g s x; text = stop_text f i code running })

@@ -1,5 +1,7 @@
 -- One byte: whether the bytes held are ready with it, and that they are held or taken; and a part, byte by byte.
-use Rattle.std.proofs.Common.{◌≡◌, ℕ, suc, ◌+◌, ◌*◌, ◌<◌, ◌≤◌, Bool, true, false, leb, List, [], ◌∷◌, ◌++◌, length, get_or, take, set, sym, refl, ap, ◌∙◌, subst, true≢false, append_assoc, append-nil, arith, length-set, length-take-le, take-suc, take-suc-set, le-leb, leb-false, leb-true}
+use Rattle.std.proofs.Common.{◌≡◌, ℕ, suc, ◌+◌, ◌*◌, ◌<◌, ◌≤◌, Bool, true, false, leb, List, [], ◌∷◌, ◌++◌, length}
+use Rattle.std.proofs.Common.{get_or, take, set, sym, refl, ap, ◌∙◌, subst, true≢false, append_assoc, append-nil, arith}
+use Rattle.std.proofs.Common.{length-set, length-take-le, take-suc, take-suc-set, le-leb, leb-false, leb-true}
 use Rattle.machine.specs.Lists.{pick}
 use Rattle.journal.specs.Words.{top_byte, words_taken, read_at}
 use Rattle.journal.proofs.Numbers.{taken_most}

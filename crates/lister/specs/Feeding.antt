@@ -1,6 +1,6 @@
 -- The lister: it is fed the bytes of a journal one by one, and a part of them is their fold. How its text comes to be
--- `listing_of`, `telling_of` or `numbered_of` of all bytes is known by the theorems of proofs/Division; these definitions
--- are for reading contracts.
+-- `listing_of`, `telling_of` or `numbered_of` of all bytes is known by the theorems of proofs/Division; these
+-- definitions are for reading contracts.
 use Rattle.std.specs.Prelude.{ℕ, ◌+◌, ◌*◌, ◌%◌, ◌^◌, Bool, true, false, ◌&&◌, List, [], ◌∷◌, ◌++◌, length, nat_le}
 use Rattle.machine.specs.Lists.{pick}
 use Rattle.calls.specs.Answers.{thread_of}

@@ -22,7 +22,8 @@ module _ (journal : List ℕ) (rate : ℕ) (counts : List ℕ) where
   by_limits = unless_refused 30 (counts_of journal) counts
 
   by_tests :
-      (a b c : Bool) → leb (length journal) most_words ≡ a → leb rate most_rate ≡ b → eqb (length counts) count_words ≡ c
+      (a b c : Bool)
+      → leb (length journal) most_words ≡ a → leb rate most_rate ≡ b → eqb (length counts) count_words ≡ c
       → pick (a && b && c) by_reader by_limits ≡ count_for journal rate counts
   unfolding count_for
   by_tests a b c e f g = rw (e, f, g)

@@ -23,12 +23,14 @@ pub returns-then-not-whole-clause-feeds : goal.returns-then-not-whole-clause-fee
 returns-then-not-whole-clause-feeds c =
     let args = c.args in
     not_yet args.from args.byte c.requires.0 c.requires.1 _ c.hold-more.ensures args.form
-    (lent args.tables.now args.grants.now args.scratch.now) args.out.now args.used (opposite c.args.from.going c.if-not-from.false)
+    (lent args.tables.now args.grants.now args.scratch.now) args.out.now args.used
+    (opposite args.from.going c.if-not-from.false)
     (sym c.whole.ensures ∙ c.if-not-whole.true)
 
 pub returns-clause-feeds : goal.returns-clause-feeds
 returns-clause-feeds c =
     let args = c.args in
     now_taken args.from args.byte c.requires.0 c.requires.1 _ c.hold-more.ensures args.form
-    (lent args.tables.now args.grants.now args.scratch.now) args.out.now args.used (opposite c.args.from.going c.if-not-from.false)
+    (lent args.tables.now args.grants.now args.scratch.now) args.out.now args.used
+    (opposite args.from.going c.if-not-from.false)
     (sym c.whole.ensures ∙ c.if-not-whole.false) _ _ _ c.answer.ensures.feeds

@@ -7,13 +7,16 @@ use Rattle.lister.proofs.finish.Goals as goal
 
 pub returns-then-not-l-clause-wrote : goal.returns-then-not-l-clause-wrote
 returns-then-not-l-clause-wrote c =
-    stopped_ends c.args.form c.args.l (lent c.args.tables.now [] []) c.args.out.now (opposite c.args.l.going c.if-not-l.true)
+    stopped_ends c.args.form c.args.l (lent c.args.tables.now [] []) c.args.out.now
+    (opposite c.args.l.going c.if-not-l.true)
 
 pub returns-then-l-eq0-clause-wrote : goal.returns-then-l-eq0-clause-wrote
 returns-then-l-eq0-clause-wrote c =
-    nothing_ends c.args.form c.args.l (lent c.args.tables.now [] []) c.args.out.now (opposite c.args.l.going c.if-not-l.false) c.if-l-eq0.true
+    nothing_ends c.args.form c.args.l (lent c.args.tables.now [] []) c.args.out.now
+    (opposite c.args.l.going c.if-not-l.false) c.if-l-eq0.true
 
 pub returns-clause-wrote : goal.returns-clause-wrote
 returns-clause-wrote c =
-    held_ends c.args.form c.args.l (lent c.args.tables.now [] []) c.args.out.now (opposite c.args.l.going c.if-not-l.false) c.if-l-eq0.false
+    held_ends c.args.form c.args.l (lent c.args.tables.now [] []) c.args.out.now
+    (opposite c.args.l.going c.if-not-l.false) c.if-l-eq0.false
     c.requires.1 _ c.running.ensures _ _ c.stop.ensures.wrote
