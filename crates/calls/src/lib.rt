@@ -59,7 +59,7 @@ pub enum Call {
 }
 
 // What every call is answered with.
-#[derive(Drop)]
+#[derive(Clone, Copy)]
 pub struct Answer {
     pub code: u32,
     pub count: u32,

@@ -20,7 +20,7 @@ pub struct Streams<R, W, E> {
 }
 
 // So many bytes were read, to the front of a buffer, and whether a read failed after them.
-#[derive(Drop)]
+#[derive(Clone, Copy)]
 pub struct Input {
     pub used: usize,
     pub failed: bool,

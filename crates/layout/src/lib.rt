@@ -9,7 +9,7 @@ pub mod wide;
 pub const UNUSED_WORDS: usize = 534;
 
 // The words of a thread that are no links. Owes is what the thread has to do with aborts, Note the badge of a note.
-#[derive(Drop)]
+#[derive(Clone, Copy)]
 pub enum Field {
     Place,
     Priority,
@@ -23,7 +23,7 @@ pub enum Field {
 
 // The words of an endpoint that are no links. Aborting is whether an abort stands there; then come its badge and
 // the first and the last of those that it has still to look at.
-#[derive(Drop)]
+#[derive(Clone, Copy)]
 pub enum Part {
     Status,
     Aborting,
@@ -33,7 +33,7 @@ pub enum Part {
 }
 
 // A word that is no link.
-#[derive(Drop)]
+#[derive(Clone, Copy)]
 pub enum Slot {
     Thread(Field, usize),
     Endpoint(Part, usize),
@@ -47,7 +47,7 @@ pub enum Slot {
 }
 
 // A link: of a thread, to the next and to the one before it in its queue; of a queue, to its first and to its last.
-#[derive(Drop)]
+#[derive(Clone, Copy)]
 pub enum Link {
     Next(usize),
     Prev(usize),

@@ -7,7 +7,7 @@ use calls::codes::MESSAGE_RECEIVED;
 use layout::{Field, Slot};
 
 // An outcome, and what was received with it: badge and message with outcome 2, else 0 and 0.
-#[derive(Drop)]
+#[derive(Clone, Copy)]
 pub struct Waking {
     pub outcome: u32,
     pub badge: u32,

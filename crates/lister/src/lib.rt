@@ -30,7 +30,7 @@ pub struct Lister {
 }
 
 // The lister after a part, and how many bytes of text stand in the buffer.
-#[derive(Drop)]
+#[derive(Clone, Copy)]
 pub struct Fed {
     pub lister: Lister,
     pub used: usize,

@@ -11,7 +11,7 @@ ghost use Rattle.listing.specs.Buffer.{line_length, after_line};
 use calls::{Answer, Runner};
 
 // What a line lists: index, call number, answer, and who runs.
-#[derive(Drop)]
+#[derive(Clone, Copy)]
 pub struct Listed {
     pub index: u64,
     pub call: u32,

@@ -1,7 +1,7 @@
 // The type that the reader for C answers with.
 
 // What the reader answers: its code, the word where it stands afterwards, and the call as six numbers.
-#[derive(Drop)]
+#[derive(Clone, Copy)]
 pub struct Reading {
     pub code: u32,
     pub at: usize,

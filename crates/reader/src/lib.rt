@@ -7,7 +7,7 @@ ghost use Rattle.journal.specs.Words.{read_at};
 
 use journal::types::Read;
 
-#[derive(Drop)]
+#[derive(Clone, Copy)]
 pub struct Reader<'a> {
     pub journal: &'a [u32],
     pub at: usize,

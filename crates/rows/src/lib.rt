@@ -11,7 +11,7 @@ use journal::types::Read;
 
 // A call was taken: its answer, who runs after it, and the word behind it; or no call was read, with the reader's
 // number and who runs; or the journal is over.
-#[derive(Drop)]
+#[derive(Clone, Copy)]
 pub enum Turn {
     Took {
         call: Call,

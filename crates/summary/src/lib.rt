@@ -10,14 +10,14 @@ pub const WORDS: usize = 8;
 
 pub const LEVELS_IN_WORD: usize = 32;
 
-#[derive(Drop)]
+#[derive(Clone, Copy)]
 pub struct Summary {
     pub words: [u32; WORDS],
     pub top: u32,
 }
 
 // The finder's answer: the highest occupied level, if there is one.
-#[derive(Drop)]
+#[derive(Clone, Copy)]
 pub enum Level {
     At(u32),
     Nothing,

@@ -56,7 +56,7 @@ pub fn say(out: &mut [u8], at: usize, text: &[u8]) -> usize
 }
 
 // What an entry that writes a line, file or journal answers: 0 and the length written, or a refusal's number and 0.
-#[derive(Drop)]
+#[derive(Clone, Copy)]
 pub struct Output {
     pub code: u32,
     pub used: usize,
