@@ -26,7 +26,8 @@ filed_of r out = record { code = r.code; used = r.used; out = out }
 
 -- by whether a call is named
 pub sentence_named_lem :
-    (a : Answer) (out : List ℕ) (n : Named) (o : Option Call) (r : Filed) → n ≡ as_named o → r ≡ sentence_named o a out →
+    (a : Answer) (out : List ℕ) (n : Named) (o : Option Call) (r : Filed) → n ≡ as_named o → r
+    ≡ sentence_named o a out →
     r ≡ sentence_named (call_named n) a out
 sentence_named_lem a out n o r e f =
     f ∙ ap (λ (p : Option Call). sentence_named p a out) (sym (ap call_named e ∙ name_named o))
