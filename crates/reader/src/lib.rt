@@ -1,5 +1,5 @@
-// A reader of the journal: it refers to the journal and holds a word number. The functions over it are thin, for the
-// borrow checker covers none of them: `parsing::read`, which takes slice and number, does the work.
+// A reader of the journal: it refers to the journal and holds a word number. The functions over it are thin:
+// parsing::read, which takes slice and number, does the work.
 #![tactic(auto)]
 
 ghost use Rattle.std.specs.Prelude.{◌≡◌};
