@@ -3,13 +3,13 @@
 
 ghost use Rattle.std.specs.Prelude.{◌≡◌};
 ghost use Rattle.calls.specs.Calls.{number_of, is_allowance, in_range};
-ghost use Rattle.calls.specs.Answers.{plain, counted, thread_of, seat};
+ghost use Rattle.calls.specs.Answers.{plain, counted, code_of, code_in, accepted_as, answer_of, thread_of, seat};
 
 pub mod codes;
 pub mod sizes;
 
 // A call, each kind with its own numbers. Any number may stand in any place: those out of range are refused by 19.
-#[derive(Clone, Copy)]
+#[derive(Clone, Copy, PartialEq, Eq)]
 pub enum Call {
     CreateThread {
         thread: u32,
@@ -59,12 +59,91 @@ pub enum Call {
 }
 
 // What every call is answered with.
-#[derive(Clone, Copy)]
+#[derive(Clone, Copy, PartialEq, Eq)]
 pub struct Answer {
     pub code: u32,
     pub count: u32,
     pub badge: u32,
     pub message: u32,
+}
+
+// Why a call or an entry is refused: each has its code. The causes are tried in this order, but for the last three.
+#[derive(Clone, Copy, PartialEq, Eq)]
+pub enum Refusal {
+    // The tables are not 4,096 words, the grants not 16,384, or the scratch not 256.
+    Length = 16,
+    Unsound = 17,
+    NoCall = 18,
+    Range = 19,
+    NobodyRuns = 20,
+    ThreadAbsent = 21,
+    ThreadPresent = 22,
+    EndpointAbsent = 23,
+    // Closing included.
+    EndpointPresent = 24,
+    EndpointClosing = 25,
+    BadgeAborted = 26,
+    LineTaken = 27,
+    // No call's: a buffer without room for every line.
+    Short = 28,
+    // A right or the granted badge is lacking. It is tried right after 20.
+    NoRight = 29,
+    // No call's: a journal, a rate or counts beyond what is counted for a bill. It is tried first.
+    Limits = 30,
+}
+
+impl From<Refusal> for u32 {
+    ghost from_gives = { λ why code. code ≡ code_of why };
+
+    fn from(why: Refusal) -> u32 {
+        why as u32
+    }
+}
+
+// What an accepted call comes to.
+#[derive(Clone, Copy, PartialEq, Eq)]
+pub enum Accepted {
+    Done,
+    Blocked,
+    // A delete or an abort at its end: how many it removed, or looked at.
+    Ended(u32),
+    // The same where its allowance is used up, with work left.
+    BrokenOff(u32),
+    // A receive that is done.
+    Received { badge: u32, message: u32 },
+}
+
+pub type Outcome = Result<Accepted, Refusal>;
+
+impl From<Outcome> for Answer {
+    ghost from_gives = { λ outcome answer. answer ≡ answer_of outcome };
+
+    fn from(outcome: Outcome) -> Answer {
+        let (code, count, badge, message) = match outcome {
+            Ok(Accepted::Done) => (codes::DONE, 0, 0, 0),
+            Ok(Accepted::Blocked) => (codes::BLOCKED, 0, 0, 0),
+            Ok(Accepted::Ended(count)) => (codes::DONE, count, 0, 0),
+            Ok(Accepted::BrokenOff(count)) => (codes::BROKEN_OFF, count, 0, 0),
+            Ok(Accepted::Received { badge, message }) => (codes::DONE, 0, badge, message),
+            Err(why) => (why.into(), 0, 0, 0),
+        };
+        Answer {
+            code,
+            count,
+            badge,
+            message,
+        }
+    }
+}
+
+// What an entry that is no call is answered with: 0, or why it is refused.
+pub fn code(outcome: Result<(), Refusal>) -> u32
+    ensures { result ≡ code_in outcome }
+{
+    match outcome {
+        Ok(()) => codes::DONE,
+        Err(why) => why.into(),
+    }
 }
 
 // A code alone, with three zeros.
@@ -91,21 +170,11 @@ pub fn counted(code: u32, count: u32) -> Answer
     }
 }
 
-// Who runs after a call.
-#[derive(Clone, Copy)]
-pub enum Runner {
-    Nobody,
-    Thread(u32),
-}
-
 // Who runs as one number, 256 for nobody.
-pub fn seat(who: Runner) -> u32
+pub fn seat(who: Option<u32>) -> u32
     ensures { result ≡ seat (thread_of who) }
 {
-    match who {
-        Runner::Nobody => codes::NO_SEAT,
-        Runner::Thread(thread) => thread,
-    }
+    who.unwrap_or(codes::NO_SEAT)
 }
 
 // The call's number, 1 to 13.
