@@ -142,15 +142,15 @@ stores_code (waiting l) o s h = absurd h
 -- From the tests to the thread
 
 -- A thread's words, read and written again, are the same.
-abbrev Same-words : (Field → ℕ) → Type 0
-Same-words w = (f : Field) → thread_word (thread_from w) f ≡ w f
+abbrev SameWords : (Field → ℕ) → Type 0
+SameWords w = (f : Field) → thread_word (thread_from w) f ≡ w f
 
 same_words :
-    (t : ℕ) (x : Thread) (w : Field → ℕ) → NeatThread t x → ((f : Field) → thread_word x f ≡ w f) → Same-words w
+    (t : ℕ) (x : Thread) (w : Field → ℕ) → NeatThread t x → ((f : Field) → thread_word x f ≡ w f) → SameWords w
 same_words t x w X e f =
     ap (λ (v : Thread). thread_word v f) (ap thread_from (sym (fun_ext e)) ∙ thread_back t x X) ∙ e f
 
-absent_words : (t : ℕ) (w : Field → ℕ) → w Field.Place ≡ 0 → Zeros w → Same-words w
+absent_words : (t : ℕ) (w : Field → ℕ) → w Field.Place ≡ 0 → Zeros w → SameWords w
 absent_words t w e z = same_words t absent_thread w (absent_neat t) go
   where
     go : (f : Field) → thread_word absent_thread f ≡ w f
@@ -215,7 +215,7 @@ module _
           stored = kept_store;
         }
 
-    present_words : Same-words w
+    present_words : SameWords w
     present_words = same_words t present w present_neat go
       where
         go : (f : Field) → thread_word present f ≡ w f
@@ -229,7 +229,7 @@ module _
         go Field.Note = ne
 
 -- Where the test passes, the words are those of the thread read off them.
-pub block_words : (m : List ℕ) (t : ℕ) → t ≤ 255 → block_test m t ≡ true → Same-words (λ f. thread_at m f t)
+pub block_words : (m : List ℕ) (t : ℕ) → t ≤ 255 → block_test m t ≡ true → SameWords (λ f. thread_at m f t)
 block_words m t h e = go (same? (thread_at m Field.Place t) 0) ((tells_words m t).holds e)
   where
     w : Field → ℕ
@@ -239,7 +239,7 @@ block_words m t h e = go (same? (thread_at m Field.Place t) 0) ((tells_words m t
         → ((w Field.Place ≡ 0 → Zeros w)
         × ((w Field.Place ≡ 0 → ⊥) → ((Counted w × Kept w) × OnLine m t (w Field.Place))
         × Owing m t (w Field.Note) (w Field.Owes)))
-        → Same-words w
+        → SameWords w
     go (same i _) r = absent_words t w i (r.0 i)
     go (other n _) r =
         let f = r.1 n in

@@ -75,20 +75,20 @@ marked_end {c} {part = part} M h =
 
 -- The abort's words, and the endpoint's with its queue, read and written again, are the same.
 
-record Same-abort (w : Part → ℕ) (o : Option Abort) : Type 0 where
+record SameAbort (w : Part → ℕ) (o : Option Abort) : Type 0 where
   stands : abort_code o ≡ w Part.Aborting
   under : badge_code o ≡ w Part.Aborted
   starts : first_of (pending_of o) ≡ w Part.Cursor
   ends : last_of 0 (pending_of o) ≡ w Part.End
 
-pub record Same-end (w : Part → ℕ) (l : List ℕ) (x : Endpoint) : Type 0 where
+pub record SameEnd (w : Part → ℕ) (l : List ℕ) (x : Endpoint) : Type 0 where
   pub words : (p : Part) → endpoint_word x p ≡ w p
   pub queue : x.waiters ≡ l
 
 module _ (m : List ℕ) (e : ℕ) where
   no_abort :
       endpoint_at m Part.Aborting e ≡ 0 → Aborting m e (endpoint_at m Part.Aborting e)
-      → Same-abort (λ p. endpoint_at m p e) none
+      → SameAbort (λ p. endpoint_at m p e) none
   no_abort z a =
       let h = subst (Aborting m e) z a in
       record {
@@ -103,7 +103,7 @@ module _ (m : List ℕ) (e : ℕ) where
       (between (endpoint_at m Part.Cursor e) (endpoint_at m Part.End e) l)) where
     some_abort :
         (n : ℕ) → endpoint_at m Part.Aborting e ≡ n → Aborting m e n
-        → Same-abort (λ p. endpoint_at m p e) (abort_by n (λ p. endpoint_at m p e) l)
+        → SameAbort (λ p. endpoint_at m p e) (abort_by n (λ p. endpoint_at m p e) l)
     unfolding abort_by
     some_abort zero z a = no_abort z (subst (Aborting m e) (sym z) a)
     some_abort (suc zero) z a =
@@ -117,7 +117,7 @@ module _ (m : List ℕ) (e : ℕ) where
 
     end_read :
         (x : Endpoint) → status_code x.status ≡ endpoint_at m Part.Status e
-        → Same-abort (λ p. endpoint_at m p e) x.abort → x.waiters ≡ l → Same-end (λ p. endpoint_at m p e) l x
+        → SameAbort (λ p. endpoint_at m p e) x.abort → x.waiters ≡ l → SameEnd (λ p. endpoint_at m p e) l x
     end_read x st a q = record { words = go; queue = q }
       where
         go : (p : Part) → endpoint_word x p ≡ endpoint_at m p e
@@ -130,7 +130,7 @@ module _ (m : List ℕ) (e : ℕ) where
     end_at :
         (n : ℕ) → endpoint_at m Part.Status e ≡ n → Standing m e n → Aborting m e (endpoint_at m Part.Aborting e)
         → Chain m (endpoint_queue e) 0 l 0
-        → Same-end (λ p. endpoint_at m p e) l (endpoint_by n (λ p. endpoint_at m p e) l)
+        → SameEnd (λ p. endpoint_at m p e) l (endpoint_by n (λ p. endpoint_at m p e) l)
     end_at zero z t a c =
         end_read missing_endpoint (sym z) (no_abort t.1 a)
         (sym (first_zero l (sym (chain_first m (endpoint_queue e) 0 l c) ∙ t.0)))
@@ -145,7 +145,7 @@ module _ (m : List ℕ) (e : ℕ) where
     pub end_words :
         status_test (endpoint_at m Part.Status e) m e ≡ true → abort_test (endpoint_at m Part.Aborting e) m e ≡ true
         → Chain m (endpoint_queue e) 0 l 0
-        → Same-end (λ p. endpoint_at m p e) l (endpoint_from (λ p. endpoint_at m p e) l)
+        → SameEnd (λ p. endpoint_at m p e) l (endpoint_from (λ p. endpoint_at m p e) l)
     unfolding endpoint_from
     end_words st a =
         end_at (endpoint_at m Part.Status e) refl ((tells_status m e (endpoint_at m Part.Status e)).holds st)

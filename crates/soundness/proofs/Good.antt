@@ -18,7 +18,7 @@ use Rattle.soundness.proofs.Shown.{tried_reads}
 use Rattle.soundness.proofs.Soundness.{left_sound, left_linked, sound_left}
 
 -- The memory shows a sound state.
-pub record Sound-tables (m : List ℕ) : Type 0 where
+pub record SoundTables (m : List ℕ) : Type 0 where
   pub state : State
   pub sound : Sound state
   pub shows : Shows m state
@@ -40,7 +40,7 @@ sound_good m s S M =
     (tells_tried m).back (tried_of m s R (sound_left m s R S M.links))
 
 -- All tests pass exactly where the memory shows a sound state.
-pub good_exactly : (m : List ℕ) → length m ≡ table_words → (good_test m ≡ true) ↔ Sound-tables m
+pub good_exactly : (m : List ℕ) → length m ≡ table_words → (good_test m ≡ true) ↔ SoundTables m
 good_exactly m size = (
   λ h. let r = good_decoded m size h in record { state = decode m; sound = r.0; shows = r.1 },
   λ r. sound_good m r.state r.sound r.shows,

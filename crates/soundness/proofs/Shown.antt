@@ -19,7 +19,7 @@ use Rattle.soundness.proofs.Tests.{every}
 use Rattle.soundness.proofs.Following.{level_split, walk_found}
 use Rattle.soundness.proofs.Reading.{Reads, same_word, same_top}
 use Rattle.soundness.proofs.Blocks.{block_words}
-use Rattle.soundness.proofs.Ends.{Same-end, end_words}
+use Rattle.soundness.proofs.Ends.{SameEnd, end_words}
 use Rattle.soundness.proofs.Waiters.{end_found}
 use Rattle.soundness.proofs.Lines.{line_word, runs_in_range, tells_summary, tells_unused}
 use Rattle.soundness.proofs.Tried.{Tried}
@@ -60,7 +60,7 @@ module _ (m : List ℕ) (T : Tried m) where
           (sym (level_split m p 257 (word m (after_at p 0)) 0) ∙ (unfold level_test in i))).0
 
   end_same : (e : ℕ) → e ≤ 63
-      → Same-end (λ p. endpoint_at m p e) (queue_from m (endpoint_queue e)) ((decode m).endpoints e)
+      → SameEnd (λ p. endpoint_at m p e) (queue_from m (endpoint_queue e)) ((decode m).endpoints e)
   end_same e h =
       let r = T.ends e (omega arith) in
       let f = end_found m e r.1 in

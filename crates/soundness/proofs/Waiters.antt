@@ -52,13 +52,13 @@ Kind m e = (kind_in m e ≡ 2 + e) ⊎ ((kind_in m e ≡ 66 + e) × (endpoint_at
 abbrev AllOf : List ℕ → ℕ → List ℕ → Type 0
 AllOf m e l = (t : ℕ) → Mem t l → thread_at m Field.Place t ≡ kind_in m e
 
-abbrev pub Marks-in : List ℕ → ℕ → List ℕ → Type 0
-Marks-in m e l =
+abbrev pub MarksIn : List ℕ → ℕ → List ℕ → Type 0
+MarksIn m e l =
     FromTo (endpoint_at m Part.Cursor e) (endpoint_at m Part.End e) (banned_in m e) (thread_at m Field.Badge) l
     (between (endpoint_at m Part.Cursor e) (endpoint_at m Part.End e) l)
 
 module _ (m : List ℕ) (e : ℕ) where
-  tells_threads : (l : List ℕ) → Distinct l → Decides (threads_test m e l) (AllOf m e l × Marks-in m e l)
+  tells_threads : (l : List ℕ) → Distinct l → Decides (threads_test m e l) (AllOf m e l × MarksIn m e l)
   tells_threads l d =
       tells_and (tells_every _ _ l (λ t k. tells_eqb (thread_at m Field.Place t) (kind_in m e)))
       (tells_marked (endpoint_at m Part.Cursor e) (endpoint_at m Part.End e) (banned_in m e) (thread_at m Field.Badge) l
@@ -80,7 +80,7 @@ module _ (m : List ℕ) (e : ℕ) where
   pub end_found :
       waiters_test m e ≡ true
       → Chain m (endpoint_queue e) 0 (queue_from m (endpoint_queue e)) 0
-      × Marks-in m e (queue_from m (endpoint_queue e))
+      × MarksIn m e (queue_from m (endpoint_queue e))
   end_found h =
       let r = walk_found m (endpoint_queue e) (threads_test m e)
       (sym (waiters_split m (endpoint_queue e) (kind_in m e) (endpoint_at m Part.Cursor e) (endpoint_at m Part.End e)
@@ -154,7 +154,7 @@ module _ (m : List ℕ) (s : State) (R : Reads m s) (e : ℕ) (h : e ≤ 63) whe
       rw (R.slots (Slot.Endpoint Part.Cursor e) h, R.slots (Slot.Endpoint Part.End e) h)
       (between_back l pend (R.neat.endpoints e).neat.part apart)
 
-  tells_walk : Decides (waiters_test m e) (Kind m e × (AllOf m e l × Marks-in m e l))
+  tells_walk : Decides (waiters_test m e) (Kind m e × (AllOf m e l × MarksIn m e l))
   tells_walk =
       tells_map (λ r. (r.0, (tells_threads m e l apart).holds (sym walked ∙ r.1)))
       (λ r. (r.0, walked ∙ (tells_threads m e l apart).back r.1)) (tells_kind m e)
@@ -187,7 +187,7 @@ module _ (m : List ℕ) (s : State) (R : Reads m s) (e : ℕ) (h : e ≤ 63) whe
   alike (inl k) A = inl (sends A k)
   alike (inr k) A = inr (receives A k.0, first_zero pend (sym (R.slots (Slot.Endpoint Part.Cursor e) h) ∙ k.1))
 
-  none_outside : Kind m e → AllOf m e l → Marks-in m e l → NoneOutside s e
+  none_outside : Kind m e → AllOf m e l → MarksIn m e l → NoneOutside s e
   none_outside (inr k) A M a t i p u b =
       absurd (omega (arith, sym (ap place_code p) ∙ ap place_code (receives A k.0 t u)))
   none_outside (inl k) A M a t i p u b =
@@ -231,7 +231,7 @@ module _ (m : List ℕ) (s : State) (R : Reads m s) (e : ℕ) (h : e ≤ 63) whe
       (λ k. omega (arith, at_place t absent (small t i) z, A t i, k.0)) K in
       omega (arith, R.slots (Slot.Thread Field.Badge t) (small t i), ((R.neat.threads t).numbers n).badge)
 
-  to_marks : Kind m e → AllOf m e l → NoneOutside s e → Marks-in m e l
+  to_marks : Kind m e → AllOf m e l → NoneOutside s e → MarksIn m e l
   to_marks K A O =
       record {
         first = ap first_of pending_there ∙ sym (R.slots (Slot.Endpoint Part.Cursor e) h);

@@ -48,7 +48,7 @@ came_other t e b o d h = rw h refl
 
 module _
     (stage : Stage) (standing : ℕ → Option Aborting) (d : Gone) (t e b : ℕ)
-    (now : stage.until ≡ length stage.past) (small : b < 2 ^ 28) (s : State) (a : ℕ) (some_Looks : 1 ≤ a)
+    (now : stage.until ≡ length stage.past) (small : b < 2 ^ 28) (s : State) (a : ℕ) (some_looks : 1 ≤ a)
     (M : Mid s) (C : Core stage s.threads s.endpoints standing d.ended)
     (T : Tied s.threads d.debts d.ended) (runs : s.runs ≡ some t)
     (lives : (s.endpoints e).status ≡ live) where
@@ -178,7 +178,7 @@ module _
     where
       go : (k : Option Abort) → (q.endpoints e).abort ≡ k → (o : Option Aborting) → standing e ≡ o
           → Ran stage standing t e b s a start (abort_from k t e a b q)
-      go none was none told = begins a refl some_Looks was told
+      go none was none told = begins a refl some_looks was told
       go none was (some x) told = absurd (together none was (some x) told)
       go (some k) was none told = absurd (together (some k) was none told)
       go (some k) was (some x) told =
