@@ -1,7 +1,7 @@
 -- The ends of a call: code 0, and code 1 of a caller that blocks.
 use Prim.Native.Nat.{ℕ, zero, suc}
 use mathlib.Core.Path.{◌≡◌, refl}
-use mathlib.Core.List.{List}
+use mathlib.Core.List.{List, []}
 use native.Mathlib.Omega.{arith}
 use Rattle.calls.specs.declared.Answer.{Answer}
 use Rattle.machine.specs.State.{State, Place, absent, able, sending}
@@ -14,7 +14,7 @@ use Rattle.store.specs.Store.{IsThread}
 use Rattle.queues.specs.Queues.{Chooses, BlocksAt}
 use Rattle.queues.proofs.Joining.{shown_next}
 use Rattle.endings.specs.Results.{Accepts}
-use Rattle.endings.proofs.Ends.{answered, performs_after}
+use Rattle.endings.proofs.Ends.{performs_after}
 use Rattle.waiting.specs.Waiting.{Suspends}
 
 -- Every number is that of a place.
@@ -34,9 +34,8 @@ module _ {m n : List ℕ} {t code b x : ℕ} (B : BlocksAt m t code b x n) where
       let v = place_of code in
       shown_next (B.does v.0 v.1) (λ s M h. blocked_chooses t v.0 b x s) S
 
-  pub suspended : {a r : Answer} {o : List ℕ} → a ≡ plain 1 → Accepts n a r Chooses o → Suspends m t code b x r o
-  suspended {a} {r} {o} e A =
+  pub suspended : {r : Answer} {o : List ℕ} → Accepts n (plain 1) r Chooses o → Suspends m t code b x r o
+  suspended A =
       record {
-        performs = λ p k.
-            performs_after (B.does p k) (λ s M h. blocked_chooses t p b x s) (answered (plain 1) e A);
+        performs = λ p k. performs_after (B.does p k) (λ s M h. blocked_chooses t p b x s) (A.performs []);
       }

@@ -8,4 +8,4 @@ accept-requires c =
 
 pub returns : goal.returns
 returns c =
-    suspended c.block.ensures c.plain-answer.ensures c.accept.ensures
+    suspended c.block.ensures c.accept.ensures
