@@ -3,12 +3,13 @@
 #![tactic(auto)]
 
 ghost use Rattle.std.proofs.Math.Option.{some};
+ghost use Rattle.calls.specs.Answers.{answer_of};
 ghost use Rattle.machine.specs.Machine.{tick_for, tick as ticking, yield};
 ghost use Rattle.store.specs.Steps.{Shown, Does};
 ghost use Rattle.endings.specs.Results.{Asked, Calling, Performs};
 ghost use Rattle.time_slices.specs.Ticks.{ticking_for};
 
-use calls::Answer;
+use calls::Outcome;
 use layout::codes::{LINK, NOBODY};
 
 // The running thread u has a tick less; at the last it has 5 again and goes to its tail. The tick changes the thread's
@@ -39,18 +40,18 @@ fn tick_running(tables: &mut [u32])
 }
 
 // 6: a tick takes one from the running thread.
-pub fn tick(tables: &mut [u32]) -> Answer
+pub fn tick(tables: &mut [u32]) -> Outcome
     requires { Shown tables.old (Asked (Unit {0})) }
-    ensures { Performs tables.old tables.new result (Asked (Unit {0})) ticking }
+    ensures { Performs tables.old tables.new (answer_of result) (Asked (Unit {0})) ticking }
 {
     tick_running(tables);
     endings::done(tables)
 }
 
 // 9: the running thread t goes to its level's tail.
-pub fn yield_running(tables: &mut [u32], t: usize) -> Answer
+pub fn yield_running(tables: &mut [u32], t: usize) -> Outcome
     requires { Shown tables.old (Calling t (Unit {0})) }
-    ensures { Performs tables.old tables.new result (Calling t (Unit {0})) (yield t) }
+    ensures { Performs tables.old tables.new (answer_of result) (Calling t (Unit {0})) (yield t) }
 {
     debts::drop_debt(tables, t); // an accepted call of its own
     queues::stand_down(tables, t);
