@@ -112,35 +112,34 @@ looks_few (suc n) [] e s = omega arith
 looks_few (suc n) (w ∷ l) e s =
     omega (arith, looks_few n (pending_at e (look e w s)) e (look e w s))
 
--- What remains of the looks that were to be made from s₀, in the state that the memory m shows.
-pub record Rest (m : List ℕ) (e allowance left : ℕ) (s₀ : State) : Type 0 where
+-- Where n looks have been made of those that were to be made from s₀: the state that the memory m shows.
+pub record Rest (m : List ℕ) (e allowance n : ℕ) (s₀ : State) : Type 0 where
   pub state : State
   pub shows : Shows m state
   pub within : InMid e state
-  pub same : (looked e allowance s₀).state ≡ (looked e left state).state
-  pub counts : length (looked e allowance s₀).looks ≡ (allowance - left) + length (looked e left state).looks
+  pub same : (looked e allowance s₀).state ≡ (looked e (allowance - n) state).state
+  pub counts : length (looked e allowance s₀).looks ≡ n + length (looked e (allowance - n) state).looks
 
--- The loop of looks, begun at m₀ and now at m, has so many left.
-pub record LooksLeft (m₀ m : List ℕ) (e allowance left : ℕ) : Type 0 where
-  pub bound : left ≤ allowance
+-- The loop of looks, begun at m₀ and now at m, has made n.
+pub record LooksMade (m₀ m : List ℕ) (e allowance n : ℕ) : Type 0 where
   pub here : Shown m (InMid e)
-  pub rest : (s : State) → Shows m₀ s → InMid e s → Rest m e allowance left s
+  pub rest : (s : State) → Shows m₀ s → InMid e s → Rest m e allowance n s
 
-pub left_start : {m : List ℕ} {e a : ℕ} → Shown m (InMid e) → LooksLeft m m e a a
-left_start {m} {e} {a} S =
+pub made_none : {m : List ℕ} {e a : ℕ} → Shown m (InMid e) → LooksMade m m e a 0
+made_none {m} {e} {a} S =
     record {
-      bound = omega arith;
       here = S;
       rest = λ s M h.
-          record { state = s; shows = M; within = h; same = refl; counts = omega arith };
+          let z : a - 0 ≡ a = omega arith in
+          record { state = s; shows = M; within = h; same = rw z refl; counts = rw z (omega arith) };
     }
 
 -- The looks are over.
-module _ {m₀ m : List ℕ} {e a n : ℕ} (L : LooksLeft m₀ m e a n) where
+module _ {m₀ m : List ℕ} {e a n : ℕ} (L : LooksMade m₀ m e a n) where
   looks_end :
-      {r : ℕ} → r ≡ a - n → ((s : State) → Shows m s → InMid e s → looked e n s ≡ record { state = s; looks = [] })
-      → LooksOn m₀ e a r m
-  looks_end {r} k over =
+      ((s : State) → Shows m s → InMid e s → looked e (a - n) s ≡ record { state = s; looks = [] })
+      → LooksOn m₀ e a n m
+  looks_end over =
       record {
         shows = λ s M h.
             let R = L.rest s M h in
@@ -149,21 +148,19 @@ module _ {m₀ m : List ℕ} {e a n : ℕ} (L : LooksLeft m₀ m e a n) where
         counts = λ s M h.
             let R = L.rest s M h in
             let z = over R.state R.shows R.within in
-            let j : length (looked e n R.state).looks ≡ 0 = ap (λ (x : Looked). length x.looks) z in
+            let j : length (looked e (a - n) R.state).looks ≡ 0 = ap (λ (x : Looked). length x.looks) z in
             omega (arith, R.counts);
       }
 
-  pub looks_done : n ≤ 0 → LooksOn m₀ e a a m
+  pub looks_done : n ≡ a → LooksOn m₀ e a a m
   looks_done h =
-      let z : n ≡ 0 = omega arith in
-      looks_end (omega arith)
-      (λ s M h. subst (λ (k : ℕ). looked e k s ≡ record { state = s; looks = [] }) (sym z) (looks_zero e s))
+      let z : a - n ≡ 0 = omega arith in
+      subst (λ (k : ℕ). LooksOn m₀ e a k m) h (looks_end (λ s M i. rw z (looks_zero e s)))
 
   module _ {r : ℕ} (T : Tells m (IsEndpoint e) r (endpoint_in Part.Cursor e)) where
-    pub looks_out : r ≡ 0 → LooksOn m₀ e a (a - n) m
+    pub looks_out : r ≡ 0 → LooksOn m₀ e a n m
     looks_out z =
-        looks_end refl
-        (λ s M h. looks_none n e s (nothing_left (pending_at e s) (T.tells s M h.endpoint) z))
+        looks_end (λ s M h. looks_none (a - n) e s (nothing_left (pending_at e s) (T.tells s M h.endpoint) z))
 
     module _ (z : r ≡ 0 → ⊥) where
       at_cursor : (s : State) → Shows m s → InMid e s → Cursor e (r - 1) s
@@ -181,11 +178,12 @@ module _ {m₀ m : List ℕ} {e a n : ℕ} (L : LooksLeft m₀ m e a n) where
           record { mid = mid_look e (r - 1) C.rest s h.mid C.first; endpoint = h.endpoint }
 
       pub looks_again :
-          {o : List ℕ} → 0 < n → Does m o (Cursor e (r - 1)) (look e (r - 1)) → LooksLeft m₀ o e a (n - 1)
+          {o : List ℕ} → n < a → Does m o (Cursor e (r - 1)) (look e (r - 1)) → LooksMade m₀ o e a (n + 1)
       unfolding after_look
       looks_again {o} h D =
+          let more : 0 < a - n = omega arith in
+          let next : a - n - 1 ≡ a - (n + 1) = omega arith in
           record {
-            bound = omega (arith, L.bound);
             here =
                 let S = L.here in
                 let C = at_cursor S.state S.shows S.holds in
@@ -197,15 +195,15 @@ module _ {m₀ m : List ℕ} {e a n : ℕ} (L : LooksLeft m₀ m e a n) where
             rest = λ s M k.
                 let R = L.rest s M k in
                 let C = at_cursor R.state R.shows R.within in
-                let i = looks_more n e (r - 1) C.rest R.state h C.first in
-                let j : length (looked e n R.state).looks
-                ≡ suc (length (looked e (n - 1) (look e (r - 1) R.state)).looks) =
+                let i = rw next at (looks_more (a - n) e (r - 1) C.rest R.state more C.first) in
+                let j : length (looked e (a - n) R.state).looks
+                ≡ suc (length (looked e (a - (n + 1)) (look e (r - 1) R.state)).looks) =
                 ap (λ (x : Looked). length x.looks) i in
                 record {
                   state = look e (r - 1) R.state;
                   shows = D.shows R.state R.shows C;
                   within = within_next R.within C;
                   same = R.same ∙ ap (λ (x : Looked). x.state) i;
-                  counts = omega (arith, R.counts, L.bound);
+                  counts = omega (arith, R.counts);
                 };
           }

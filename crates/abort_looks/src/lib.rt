@@ -27,14 +27,12 @@ pub fn look_up_to(tables: &mut [u32], e: usize, allowance: u32) -> u32
     requires { Shown tables.old (InMid e) }
     ensures { LooksOn tables.old e allowance result tables.new }
 {
-    let mut left = allowance;
-    while 0 < left {
+    for count in 0..allowance {
         let cursor = store::endpoint(tables, Part::Cursor, e);
         if cursor == NOBODY {
-            return allowance - left;
+            return count;
         }
         look(tables, e, (cursor - LINK) as usize);
-        left -= 1;
     }
     allowance
 }
