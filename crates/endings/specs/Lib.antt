@@ -1,2 +1,3 @@
--- What a call asks of the state that the memory shows, and what it comes to there.
+-- What a call asks of the state that the memory shows, what refuses it, and what it comes to there.
 pub mod Results
+pub mod Tests

@@ -1,14 +1,51 @@
-// How a call ends: refused, or accepted, after which somebody is chosen once. What a call's steps ask follows from the
-// soundness of the state, in proofs/Conditions.
+// How a call ends: refused, or accepted, after which somebody is chosen once; and the tests that several calls make of
+// what they name. What a call's steps ask follows from the soundness of the state, in proofs/Conditions.
 #![tactic(auto)]
 
 ghost use Rattle.calls.specs.Answers.{accepted_as, answer_of};
 ghost use Rattle.machine.specs.Results.{done};
 ghost use Rattle.store.specs.Steps.{Shown};
+ghost use Rattle.store.specs.Store.{IsThread, IsEndpoint};
 ghost use Rattle.queues.specs.Queues.{Chooses};
 ghost use Rattle.endings.specs.Results.{Performs, Accepts};
+ghost use Rattle.endings.specs.Tests.{Tests, thread_there, endpoint_there, endpoint_open};
 
-use calls::{Accepted, Outcome};
+use calls::{Accepted, Outcome, Refusal};
+use layout::{Field, Part, codes};
+
+// Thread t is there; otherwise the call is refused by 21.
+pub fn thread_there(tables: &[u32], t: usize) -> Result<(), Refusal>
+    requires { Shown tables.now (IsThread t) }
+    ensures { Tests tables.now (IsThread t) result (thread_there t) }
+{
+    match store::thread(tables, Field::Place, t) {
+        codes::ABSENT => Err(Refusal::ThreadAbsent),
+        _ => Ok(()),
+    }
+}
+
+// Endpoint e is there, live or closing; otherwise the call is refused by 23.
+pub fn endpoint_there(tables: &[u32], e: usize) -> Result<(), Refusal>
+    requires { Shown tables.now (IsEndpoint e) }
+    ensures { Tests tables.now (IsEndpoint e) result (endpoint_there e) }
+{
+    match store::endpoint(tables, Part::Status, e) {
+        codes::LIVE | codes::CLOSING => Ok(()),
+        _ => Err(Refusal::EndpointAbsent),
+    }
+}
+
+// Endpoint e is live; otherwise the call is refused by 23 or 25.
+pub fn endpoint_open(tables: &[u32], e: usize) -> Result<(), Refusal>
+    requires { Shown tables.now (IsEndpoint e) }
+    ensures { Tests tables.now (IsEndpoint e) result (endpoint_open e) }
+{
+    match store::endpoint(tables, Part::Status, e) {
+        codes::MISSING => Err(Refusal::EndpointAbsent),
+        codes::CLOSING => Err(Refusal::EndpointClosing),
+        _ => Ok(()),
+    }
+}
 
 // An accepted call is answered after somebody is chosen.
 pub fn accept(tables: &mut [u32], accepted: Accepted) -> Outcome
