@@ -4,10 +4,10 @@
 ghost use Rattle.std.specs.Prelude.{◌≡◌, true, ◌∷◌, [], ◌<◌};
 ghost use Rattle.calls.specs.Calls.{in_range};
 ghost use Rattle.journal.specs.Words.{call_word, badge_word, message_word, as_written, words_of, written};
+ghost use Rattle.journal.specs.Steps.{words_written, result_written};
 
-use calls::Call;
-use calls::codes::RANGE;
-use journal::types::Written;
+use calls::{Call, Refusal};
+use journal::types::Words;
 
 fn call_word(number: u32, subject: u32, argument: u32) -> u32
     requires { (number < 16) × (subject < 256) × (argument < 65536) }
@@ -17,45 +17,43 @@ fn call_word(number: u32, subject: u32, argument: u32) -> u32
 }
 
 // A call that is its call word alone.
-fn one_word(number: u32, subject: u32, argument: u32) -> Written
+fn one_word(number: u32, subject: u32, argument: u32) -> Words
     requires { (number < 16) × (subject < 256) × (argument < 65536) }
-    ensures { result ≡ as_written (call_word number subject argument ∷ []) }
+    ensures { words_written result ≡ as_written (call_word number subject argument ∷ []) }
 {
-    Written {
-        code: 0,
+    Words {
         count: 1,
         words: [call_word(number, subject, argument), 0, 0],
     }
 }
 
-fn send_words(endpoint: u32, badge: u32, message: u32) -> Written
+fn send_words(endpoint: u32, badge: u32, message: u32) -> Words
     requires { (endpoint < 256) × (badge < 0x10000000) × (message < 0x10000000) }
-    ensures { result ≡ as_written (call_word 7 endpoint 0 ∷ badge_word badge ∷ message_word message ∷ []) }
+    ensures { words_written result ≡ as_written (call_word 7 endpoint 0 ∷ badge_word badge ∷ message_word message ∷ []) }
 {
     let first = call_word(7, endpoint, 0);
-    Written {
-        code: 0,
+    Words {
         count: 3,
         words: [first, 0x2000_0000 + badge, 0x3000_0000 + message],
     }
 }
 
 // A call that is its call word and a badge word.
-fn two_words(number: u32, subject: u32, argument: u32, badge: u32) -> Written
+fn two_words(number: u32, subject: u32, argument: u32, badge: u32) -> Words
     requires { (number < 16) × (subject < 256) × (argument < 65536) × (badge < 0x10000000) }
-    ensures { result ≡ as_written (call_word number subject argument ∷ badge_word badge ∷ []) }
+    ensures { words_written result ≡ as_written (call_word number subject argument ∷ badge_word badge ∷ []) }
 {
     let first = call_word(number, subject, argument);
-    Written {
-        code: 0,
+    Words {
         count: 2,
         words: [first, 0x2000_0000 + badge, 0],
     }
 }
 
-fn words_of(call: Call) -> Written
+#[tactic(auto, unfolding(journal::specs::Words::words_of))]
+fn words_of(call: Call) -> Words
     requires { in_range call ≡ true }
-    ensures { result ≡ as_written (words_of call) }
+    ensures { words_written result ≡ as_written (words_of call) }
 {
     match call {
         Call::CreateThread { thread, priority } => one_word(1, thread, priority),
@@ -91,16 +89,12 @@ fn words_of(call: Call) -> Written
 }
 
 // The words of a call, if its numbers are in range.
-pub fn write(call: Call) -> Written
-    ensures { result ≡ written call }
+#[tactic(auto, unfolding(journal::specs::Words::written))]
+pub fn write(call: Call) -> Result<Words, Refusal>
+    ensures { result_written result ≡ written call }
 {
-    if calls::in_range(call) {
-        words_of(call)
-    } else {
-        Written {
-            code: RANGE,
-            count: 0,
-            words: [0, 0, 0],
-        }
+    if !calls::in_range(call) {
+        return Err(Refusal::Range);
     }
+    Ok(words_of(call))
 }

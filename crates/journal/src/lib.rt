@@ -1,4 +1,4 @@
-// Journal words and calls: specs/ and proofs/, and what naming, reading and writing a call answer.
+// Journal words and calls: specs/ and proofs/, and what reading and writing a call answer.
 #![tactic(auto)]
 
 pub mod types;

@@ -1,21 +1,8 @@
-// What naming, reading and writing a call answer.
+// What reading and writing a call answer.
 use calls::Call;
 
-// The call that words or numbers name, if they name one.
-#[derive(Clone, Copy)]
-pub enum Named {
-    One(Call),
-    Nothing,
-}
-
-// The number in a word of the kind asked for, if it is one.
-#[derive(Clone, Copy)]
-pub enum Number {
-    Is(u32),
-    Wrong,
-}
-
 // What the words at a place read as.
+// stays: (a) `read_at`, `course_from` and the theorems on refusals are over it, its code a number.
 #[derive(Clone, Copy)]
 pub enum Read {
     // A call, and the number of the first word not yet read.
@@ -26,10 +13,10 @@ pub enum Read {
     Ended,
 }
 
-// A call as words: code 0, how many, and the words with spare words 0; or 19 and zeros.
+// A call as words: how many, and the words with spare words 0.
+// stays: (a) C's room is three words, and `as_written` says that the spare ones are 0.
 #[derive(Clone, Copy)]
-pub struct Written {
-    pub code: u32,
+pub struct Words {
     pub count: usize,
     pub words: [u32; 3],
 }
