@@ -1,13 +1,13 @@
 -- What joining and leaving a queue asks, and the steps of which the machine's operations are made: where the thread
 -- stands, the level's queue without it, and the marks of an abort that passes it by.
 use Rattle.std.specs.Prelude.{ℕ, suc, ◌≤◌, ◌≡◌, List, ◌++◌}
+use Rattle.std.specs.Prelude as code
 use Rattle.std.proofs.Math.Option.{some}
+use Rattle.calls.specs.Answers.{maybe_of}
 use Rattle.machine.specs.Lists.{without, Mem}
 use Rattle.machine.specs.State.{State, Place, Abort, set_level}
 use Rattle.machine.specs.Scheduling.{block, highest}
 use Rattle.machine.specs.Endpoints.{passing, set_abort}
-use Rattle.summary.specs.declared.Level.{Level}
-use Rattle.summary.specs.Levels.{level_of}
 use Rattle.layout.specs.Words.{place_code, first_of, queues_of}
 use Rattle.layout.specs.Shows.{Shows}
 use Rattle.links.specs.Links.{Free}
@@ -65,8 +65,8 @@ abbrev pub leave_level : ℕ → ℕ → State → State
 leave_level p t s = set_level p (without t (s.levels p)) s
 
 -- l is the highest occupied level of whatever state the memory shows.
-pub record FindsLevel (m : List ℕ) (l : Level) : Type 0 where
-  pub found : (s : State) → Shows m s → level_of l ≡ highest s.levels
+pub record FindsLevel (m : List ℕ) (l : code.Option ℕ) : Type 0 where
+  pub found : (s : State) → Shows m s → maybe_of l ≡ highest s.levels
 
 -- The abort at endpoint e has not to look at t any more.
 abbrev pub passing_at : ℕ → ℕ → State → State

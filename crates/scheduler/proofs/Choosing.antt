@@ -15,10 +15,11 @@ use Rattle.machine.proofs.Lists.{without_first}
 use Rattle.machine.proofs.Running.{Highest, highest_is}
 use Rattle.layout.specs.Addresses.{table_words}
 use Rattle.summary.specs.declared.Summary.{Summary}
-use Rattle.summary.specs.declared.Level.{Level}
-use Rattle.summary.specs.declared.Level.TheVariants.{At, Nothing}
+use Rattle.std.specs.Prelude.{None, Some}
+use Rattle.std.specs.Prelude as code
+use Rattle.calls.specs.Answers.{maybe_of}
 use Rattle.summary.proofs.Tops.{highest_levels}
-use Rattle.summary.specs.Levels.{level_of, Finds}
+use Rattle.summary.specs.Levels.{Finds}
 use Rattle.layout.specs.declared.Field.{Field}
 use Rattle.layout.specs.Words.{first_of, queues_of, occupied_in}
 use Rattle.layout.specs.Shows.{Shows}
@@ -33,7 +34,7 @@ use Rattle.queues.proofs.Joining.{shown_next}
 
 -- The level that the summary finds is the machine's.
 
-module _ {m : List ℕ} {sm : Summary} {l : Level} (L : LoadsSummary m sm) (F : Finds sm l) where
+module _ {m : List ℕ} {sm : Summary} {l : code.Option ℕ} (L : LoadsSummary m sm) (F : Finds sm l) where
   pub finds : FindsLevel m l
   finds = record { found = λ s M. F.found (occupied_in s) (L.shown s M) ∙ sym (highest_levels s.levels) }
 
@@ -46,17 +47,17 @@ pub record Head (s : State) (p link : ℕ) : Type 0 where
   pub whole : s.levels p ≡ thread ∷ rest
   pub linked : link ≡ suc thread
 
-module _ {m : List ℕ} {l : Level} (T : FindsLevel m l) where
-  none_occupied : l ≡ Nothing → (s : State) → Shows m s → highest s.levels ≡ none
-  none_occupied e s M = sym (T.found s M) ∙ ap level_of e
+module _ {m : List ℕ} {l : code.Option ℕ} (T : FindsLevel m l) where
+  none_occupied : l ≡ None → (s : State) → Shows m s → highest s.levels ≡ none
+  none_occupied e s M = sym (T.found s M) ∙ ap maybe_of e
 
-  pub nobody_ready : l ≡ Nothing → Does m m Any dispatch
+  pub nobody_ready : l ≡ None → Does m m Any dispatch
   unfolding dispatch dispatch_at
   nobody_ready e = record { shows = λ s M h. rw (none_occupied e s M) M }
 
-  module _ (p : ℕ) (at_p : l ≡ At p) where
+  module _ (p : ℕ) (at_p : l ≡ Some p) where
     level_at : (s : State) → Shows m s → highest s.levels ≡ some p
-    level_at s M = sym (T.found s M) ∙ ap level_of at_p
+    level_at s M = sym (T.found s M) ∙ ap maybe_of at_p
 
     top_is : (s : State) → Shows m s → Highest 256 s.levels (some p)
     top_is s M = rw (level_at s M) at (highest_is s.levels)
@@ -126,13 +127,13 @@ module _ {m : List ℕ} {l : Level} (T : FindsLevel m l) where
                 rw e ((R.does (some H.thread) (sym H.linked)).shows (set_level p H.rest s) (rw w at N) tt)
 
 -- The running thread t, of priority p, is displaced exactly where a level above p is occupied.
-module _ {m : List ℕ} {t p : ℕ} {l : Level} (R : Tells m (IsThread t) p (thread_in Field.Priority t))
+module _ {m : List ℕ} {t p : ℕ} {l : code.Option ℕ} (R : Tells m (IsThread t) p (thread_in Field.Priority t))
     (T : FindsLevel m l) where
-  pub none_above : l ≡ Nothing → Does m m (Loose t) (choose_for (some t))
+  pub none_above : l ≡ None → Does m m (Loose t) (choose_for (some t))
   unfolding choose_for displace
   none_above e = record { shows = λ s M k. rw (none_occupied T e s M) M }
 
-  module _ (q : ℕ) (at_q : l ≡ At q) where
+  module _ (q : ℕ) (at_q : l ≡ Some q) where
     pub displaced :
         {n o : List ℕ} → p < q → Does m n (Loose t) (stand_back t) → Does n o Any dispatch
         → Does m o (Loose t) (choose_for (some t))

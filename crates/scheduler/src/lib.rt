@@ -10,10 +10,9 @@ ghost use Rattle.queues.specs.Queues.{Loose, Chooses, FindsLevel};
 
 use layout::codes::NOBODY;
 use layout::{Field, wide};
-use summary::Level;
 
 // The highest occupied level, if there is one.
-fn highest_level(tables: &[u32]) -> Level
+fn highest_level(tables: &[u32]) -> Option<u32>
     requires { Shown tables.now Any }
     ensures { FindsLevel tables.now result }
 {
@@ -26,8 +25,7 @@ pub fn dispatch(tables: &mut [u32])
     requires { Shown tables.old Any }
     ensures { Does tables.old tables.new Any dispatching }
 {
-    let level = highest_level(tables);
-    let Level::At(p) = level else {
+    let Some(p) = highest_level(tables) else {
         return;
     };
     let link = links::first(tables, p as usize);
@@ -41,8 +39,7 @@ fn displace(tables: &mut [u32], t: usize)
     ensures { Does tables.old tables.new (Loose t) (choose_for (some t)) }
 {
     let p = store::thread(tables, Field::Priority, t);
-    let level = highest_level(tables);
-    let Level::At(highest) = level else {
+    let Some(highest) = highest_level(tables) else {
         return;
     };
     if p < highest {

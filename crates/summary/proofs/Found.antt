@@ -8,7 +8,7 @@ use lib.Count.{count_leading_zeros}
 use lib.ListN.{get_or}
 use Rattle.machine.proofs.Lists.{Same, same, other, same?}
 use Rattle.summary.specs.declared.Summary.{Summary}
-use Rattle.summary.specs.declared.Level.TheVariants.{At, Nothing}
+use Rattle.std.specs.Prelude.{None, Some}
 use Rattle.summary.specs.Levels.{word_of, top_of, summary_of, highest_in, Finds}
 use Rattle.summary.proofs.Tops.{Tops, tops_highest, none_highest, leads}
 use Rattle.summary.proofs.Words.{busy, busy_set, idle_zero, word_lt, top_lt, word_zero, top_zero}
@@ -66,7 +66,7 @@ led s f e d =
     (led_of f (λ z. d (ap (λ (r : Summary). r.top) e ∙ summary_top f ∙ z)))
 
 -- Where the top word is 0, no level is occupied.
-pub finds_nothing : (s : Summary) → s.top ≡ 0 → Finds s Nothing
+pub finds_nothing : (s : Summary) → s.top ≡ 0 → Finds s None
 finds_nothing s z = record { found = λ f e. sym (none_highest 256 f (empty f e)) }
   where
     empty : (f : ℕ → Bool) → s ≡ summary_of f → (k : ℕ) → k < 256 → f k ≡ false
@@ -78,5 +78,5 @@ finds_nothing s z = record { found = λ f e. sym (none_highest 256 f (empty f e)
 -- Where it is not, the level is 32 times the place of its highest bit, and the place of that word's highest bit more.
 pub finds_level :
     (s : Summary) → (s.top ≡ 0 → ⊥)
-    → Finds s (At (32 * place s.top + place (get_or s.words (place s.top) 0)))
+    → Finds s (Some (32 * place s.top + place (get_or s.words (place s.top) 0)))
 finds_level s d = record { found = λ f e. (led s f e d).level }

@@ -1,11 +1,11 @@
 -- The summary of a set of levels: the eight words and the top word, as numbers, and the highest level of the set.
 -- A set is a test of levels, of which those below 256 count; the methods' promises speak of every set at once.
 use Rattle.std.specs.Prelude.{ℕ, zero, suc, ◌+◌, ◌*◌, ◌^◌, ◌≡◌, Bool, false, not, List, [], ◌∷◌, eqb}
+use Rattle.std.specs.Prelude as code
 use Rattle.std.proofs.Math.Option.{Option, none, some}
+use Rattle.calls.specs.Answers.{maybe_of}
 use Rattle.machine.specs.Lists.{pick, put}
 use Rattle.summary.specs.declared.Summary.{Summary}
-use Rattle.summary.specs.declared.Level.{Level}
-use Rattle.summary.specs.declared.Level.TheVariants.{At, Nothing}
 
 -- The number whose bit k is set exactly when f k, for k below n.
 unfoldable pub bits : ℕ → (ℕ → Bool) → ℕ
@@ -38,11 +38,6 @@ unfoldable pub highest_in : ℕ → (ℕ → Bool) → Option ℕ
 highest_in zero f = none
 highest_in (suc n) f = pick (f n) (some n) (highest_in n f)
 
--- The level that an answer names.
-abbrev pub level_of : Level → Option ℕ
-level_of (At p) = some p
-level_of Nothing = none
-
 -- s is the summary of a set.
 pub record IsSummary (s : Summary) : Type 0 where
   pub levels : ℕ → Bool
@@ -54,5 +49,5 @@ pub record SetsBit (s : Summary) (p : ℕ) (x : Bool) (r : Summary) : Type 0 whe
   pub marked : (f : ℕ → Bool) → s ≡ summary_of f → r ≡ summary_of (put f p x)
 
 -- l is the highest level of whatever set s is the summary of.
-pub record Finds (s : Summary) (l : Level) : Type 0 where
-  pub found : (f : ℕ → Bool) → s ≡ summary_of f → level_of l ≡ highest_in 256 f
+pub record Finds (s : Summary) (l : code.Option ℕ) : Type 0 where
+  pub found : (f : ℕ → Bool) → s ≡ summary_of f → maybe_of l ≡ highest_in 256 f

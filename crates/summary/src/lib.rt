@@ -16,13 +16,6 @@ pub struct Summary {
     pub top: u32,
 }
 
-// The finder's answer: the highest occupied level, if there is one.
-#[derive(Clone, Copy)]
-pub enum Level {
-    At(u32),
-    Nothing,
-}
-
 impl Summary {
     // No level is occupied.
     pub fn new() -> Self
@@ -66,22 +59,21 @@ impl Summary {
         }
     }
 
-    // The highest occupied level, by the leading zeros of the top word and then of the word that it names. Here too the
+    // The highest occupied level, if there is one, by the leading zeros of the top word and then of the word that it names. Here too the
     // words have an array of their own.
-    pub fn highest(self) -> Level
+    pub fn highest(self) -> Option<u32>
         requires { IsSummary self }
         ensures { Finds self result }
     {
         let top = self.top;
         if top == 0 {
-            return Level::Nothing;
+            return None;
         }
         let w = 31 - u32::leading_zeros(top);
         let i = w as usize;
         let words = self.words;
         let word = words[i];
         let bit = 31 - u32::leading_zeros(word);
-        let level = 32 * w + bit;
-        Level::At(level)
+        Some(32 * w + bit)
     }
 }

@@ -4,7 +4,7 @@
 
 ghost use Rattle.summary.specs.Levels.{IsSummary};
 
-use summary::{Level, Summary};
+use summary::Summary;
 
 // The marks, in order: 1 for occupied or 0 for empty, and the level in two hexadecimal digits.
 const MARKS: [u32; 28] = [
@@ -25,10 +25,10 @@ fn word(rt: &impl Print, w: u32) {
     let _ = print!(rt; "{w:08x}");
 }
 
-fn write_level(rt: &impl Print, l: Level) {
-    match l {
-        Level::At(p) => number(rt, p),
-        Level::Nothing => text(rt, b"none"),
+fn write_level(rt: &impl Print, level: Option<u32>) {
+    match level {
+        Some(p) => number(rt, p),
+        None => text(rt, b"none"),
     }
 }
 

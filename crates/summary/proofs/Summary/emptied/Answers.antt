@@ -1,5 +1,4 @@
 -- The level's bit is cleared, and the word's where the word is then 0.
-use borrow.Author.Rules.{rules}
 use Rattle.summary.proofs.Marked.{marks_emptied, marks_kept}
 use Rattle.summary.proofs.Summary.emptied.Goals as goal
 

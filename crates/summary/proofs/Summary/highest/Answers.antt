@@ -1,5 +1,4 @@
 -- The highest word that is not 0, and that word's highest bit.
-use borrow.Author.Rules.{rules}
 use native.Mathlib.Omega.{arith}
 use Rattle.summary.proofs.Found.{Led, led, finds_nothing, finds_level}
 use Rattle.summary.proofs.Summary.highest.Goals as goal

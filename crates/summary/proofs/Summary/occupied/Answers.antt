@@ -1,5 +1,4 @@
 -- The level's bit and its word's bit are set.
-use borrow.Author.Rules.{rules}
 use Rattle.summary.proofs.Marked.{marks_occupied}
 use Rattle.summary.proofs.Summary.occupied.Goals as goal
 
