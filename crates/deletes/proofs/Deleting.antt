@@ -2,26 +2,26 @@
 use Prim.Native.Nat.{ℕ, ◌≤◌}
 use mathlib.Core.Path.{◌≡◌, refl, sym, ◌∙◌, ap, subst}
 use mathlib.Core.List.{List, []}
-use native.Mathlib.Omega.{arith}
+use Rattle.std.specs.Prelude.{Ok, Err}
 use Rattle.calls.specs.declared.Answer.{Answer}
+use Rattle.calls.specs.declared.Refusal.{Refusal}
 use Rattle.machine.specs.State.{State, Status, missing, live, closing, missing_endpoint, set_endpoint}
 use Rattle.machine.specs.Endpoints.{drop_debt, end_abort}
-use Rattle.machine.specs.Results.{Result, accept, refuse}
-use Rattle.calls.specs.Answers.{plain, counted}
+use Rattle.machine.specs.Results.{Result, accept}
+use Rattle.calls.specs.Answers.{plain, counted, code_of}
 use Rattle.machine.specs.Aborts.{deleted, delete_from, delete_at, delete}
 use Rattle.machine.proofs.Preserved.Mid.{sound_mid}
 use Rattle.layout.specs.Addresses.{endpoint_queue}
-use Rattle.layout.specs.declared.Part.{Part}
-use Rattle.layout.specs.Words.{status_code}
 use Rattle.layout.specs.Shows.{Shows}
 use Rattle.links.specs.Links.{First}
-use Rattle.store.specs.Steps.{Shown, Does, Tells}
+use Rattle.store.specs.Steps.{Shown, Does}
 use Rattle.store.specs.Store.{IsThread, IsEndpoint, SetsStatus}
-use Rattle.store.specs.Readings.{endpoint_in}
 use Rattle.queues.specs.Queues.{Chooses}
 use Rattle.debts.specs.Debts.{EndsAbort}
 use Rattle.endings.specs.Results.{Calling, Performs, Accepts}
-use Rattle.endings.proofs.Ends.{refused, performs_as, performs_after, shown_for}
+use Rattle.endings.specs.Tests.{Tests, endpoint_there}
+use Rattle.endings.proofs.Ends.{performs_as, performs_after, shown_for}
+use Rattle.endings.proofs.Tests.{missing_refused, there_standing}
 use Rattle.endings.proofs.Conditions.{mid_chooses, running_thread}
 use Rattle.deletes.specs.Deletes.{Closes, removal, Removes}
 use Rattle.deletes.proofs.Closing.{closes_ended, closes_removal, closes_bare, closes_missing}
@@ -47,14 +47,14 @@ module _ {m n : List ℕ} {e a c : ℕ} (R : Removes m e a c n) where
   module _ {r : ℕ} (F : First n (endpoint_queue e) r) where
     -- Somebody is left.
     pub broken_off :
-        {b k : Answer} {o : List ℕ} → (r ≡ 0 → ⊥) → k ≡ counted 2 c → Accepts n k b Chooses o
+        {b : Answer} {o : List ℕ} → (r ≡ 0 → ⊥) → Accepts n (counted 2 c) b Chooses o
         → Performs m o b (Closes e) (delete_from e a)
     unfolding delete_from deleted
-    broken_off {o = o} z q A =
+    broken_off {o = o} z A =
         record {
           answers = λ s M C.
               (A.performs []).answers (removal a e s).state (R.shows s M C) (mid_chooses (after s C).mid)
-              ∙ q ∙ ap (counted 2) (R.counts s M C) ∙ sym (ap (λ (x : Result). x.answer) (whole s M C));
+              ∙ ap (counted 2) (R.counts s M C) ∙ sym (ap (λ (x : Result). x.answer) (whole s M C));
           shows = λ s M C.
               subst (λ (x : Result). Shows o x.state) (sym (whole s M C))
               ((A.performs []).shows (removal a e s).state (R.shows s M C) (mid_chooses (after s C).mid));
@@ -89,15 +89,15 @@ module _ {m n : List ℕ} {e a c : ℕ} (R : Removes m e a c n) where
           }
 
       pub deleted_all :
-          {b k : Answer} {o' : List ℕ} → k ≡ counted 0 c → Accepts o k b Chooses o'
+          {b : Answer} {o' : List ℕ} → Accepts o (counted 0 c) b Chooses o'
           → Performs m o' b (Closes e) (delete_from e a)
       unfolding delete_from deleted
-      deleted_all {o' = o'} q A =
+      deleted_all {o' = o'} A =
           record {
             answers = λ s M C.
                 (A.performs []).answers (set_endpoint e missing_endpoint (removal a e s).state) (gone s M C)
                 (chooses s M C)
-                ∙ q ∙ ap (counted 0) (R.counts s M C) ∙ sym (ap (λ (x : Result). x.answer) (whole s M C));
+                ∙ ap (counted 0) (R.counts s M C) ∙ sym (ap (λ (x : Result). x.answer) (whole s M C));
             shows = λ s M C.
                 subst (λ (x : Result). Shows o' x.state) (sym (whole s M C))
                 ((A.performs []).shows (set_endpoint e missing_endpoint (removal a e s).state) (gone s M C)
@@ -112,21 +112,19 @@ module _ {m n : List ℕ} {e a c : ℕ} (R : Removes m e a c n) where
 
 -- Before it.
 
-module _ {m : List ℕ} {t e i : ℕ} (T : Tells m (IsEndpoint e) i (endpoint_in Part.Status e)) where
+module _ {m : List ℕ} {t e : ℕ} where
   pub no_endpoint :
-      (a : ℕ) {b : Answer} → i ≡ 0 → b ≡ plain 23 → Performs m m b (Calling t (e ≤ 63)) (delete t e a)
+      {why : Refusal} (a : ℕ) → Tests m (IsEndpoint e) (Err why) (endpoint_there e)
+      → Performs m m (plain (code_of why)) (Calling t (e ≤ 63)) (delete t e a)
   unfolding delete delete_at
-  no_endpoint a {b} z k =
-      performs_as (refused 23 k) (λ s M C. go s (s.endpoints e).status (sym (T.tells s M C.numbers) ∙ z))
-    where
-      go : (s : State) (x : Status) → status_code x ≡ 0 → refuse 23 s ≡ delete_at x t e a s
-      go s missing h = refl
-      go s live h = absurd (omega arith)
-      go s closing h = absurd (omega arith)
+  no_endpoint a T = missing_refused (λ x s. delete_at x t e a s) (λ s C. C.numbers) (λ s. refl) T
 
-  module _ (present : i ≡ 0 → ⊥) where
+  pub endpoint_asked : Shown m (Calling t (e ≤ 63)) → Shown m (IsEndpoint e)
+  endpoint_asked S = shown_for S (λ s C. C.numbers)
+
+  module _ (T : Tests m (IsEndpoint e) (Ok tt) (endpoint_there e)) where
     there : (s : State) → Shows m s → Calling t (e ≤ 63) s → (s.endpoints e).status ≡ missing → ⊥
-    there s M C h = present (T.tells s M C.numbers ∙ ap status_code h)
+    there s M C = there_standing T s M C.numbers
 
     caller : (s : State) → Calling t (e ≤ 63) s → t ≤ 255
     caller s C = running_thread (sound_mid C.sound) C.runs

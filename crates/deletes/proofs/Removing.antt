@@ -1,6 +1,6 @@
 -- The removal of waiters from the head, turn by turn. What is left to do from the state reached, added to what has been
 -- done, is what was to do from the beginning.
-use Prim.Native.Nat.{ℕ, zero, suc, ◌+◌, ◌-◌, ◌≤◌, ◌<◌}
+use Prim.Native.Nat.{ℕ, zero, suc, ◌+◌, ◌-◌, ◌<◌}
 use mathlib.Core.Path.{◌≡◌, refl, sym, ◌∙◌, ap, subst}
 use mathlib.Core.List.{List, [], ◌∷◌}
 use native.Mathlib.Omega.{arith}
@@ -65,30 +65,37 @@ module _ (e : ℕ) {m : List ℕ} {r : ℕ} (F : First m (endpoint_queue e) r) (
           let j : w ≡ r - 1 = omega arith in
           (l, k ∙ ap (λ (u : ℕ). u ∷ l) j)
 
--- The state that is reached from s, in which the rest is left to do.
-pub record Reached (m : List ℕ) (e a left : ℕ) (s : State) : Type 0 where
+-- The state that is reached from s where n of the allowance a have left.
+pub record Reached (m : List ℕ) (e a n : ℕ) (s : State) : Type 0 where
   pub state : State
   pub shows : Shows m state
   pub closes : Closes e state
-  pub rest : (removal a e s).state ≡ (removal left e state).state
-  pub counts : left + (removal a e s).count ≡ a + (removal left e state).count
+  pub rest : (removal a e s).state ≡ (removal (a - n) e state).state
+  pub counts : (removal a e s).count ≡ n + (removal (a - n) e state).count
 
--- The loop's invariant, after turns from m₀ to m.
-pub record Removing (m₀ m : List ℕ) (e a left : ℕ) : Type 0 where
-  pub within : left ≤ a
+-- The loop's invariant, after n turns from m₀ to m.
+pub record Removing (m₀ m : List ℕ) (e a n : ℕ) : Type 0 where
   pub there : Shown m (Closes e)
-  pub reached : (s : State) → Shows m₀ s → Closes e s → Reached m e a left s
+  pub reached : (s : State) → Shows m₀ s → Closes e s → Reached m e a n s
 
-module _ {m₀ m : List ℕ} {e a left : ℕ} (R : Removing m₀ m e a left) where
+pub removed_none : {m : List ℕ} {e a : ℕ} → Shown m (Closes e) → Removing m m e a 0
+removed_none {m} {e} {a} S =
+    record {
+      there = S;
+      reached = λ s M C.
+          let z : a - 0 ≡ a = omega arith in
+          record { state = s; shows = M; closes = C; rest = rw z refl; counts = rw z (omega arith) };
+    }
+
+module _ {m₀ m : List ℕ} {e a n : ℕ} (R : Removing m₀ m e a n) where
   -- Nothing is left to do.
   removed :
-      {c : ℕ} → c + left ≡ a → ((s : State) → Shows m s → removal left e s ≡ record { state = s; count = 0 })
-      → Removes m₀ e a c m
-  removed {c} k rest =
+      ((s : State) → Shows m s → removal (a - n) e s ≡ record { state = s; count = 0 }) → Removes m₀ e a n m
+  removed rest =
       record {
         counts = λ s M C.
             let G = R.reached s M C in
-            let i = ap (λ (x : Removal). x.count) (rest G.state G.shows) in
+            let i : (removal (a - n) e G.state).count ≡ 0 = ap (λ (x : Removal). x.count) (rest G.state G.shows) in
             omega (arith, G.counts);
         shows = λ s M C.
             let G = R.reached s M C in
@@ -96,14 +103,13 @@ module _ {m₀ m : List ℕ} {e a left : ℕ} (R : Removing m₀ m e a left) whe
             subst (λ (x : State). Shows m x) (sym (G.rest ∙ i)) G.shows;
       }
 
-  pub removed_all : left ≤ 0 → Removes m₀ e a a m
-  removed_all h = removed (omega arith) (λ s M. remove_none left e s (omega arith))
+  pub removed_all : n ≡ a → Removes m₀ e a a m
+  removed_all h =
+      subst (λ (k : ℕ). Removes m₀ e a k m) h (removed (λ s M. remove_none (a - n) e s (omega arith)))
 
   module _ {r : ℕ} (F : First m (endpoint_queue e) r) where
-    pub removed_some : r ≡ 0 → Removes m₀ e a (a - left) m
-    removed_some z =
-        removed (omega (arith, R.within))
-        (λ s M. remove_empty left (s.endpoints e).waiters e s (nobody e F s M z))
+    pub removed_some : r ≡ 0 → Removes m₀ e a n m
+    removed_some z = removed (λ s M. remove_empty (a - n) (s.endpoints e).waiters e s (nobody e F s M z))
 
     module _ (z : r ≡ 0 → ⊥) where
       head_waits : (s : State) → Shows m s → Closes e s → InEndpoint (r - 1) e s
@@ -115,8 +121,8 @@ module _ {m₀ m : List ℕ} {e a left : ℕ} (R : Removing m₀ m e a left) whe
           record { state = S.state; shows = S.shows; holds = head_waits S.state S.shows S.holds }
 
       -- One more left.
-      module _ (h : 0 < left) {n : List ℕ} (D : Does m n (InEndpoint (r - 1) e) (wake_from e (r - 1) 4 0 0)) where
-        woken : (s : State) → Shows m s → Closes e s → Shows n (wake_from e (r - 1) 4 0 0 s)
+      module _ (h : n < a) {o : List ℕ} (D : Does m o (InEndpoint (r - 1) e) (wake_from e (r - 1) 4 0 0)) where
+        woken : (s : State) → Shows m s → Closes e s → Shows o (wake_from e (r - 1) 4 0 0 s)
         woken s M C = D.shows s M (head_waits s M C)
 
         closes : (s : State) → Shows m s → Closes e s → Closes e (wake_from e (r - 1) 4 0 0 s)
@@ -124,16 +130,19 @@ module _ {m₀ m : List ℕ} {e a left : ℕ} (R : Removing m₀ m e a left) whe
 
         shorter :
             (s : State) → Shows m s
-            → removal left e s ≡ one_more (removal (left - 1) e (wake_from e (r - 1) 4 0 0 s))
+            → removal (a - n) e s ≡ one_more (removal (a - (n + 1)) e (wake_from e (r - 1) 4 0 0 s))
         shorter s M =
+            let more : 0 < a - n = omega arith in
+            let next : a - n - 1 ≡ a - (n + 1) = omega arith in
             let k = somebody e F s M z in
-            ap (λ (l : List ℕ). remove_up_to left l e s) k.1 ∙ remove_first left k.0 e (r - 1) s h
+            ap (λ (l : List ℕ). remove_up_to (a - n) l e s) k.1
+            ∙ rw next at (remove_first (a - n) k.0 e (r - 1) s more)
 
-        one_left : (s : State) → Reached m e a left s → Reached n e a (left - 1) s
+        one_left : (s : State) → Reached m e a n s → Reached o e a (n + 1) s
         one_left s G =
-            let x : Removal = removal (left - 1) e (wake_from e (r - 1) 4 0 0 G.state) in
+            let x : Removal = removal (a - (n + 1)) e (wake_from e (r - 1) 4 0 0 G.state) in
             let k = shorter G.state G.shows in
-            let i : (removal left e G.state).count ≡ 1 + x.count =
+            let i : (removal (a - n) e G.state).count ≡ 1 + x.count =
             ap (λ (y : Removal). y.count) k ∙ more_count x in
             record {
               state = wake_from e (r - 1) 4 0 0 G.state;
@@ -143,11 +152,10 @@ module _ {m₀ m : List ℕ} {e a left : ℕ} (R : Removing m₀ m e a left) whe
               counts = omega (arith, G.counts);
             }
 
-        pub removing_more : Removing m₀ n e a (left - 1)
+        pub removing_more : Removing m₀ o e a (n + 1)
         removing_more =
             let S = R.there in
             record {
-              within = omega (arith, R.within);
               there =
                   record {
                     state = wake_from e (r - 1) 4 0 0 S.state;

@@ -4,15 +4,16 @@
 #![tactic(auto)]
 
 ghost use Rattle.std.specs.Prelude.{◌≤◌};
+ghost use Rattle.calls.specs.Answers.{answer_of};
 ghost use Rattle.machine.specs.Aborts.{delete_from, delete};
 ghost use Rattle.store.specs.Steps.{Shown};
 ghost use Rattle.endings.specs.Results.{Calling, Performs};
 ghost use Rattle.deletes.specs.Deletes.{Closes, Removes};
 
-use calls::Answer;
-use calls::codes::{BROKEN_OFF, ENDPOINT_GONE};
+use calls::codes::ENDPOINT_GONE;
+use calls::{Accepted, Outcome};
+use layout::codes;
 use layout::codes::{LINK, NOBODY};
-use layout::{Part, codes};
 
 // Waiters leave the head of endpoint e's queue with outcome 4, until nobody is left or the allowance is used up; how
 // many went.
@@ -20,42 +21,37 @@ fn remove(tables: &mut [u32], e: usize, allowance: u32) -> u32
     requires { Shown tables.old (Closes e) }
     ensures { Removes tables.old e allowance result tables.new }
 {
-    let mut left = allowance;
-    while 0 < left {
+    for count in 0..allowance {
         let first = links::first(tables, codes::ENDPOINT_QUEUES + e);
         if first == NOBODY {
-            return allowance - left;
+            return count;
         }
         endpoint_queues::wake_from(tables, e, (first - LINK) as usize, ENDPOINT_GONE, 0, 0);
-        left -= 1;
     }
     allowance
 }
 
 // Endpoint e, closing, loses waiters; with nobody left it is missing, and else the delete is broken off.
-fn delete_from(tables: &mut [u32], e: usize, allowance: u32) -> Answer
+fn delete_from(tables: &mut [u32], e: usize, allowance: u32) -> Outcome
     requires { Shown tables.old (Closes e) }
-    ensures { Performs tables.old tables.new result (Closes e) (delete_from e allowance) }
+    ensures { Performs tables.old tables.new (answer_of result) (Closes e) (delete_from e allowance) }
 {
     let count = remove(tables, e, allowance);
     let first = links::first(tables, codes::ENDPOINT_QUEUES + e);
     if first != NOBODY {
-        return endings::accept(tables, calls::counted(BROKEN_OFF, count));
+        return endings::accept(tables, Accepted::BrokenOff(count));
     }
     store::set_status(tables, e, codes::MISSING);
-    endings::accept(tables, calls::counted(calls::codes::DONE, count))
+    endings::accept(tables, Accepted::Ended(count))
 }
 
 // 11: thread t deletes endpoint e, removing at most as many waiters as the allowance lets.
-pub fn delete(tables: &mut [u32], t: usize, e: usize, allowance: u32) -> Answer
+pub fn delete(tables: &mut [u32], t: usize, e: usize, allowance: u32) -> Outcome
     requires { Shown tables.old (Calling t (e ≤ 63)) }
-    ensures { Performs tables.old tables.new result (Calling t (e ≤ 63))
+    ensures { Performs tables.old tables.new (answer_of result) (Calling t (e ≤ 63))
         (delete t e allowance) }
 {
-    let status = store::endpoint(tables, Part::Status, e);
-    if status == codes::MISSING {
-        return calls::plain(calls::codes::ENDPOINT_ABSENT);
-    }
+    endings::endpoint_there(tables, e)?;
     debts::drop_debt(tables, t);
     debts::end_abort(tables, e, codes::CLOSING);
     delete_from(tables, e, allowance)

@@ -1,12 +1,16 @@
 -- The tests of a thread and of an endpoint: what a call is where one refuses, and what is so where it passes.
 use Prim.Native.Nat.{ℕ, ◌≤◌}
-use mathlib.Core.Path.{◌≡◌, refl, sym, ◌∙◌, ap}
+use mathlib.Core.Path.{◌≡◌, refl, sym, ◌∙◌, ap, subst}
 use mathlib.Core.Bool.{Bool, true, false}
 use mathlib.Core.List.{List}
 use native.Mathlib.Omega.{arith}
 use Rattle.std.specs.Prelude.{Ok, Err}
+use Rattle.std.specs.Prelude as code
+use Rattle.std.specs.Result.{IsErrAnd}
+use Rattle.std.proofs.lemmas.Result.{err_from_is_err_and}
+use Rattle.calls.specs.declared.Accepted.{Accepted}
 use Rattle.calls.specs.declared.Refusal.{Refusal}
-use Rattle.calls.specs.Answers.{plain, code_of}
+use Rattle.calls.specs.Answers.{plain, code_of, answer_of}
 use Rattle.machine.specs.State.{State, Status, missing, live, closing}
 use Rattle.machine.specs.Results.{Result, refuse}
 use Rattle.machine.specs.Machine.{is_absent}
@@ -95,3 +99,11 @@ module _ {m : List ℕ} {e : ℕ} where
       go missing k = no_pass (sym k)
       go live k = refl
       go closing k = no_pass (sym k)
+
+-- A test's refusal, passed on by `?`, is the call's.
+pub passed_on :
+    {m n : List ℕ} {P : State → Type 0} {f : State → Result} (r : code.Result Accepted Refusal) (why : Refusal)
+    → IsErrAnd r (λ (x : Refusal). x ≡ why) → Performs m n (plain (code_of why)) P f → Performs m n (answer_of r) P f
+passed_on {m} {n} {P} {f} r why h F =
+    let p = err_from_is_err_and r h in
+    subst (λ (x : code.Result Accepted Refusal). Performs m n (answer_of x) P f) (sym (p.1 ∙ ap Err p.2)) F

@@ -8,7 +8,7 @@ accept-requires c = search broken_asked
 pub returns-then-first-ne-NOBODY : goal.returns-then-first-ne-NOBODY
 returns-then-first-ne-NOBODY c =
     broken_off c.remove-count.ensures c.first-first.ensures c.if-first-ne-NOBODY.true
-    c.counted.ensures c.accept.ensures
+    c.accept.ensures
 
 pub accept-requires-2 : goal.accept-requires-2
 accept-requires-2 c =
@@ -18,4 +18,4 @@ accept-requires-2 c =
 pub returns : goal.returns
 returns c =
     deleted_all c.remove-count.ensures c.first-first.ensures c.if-first-ne-NOBODY.false
-    c.set_status.ensures c.counted-2.ensures c.accept-2.ensures
+    c.set_status.ensures c.accept-2.ensures
