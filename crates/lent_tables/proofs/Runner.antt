@@ -1,8 +1,8 @@
 -- Who runs, read from the tables.
-use Rattle.std.proofs.Common.{◌≡◌, ℕ, zero, suc, ◌+◌, ◌%◌, ◌^◌, ◌<◌, ◌≤◌, Bool, true, false, eqb, leb, List, length}
-use Rattle.std.proofs.Common.{sym, refl, ap, ◌∙◌, arith, eq-eqb, ne_eqb, le-leb, leb-true}
+use Rattle.std.proofs.Common.{◌≡◌, ℕ, zero, suc, ◌≤◌, Bool, true, false, eqb, leb, List, length, refl, arith, eq-eqb}
+use Rattle.std.proofs.Common.{le-leb, leb-true}
+use Rattle.std.specs.Prelude.{None}
 use mathlib.Core.Option.{Option, none, some, some-injective}
-use Rattle.calls.specs.declared.Runner.TheVariants.{Nobody, Thread}
 use Rattle.machine.specs.Lists.{pick}
 use Rattle.machine.specs.State.{State}
 use Rattle.calls.specs.Answers.{thread_of}
@@ -15,32 +15,6 @@ use Rattle.layout.proofs.Image.{length_image, image_name}
 use Rattle.layout.proofs.Neat.{sound_neat}
 use Rattle.lent_tables.specs.Entries.{runner_of, as_link, runner_in}
 
-pub no_tables : (m : List ℕ) → (length m ≡ table_words → ⊥) → Nobody ≡ runner_in m
-unfolding runner_in
-no_tables m h = rw (ne_eqb (length m) table_words h)
-
-module _ (m : List ℕ) {r : ℕ} (h : length m ≡ table_words) (e : r ≡ word m (at Slot.Running)) where
-  linked : runner_of (as_link r) ≡ runner_in m
-  unfolding runner_in
-  linked = rw (eq-eqb (length m) table_words h, e)
-
-  -- The word less 1, where 0 wraps.
-  module _ {t : ℕ} (wraps : (t + 1) % 2 ^ 32 ≡ r) where
-    pub thread_runs : t ≤ 255 → Thread t ≡ runner_in m
-    thread_runs k =
-        let next : r ≡ suc t = omega (arith, wraps, k) in
-        ap (λ (b : Bool). runner_of (pick b (suc t) 0)) (sym (le-leb (suc t) 256 (omega (arith, k))))
-        ∙ ap (λ (w : ℕ). runner_of (as_link w)) (sym next) ∙ linked
-
-    pub nobody_runs : t < 2 ^ 32 → 255 < t → Nobody ≡ runner_in m
-    nobody_runs n k = go (leb r 256) refl ∙ linked
-      where
-        go : (b : Bool) → leb r 256 ≡ b → Nobody ≡ runner_of (pick b r 0)
-        go true z =
-            let none : r ≡ 0 = omega (arith, wraps, n, k, leb-true r 256 z) in
-            ap runner_of (sym none)
-        go false z = refl
-
 -- Whatever the words are, whoever runs is a thread.
 pub running_within : (m : List ℕ) (t : ℕ) → thread_of (runner_in m) ≡ some t → t ≤ 255
 unfolding runner_in
@@ -52,7 +26,7 @@ running_within m t = go (eqb (length m) table_words) (leb (word m (at Slot.Runni
     small (suc u) k e = let same = some-injective u t e in omega arith
 
     go : (a b : Bool) (w : ℕ) → leb w 256 ≡ b
-        → thread_of (pick a (runner_of (pick b w 0)) Nobody) ≡ some t → t ≤ 255
+        → thread_of (pick a (runner_of (pick b w 0)) None) ≡ some t → t ≤ 255
     go false b w k e = none_some e
     go true false w k e = none_some e
     go true true w k e = small w (leb-true w 256 k) e

@@ -1,7 +1,5 @@
 -- How a thread was woken, read from the tables.
-use Rattle.std.proofs.Common.{◌≡◌, ℕ, ◌<◌, ◌≤◌, Bool, List, length, sym, refl, ap, ◌∙◌, eq-eqb, ne_eqb, le-leb}
-use borrow.Author.Tests.{lt-leb}
-use Rattle.machine.specs.Lists.{pick}
+use Rattle.std.proofs.Common.{◌≡◌, ℕ, ◌≤◌, length, ap, ◌∙◌, eq-eqb, le-leb}
 use Rattle.machine.specs.State.{State, able}
 use Rattle.machine.specs.Sound.{Sound}
 use Rattle.layout.specs.declared.Field.{Field}
@@ -9,35 +7,7 @@ use Rattle.layout.specs.declared.Slot.{Slot}
 use Rattle.layout.specs.Addresses.{table_words, slot}
 use Rattle.layout.specs.Words.{image}
 use Rattle.layout.proofs.Image.{length_image, image_name}
-use Rattle.lent_tables.specs.declared.how.Waking.{Waking}
-use Rattle.lent_tables.specs.Entries.{waking, woken_by, thread_word, woken_in}
-
-pub no_tables : {w : Waking} (m : List ℕ) (t : ℕ) → w ≡ waking 0 0 0 → (length m ≡ table_words → ⊥) → w ≡ woken_in m t
-unfolding woken_in
-no_tables m t e h = rw (ne_eqb (length m) table_words h) e
-
-module _ (m : List ℕ) (t : ℕ) (h : length m ≡ table_words) where
-  pub no_thread : {w : Waking} → w ≡ waking 0 0 0 → 255 < t → w ≡ woken_in m t
-  unfolding woken_in
-  no_thread e k = rw (eq-eqb (length m) table_words h, lt-leb t 255 k) e
-
-  module _ (k : t ≤ 255) {o : ℕ} (e : o ≡ thread_word m Field.Outcome t) where
-    by : {b n : ℕ} → b ≡ thread_word m Field.Badge t → n ≡ thread_word m Field.Message t → woken_by o b n ≡ woken_in m t
-    unfolding woken_in
-    by f g = rw (eq-eqb (length m) table_words h, le-leb t 255 k, e, f, g)
-
-    pub otherwise : {w : Waking} → w ≡ waking o 0 0 → (o ≡ 2 → ⊥) → w ≡ woken_in m t
-    otherwise p d =
-        p
-        ∙ ap
-        (λ (q : Bool). pick q (waking o (thread_word m Field.Badge t) (thread_word m Field.Message t)) (waking o 0 0))
-        (sym (ne_eqb o 2 d))
-        ∙ by refl refl
-
-    pub received :
-        {b n : ℕ} → o ≡ 2 → b ≡ thread_word m Field.Badge t → n ≡ thread_word m Field.Message t
-        → waking o b n ≡ woken_in m t
-    received {b} {n} d f g = ap (λ (q : Bool). pick q (waking o b n) (waking o 0 0)) (sym (eq-eqb o 2 d)) ∙ by f g
+use Rattle.lent_tables.specs.Entries.{waking, woken_by, woken_in}
 
 -- In the memory of a state it is what the state says of the thread.
 pub woken_image :

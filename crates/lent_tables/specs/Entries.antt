@@ -1,11 +1,13 @@
 -- What the entry points on the lent memory come to, for all words lent: make fresh, check, take a call, who runs, and
 -- how a thread was woken.
 use Rattle.std.specs.Prelude.{◌≡◌, ℕ, zero, suc, Bool, true, false, ◌&&◌, List, length, replicate, ◌==◌, nat_le}
+use Rattle.std.specs.Prelude.{Result, Ok, Err, None, Some}
+use Rattle.std.specs.Prelude as code
 use Rattle.std.proofs.Math.Option.{Option, none, some}
 use Rattle.calls.specs.declared.Answer.{Answer}
 use Rattle.calls.specs.declared.Call.{Call}
-use Rattle.calls.specs.declared.Runner.{Runner}
-use Rattle.calls.specs.declared.Runner.TheVariants.{Nobody, Thread}
+use Rattle.calls.specs.declared.Refusal.{Refusal}
+use Rattle.calls.specs.declared.Refusal.TheVariants.{Length}
 use Rattle.machine.specs.Lists.{pick}
 use Rattle.machine.specs.State.{State, fresh_state, message_received}
 use Rattle.calls.specs.Answers.{plain}
@@ -38,6 +40,10 @@ abbrev pub sized : Lent → Bool
 sized l =
     (length l.tables == table_words) && length l.grants == grant_words
     && length l.scratch == scratch_words
+
+-- What the code says of tables and grants: whether both have their lengths.
+abbrev pub sized_as : List ℕ → List ℕ → Result (Unit {0}) Refusal
+sized_as m g = pick (length m == table_words && length g == grant_words) (Ok tt) (Err Length)
 
 abbrev pub zeros : List ℕ
 zeros = replicate scratch_words 0
@@ -103,17 +109,17 @@ called l c =
     pick (sized l) (taken (state_of l.tables) (grants_test l.grants) l c) (record { answer = plain 16; left = l })
 
 -- Who runs, by a link: t + 1 is that to thread t, 0 to nobody.
-abbrev pub runner_of : ℕ → Runner
-runner_of zero = Nobody
-runner_of (suc t) = Thread t
+abbrev pub runner_of : ℕ → code.Option ℕ
+runner_of zero = None
+runner_of (suc t) = Some t
 
 -- A word as a link to a thread: 0, to nobody, where it is none.
 abbrev pub as_link : ℕ → ℕ
 as_link w = pick (nat_le w 256) w 0
 
 -- Who runs, whatever the words are; nobody in tables not of 4,096 words.
-unfoldable pub runner_in : List ℕ → Runner
-runner_in m = pick (length m == table_words) (runner_of (as_link (word m (at Slot.Running)))) Nobody
+unfoldable pub runner_in : List ℕ → code.Option ℕ
+runner_in m = pick (length m == table_words) (runner_of (as_link (word m (at Slot.Running)))) None
 
 abbrev pub waking : ℕ → ℕ → ℕ → Waking
 waking o b n = record { outcome = o; badge = b; message = n }

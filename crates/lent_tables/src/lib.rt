@@ -5,7 +5,10 @@
 ghost use Rattle.std.specs.Prelude.{◌≡◌, length};
 ghost use Rattle.layout.specs.Addresses.{table_words};
 ghost use Rattle.soundness.specs.Checks.{good_test};
-ghost use Rattle.lent_tables.specs.Entries.{lent, zeros, Freshened, Checked, freshened, checked};
+ghost use Rattle.calls.specs.Answers.{code_in};
+ghost use Rattle.lent_tables.specs.Entries.{lent, zeros, sized_as, Freshened, Checked, freshened, checked};
+
+use calls::Refusal;
 
 pub mod how;
 pub mod who;
@@ -17,65 +20,59 @@ pub const TABLE_WORDS: usize = 4096;
 pub const SCRATCH_WORDS: usize = 256;
 
 // All tests. The queues are walked before the places are tried, which go by whom they met.
+#[tactic(auto, using(crate::proofs::Verdict::walked), unfolding(soundness::specs::Checks::good_test))]
 fn passes(tables: &[u32], scratch: &mut [u32]) -> bool
     requires { (length tables.now ≡ table_words) × (scratch.old ≡ zeros) }
     ensures { result ≡ good_test tables.now }
 {
-    if !sound_words::thread_words::threads(tables) {
-        return false;
+    sound_words::thread_words::threads(tables)
+        && sound_queues::levels::levels(tables, scratch)
+        && sound_queues::endpoints::endpoints(tables, scratch)
+        && sound_words::rest::lines(tables)
+        && sound_words::chosen::summary(tables)
+        && sound_words::chosen::running(tables)
+        && sound_words::rest::unused(tables)
+        && sound_queues::places::places(tables, scratch)
+}
+
+// Whether tables and grants have their lengths.
+fn sized(tables: &[u32], grants: &[u32]) -> Result<(), Refusal>
+    ensures { result ≡ sized_as tables.now grants.now }
+{
+    if tables.len() != TABLE_WORDS || grants.len() != grants::GRANT_WORDS {
+        return Err(Refusal::Length);
     }
-    if !sound_queues::levels::levels(tables, scratch) {
-        return false;
-    }
-    if !sound_queues::endpoints::endpoints(tables, scratch) {
-        return false;
-    }
-    let lines = sound_words::rest::lines(tables);
-    let summary = sound_words::chosen::summary(tables);
-    let running = sound_words::chosen::running(tables);
-    let unused = sound_words::rest::unused(tables);
-    lines & summary & running & unused & sound_queues::places::places(tables, scratch)
+    Ok(())
 }
 
 // The tables become those of no thread, endpoint or pending line, and nobody has a right.
-pub fn fresh(tables: &mut [u32], grants: &mut [u32]) -> u32
+#[tactic(auto, using(crate::proofs::Verdict::made), unfolding(crate::specs::Entries::freshened))]
+pub fn fresh(tables: &mut [u32], grants: &mut [u32]) -> Result<(), Refusal>
     ensures { ◌≡◌ {A = Freshened}
-        (record { code = result; tables = tables.new; grants = grants.new })
+        (record { code = code_in result; tables = tables.new; grants = grants.new })
         (freshened tables.old grants.old) }
 {
-    if tables.len() != TABLE_WORDS {
-        return calls::codes::LENGTH;
-    }
-    if grants.len() != grants::GRANT_WORDS {
-        return calls::codes::LENGTH;
-    }
+    sized(tables, grants)?;
     words::clear(tables);
     words::clear(grants);
-    calls::codes::DONE
+    Ok(())
 }
 
 // Whether the tables show a sound state and the grants are sound; neither is changed.
-pub fn check(tables: &[u32], grants: &[u32], scratch: &mut [u32]) -> u32
-    ensures { ◌≡◌ {A = Checked} (record { code = result; scratch = scratch.new })
+#[tactic(auto, using(crate::proofs::Verdict::tried), unfolding(crate::specs::Entries::checked))]
+pub fn check(tables: &[u32], grants: &[u32], scratch: &mut [u32]) -> Result<(), Refusal>
+    ensures { ◌≡◌ {A = Checked} (record { code = code_in result; scratch = scratch.new })
         (checked (lent tables.now grants.now scratch.old)) }
 {
-    if tables.len() != TABLE_WORDS {
-        return calls::codes::LENGTH;
-    }
-    if grants.len() != grants::GRANT_WORDS {
-        return calls::codes::LENGTH;
-    }
+    sized(tables, grants)?;
     if scratch.len() != SCRATCH_WORDS {
-        return calls::codes::LENGTH;
+        return Err(Refusal::Length);
     }
     words::clear(scratch);
-    if !grants::sound(grants) {
-        return calls::codes::UNSOUND;
-    }
-    let passed = passes(tables, scratch);
+    let sound = grants::sound(grants) && passes(tables, scratch);
     words::clear(scratch);
-    if passed {
-        return calls::codes::DONE;
+    if !sound {
+        return Err(Refusal::Unsound);
     }
-    calls::codes::UNSOUND
+    Ok(())
 }

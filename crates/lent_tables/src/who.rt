@@ -3,22 +3,18 @@ ghost use Rattle.std.specs.Prelude.{◌≡◌};
 ghost use Rattle.lent_tables.specs.Entries.{runner_in};
 
 use crate::TABLE_WORDS;
-use calls::Runner;
+use calls::codes::LAST_THREAD;
 use layout::Slot;
 use layout::codes::LINK;
 
-// Who runs: a thread or nobody, whatever the words are.
-pub fn running(tables: &[u32]) -> Runner
+// Who runs: a thread or nobody, whatever the words are. The link 0 is to nobody.
+#[tactic(auto, unfolding(crate::specs::Entries::runner_in))]
+pub fn running(tables: &[u32]) -> Option<u32>
     ensures { result ≡ runner_in tables.now }
 {
     if tables.len() != TABLE_WORDS {
-        return Runner::Nobody;
+        return None;
     }
-    let link = words::get(tables, Slot::Running);
-    // The link 0, to nobody, wraps: like every word that is no link it comes out above 255.
-    let thread = std::num::wrapping_sub_u32(link, LINK);
-    if thread > 255 {
-        return Runner::Nobody;
-    }
-    Runner::Thread(thread)
+    let thread = words::get(tables, Slot::Running).checked_sub(LINK)?;
+    (thread <= LAST_THREAD).then_some(thread)
 }
