@@ -5,11 +5,13 @@ use mathlib.Core.Bool.{Bool, true, false}
 use mathlib.Core.List.{List}
 use lib.Dec.{eqb}
 use borrow.Author.Tests.{eq-eqb, ne_eqb}
+use Rattle.std.specs.Prelude.{Ok, Err}
 use Rattle.calls.specs.declared.Answer.{Answer}
+use Rattle.calls.specs.declared.Refusal.{Refusal}
 use Rattle.machine.specs.State.{State, Place, with_priority}
 use Rattle.machine.specs.Scheduling.{enqueue, unqueue}
 use Rattle.machine.specs.Results.{done}
-use Rattle.calls.specs.Answers.{plain}
+use Rattle.calls.specs.Answers.{plain, code_of}
 use Rattle.machine.specs.Machine.{is_absent, move_ready, change_unless, priority_if, set_priority}
 use Rattle.machine.proofs.Lists.{clash}
 use Rattle.machine.proofs.Preserved.Mid.{sound_mid}
@@ -22,12 +24,14 @@ use Rattle.queues.specs.Queues.{Loose, InLevel, Chooses}
 use Rattle.queues.proofs.Joining.{shown_next, and_then}
 use Rattle.debts.specs.Debts.{Says}
 use Rattle.endings.specs.Results.{Asked, Performs}
-use Rattle.endings.proofs.Ends.{refused, performs_as, performs_for, performs_after, shown_for}
+use Rattle.endings.specs.Tests.{Tests, thread_there}
+use Rattle.endings.proofs.Tests.{absent_refused, there_present}
+use Rattle.endings.proofs.Ends.{performs_as, performs_for, performs_after, shown_for}
 use Rattle.endings.proofs.Conditions.{present_thread_lem, ready_stands, moved_loose, mid_chooses}
 use Rattle.priorities.specs.Priorities.{PriorityInRange, ready_in, Changes, changing}
 use Rattle.endings.proofs.Runner.{RunnerApart, mid_apart, apart_chooses, apart_thread, apart_enqueue}
 use Rattle.endings.proofs.Runner.{apart_unqueue}
-use Rattle.priorities.proofs.Places.{code_absent, code_present, ready_is}
+use Rattle.priorities.proofs.Places.{ready_is}
 
 -- Changing the priority.
 
@@ -96,19 +100,16 @@ Given t p = Asked (PriorityInRange t p)
 pub same_asked : {m : List ℕ} {t p : ℕ} → Shown m (Given t p) → Shown m Chooses
 same_asked S = shown_for S (λ s h. mid_chooses (sound_mid h.sound))
 
-module _ {m : List ℕ} {t r : ℕ} (p : ℕ) (T : Tells m (IsThread t) r (thread_in Field.Place t)) where
-  pub priority_refused : {a : Answer} → r ≡ 0 → a ≡ plain 21 → Performs m m a (Given t p) (set_priority t p)
+module _ {m : List ℕ} {t : ℕ} (p : ℕ) where
+  pub priority_refused :
+      {why : Refusal} → Tests m (IsThread t) (Err why) (thread_there t)
+      → Performs m m (plain (code_of why)) (Given t p) (set_priority t p)
   unfolding set_priority priority_if
-  priority_refused z e =
-      performs_as (refused 21 e)
-      (λ s M h.
-      sym
-      (ap (λ (x : Place). priority_if (is_absent x) t p s)
-      (code_absent (s.threads t).place (T.tells s M h.numbers.0) z)))
+  priority_refused T = absent_refused (λ b. priority_if b t p) T (λ s h. h.numbers.0) (λ s. refl)
 
-  module _ (z : r ≡ 0 → ⊥) where
+  module _ (T : Tests m (IsThread t) (Ok tt) (thread_there t)) where
     there : (s : State) → Shows m s → Given t p s → is_absent (s.threads t).place ≡ false
-    there s M h = code_present (s.threads t).place (T.tells s M h.numbers.0) z
+    there s M h = there_present T s M h.numbers.0
 
     changes : (s : State) → Shows m s → Given t p s → Changes t p s
     changes s M h =

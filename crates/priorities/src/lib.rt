@@ -2,6 +2,7 @@
 // machine's call does, and answers what it answers; the numbers are in range.
 #![tactic(auto)]
 
+ghost use Rattle.calls.specs.Answers.{answer_of};
 ghost use Rattle.machine.specs.Machine.{set_priority};
 ghost use Rattle.store.specs.Steps.{Shown, Does};
 ghost use Rattle.store.specs.Store.{IsThread};
@@ -9,7 +10,7 @@ ghost use Rattle.debts.specs.Debts.{Says};
 ghost use Rattle.endings.specs.Results.{Asked, Performs};
 ghost use Rattle.priorities.specs.Priorities.{ready_in, Changes, changing, PriorityInRange};
 
-use calls::Answer;
+use calls::Outcome;
 use layout::{Field, codes, wide};
 
 // Whether thread t is ready: able, and not the one that runs.
@@ -17,13 +18,8 @@ pub fn is_ready(tables: &[u32], t: usize) -> bool
     requires { Shown tables.now (IsThread t) }
     ensures { Says tables.now (IsThread t) result (ready_in t) }
 {
-    let place = store::thread(tables, Field::Place, t);
-    if place != codes::ABLE {
-        return false;
-    }
-    let running = store::running(tables);
     let link = (t + wide::LINK) as u32;
-    running != link
+    store::thread(tables, Field::Place, t) == codes::ABLE && store::running(tables) != link
 }
 
 // Thread t gets another priority, and goes to the new tail if it is ready.
@@ -42,15 +38,12 @@ fn change(tables: &mut [u32], t: usize, p: u32)
 }
 
 // 3: a changed priority moves a ready thread; the same priority changes nothing.
-pub fn set_priority(tables: &mut [u32], t: usize, p: u32) -> Answer
+pub fn set_priority(tables: &mut [u32], t: usize, p: u32) -> Outcome
     requires { Shown tables.old (Asked (PriorityInRange t p)) }
-    ensures { Performs tables.old tables.new result (Asked (PriorityInRange t p))
+    ensures { Performs tables.old tables.new (answer_of result) (Asked (PriorityInRange t p))
         (set_priority t p) }
 {
-    let place = store::thread(tables, Field::Place, t);
-    if place == codes::ABSENT {
-        return calls::plain(calls::codes::THREAD_ABSENT);
-    }
+    endings::thread_there(tables, t)?;
     let old = store::thread(tables, Field::Priority, t);
     if old == p {
         return endings::done(tables);
