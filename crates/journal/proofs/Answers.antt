@@ -43,27 +43,6 @@ no_short s a =
     (λ h. unused_both_none (a / 2 ^ 6 % 2 ^ 2) (a / 2 ^ 12))
     (λ k h. refl)
 
--- but for a send, an abort and a grant, the words after a call word say nothing
-pub rest_unused : (s a : ℕ) (rest : List ℕ) (n : ℕ) → n ≢ 7 → n ≢ 12 → n ≢ 13 → call_of n s a [] ≡ call_of n s a rest
-unfolding call_of
-rest_unused s a rest =
-    by_number (λ n. n ≢ 7 → n ≢ 12 → n ≢ 13 → call_of n s a [] ≡ call_of n s a rest)
-    (λ h k j. refl)
-    (λ h k j. refl)
-    (λ h k j. refl)
-    (λ h k j. refl)
-    (λ h k j. refl)
-    (λ h k j. refl)
-    (λ h k j. refl)
-    (λ h k j. absurd (h refl))
-    (λ h k j. refl)
-    (λ h k j. refl)
-    (λ h k j. refl)
-    (λ h k j. refl)
-    (λ h k j. absurd (k refl))
-    (λ h k j. absurd (j refl))
-    (λ m h k j. refl)
-
 -- the part of a list from a place on
 pub part_is : (l : List ℕ) (n : ℕ) → take (length l - n) (drop n l) ≡ drop n l
 part_is l n = take_all (length l - n) (drop n l) (omega (arith, length-drop n l))
@@ -74,12 +53,4 @@ pub read_word_at :
     named ≡ call_at (get_or j at 0) (take (length j - (at + 1)) (drop (at + 1) j)) →
     n ≡ words_taken (top_byte (get_or j at 0)) → judged at (at + n) named ≡ read_at j at
 unfolding read_at read_from
-read_word_at j at n named h e t =
-    rw (
-      e,
-      part_is j (at + 1),
-      drop-cons j at 0 h,
-      t,
-      add-one
-          at,
-    )
+read_word_at j at n named h e t = rw (e, part_is j (at + 1), drop-cons j at 0 h, t, add-one at)

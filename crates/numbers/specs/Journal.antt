@@ -4,8 +4,7 @@ use Rattle.std.proofs.Math.Option.{Option, none, some}
 use Rattle.calls.specs.declared.Call.{Call}
 use Rattle.journal.specs.declared.types.Read.{Read}
 use Rattle.journal.specs.declared.types.Read.TheVariants.{Found, Refused, Ended}
-use Rattle.journal.specs.declared.types.Written.{Written}
-use Rattle.journal.specs.Words.{read_at, written}
+use Rattle.journal.specs.Words.{Written, read_at, written}
 use Rattle.numbers.specs.declared.types.Reading.{Reading}
 use Rattle.numbers.specs.Numbers.{numbers_of}
 

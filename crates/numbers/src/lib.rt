@@ -3,64 +3,49 @@
 #![tactic(auto)]
 
 ghost use Rattle.std.specs.Prelude.{◌≡◌};
-ghost use Rattle.journal.specs.Steps.{as_named, call_named};
-ghost use Rattle.numbers.specs.Numbers.{without_rights, call_in, numbers_of};
+ghost use Rattle.calls.specs.Answers.{maybe_of};
+ghost use Rattle.journal.specs.Steps.{result_written};
+ghost use Rattle.numbers.specs.Numbers.{call_in, numbers_of};
 ghost use Rattle.numbers.specs.Journal.{reading, written_for};
 
 pub mod types;
 
 use crate::types::Reading;
-use calls::Call;
-use journal::types::{Named, Read, Written};
+use calls::{Call, Refusal};
+use journal::types::{Read, Words};
 
 // That the journal has ended: no code of an answer.
 const ENDED: u32 = 255;
 
-// The call without rights that the first five name.
-fn without_rights(numbers: [u32; 6]) -> Named
-    ensures { result ≡ as_named (without_rights numbers) }
-{
-    if numbers[0] == 7 {
-        let call = Named::One(Call::Send {
-            endpoint: numbers[1],
-            badge: numbers[3],
-            message: numbers[4],
-        });
-        return decoding::if_unused(numbers[2], call);
-    }
-    if numbers[0] == 12 {
-        let call = Named::One(Call::Abort {
-            endpoint: numbers[1],
-            allowance: numbers[2],
-            badge: numbers[3],
-        });
-        return decoding::if_unused(numbers[4], call);
-    }
-    let call = decoding::short_call(numbers[0], numbers[1], numbers[2]);
-    decoding::if_unused(numbers[3], decoding::if_unused(numbers[4], call))
-}
-
 // The call that six numbers name. A grant's subject is the thread, its argument the endpoint.
-pub fn call_in(numbers: [u32; 6]) -> Named
-    ensures { result ≡ as_named (call_in numbers) }
+#[tactic(auto, unfolding(crate::specs::Numbers::call_in, crate::specs::Numbers::without_rights, crate::specs::Numbers::short, journal::specs::Words::call_of))]
+pub fn call_in(numbers: [u32; 6]) -> Option<Call>
+    ensures { maybe_of result ≡ call_in numbers }
 {
-    if numbers[0] == 13 {
-        let call = Named::One(Call::Grant {
-            thread: numbers[1],
-            endpoint: numbers[2],
-            rights: numbers[5],
-            badge: numbers[3],
-        });
-        return decoding::if_unused(numbers[4], call);
+    match numbers {
+        [13, thread, endpoint, badge, 0, rights] => Some(Call::Grant {
+            thread,
+            endpoint,
+            rights,
+            badge,
+        }),
+        [7, endpoint, 0, badge, message, 0] => Some(Call::Send {
+            endpoint,
+            badge,
+            message,
+        }),
+        [12, endpoint, allowance, badge, 0, 0] => Some(Call::Abort {
+            endpoint,
+            allowance,
+            badge,
+        }),
+        [number, subject, argument, 0, 0, 0] => decoding::short_call(number, subject, argument),
+        _ => None,
     }
-    // Before the call is made of the others: it then stays in registers.
-    if numbers[5] != 0 {
-        return Named::Nothing;
-    }
-    without_rights(numbers)
 }
 
 // The six numbers of a call.
+#[tactic(auto, unfolding(crate::specs::Numbers::numbers_of))]
 pub fn numbers_of(call: Call) -> [u32; 6]
     ensures { result ≡ numbers_of call }
 {
@@ -98,6 +83,7 @@ pub fn numbers_of(call: Call) -> [u32; 6]
 }
 
 // Reads the call at a word of the journal.
+#[tactic(auto, unfolding(crate::specs::Journal::reading))]
 pub fn read(journal: &[u32], at: usize) -> Reading
     ensures { result ≡ reading journal.now at }
 {
@@ -110,26 +96,20 @@ pub fn read(journal: &[u32], at: usize) -> Reading
         Read::Refused { code, at } => Reading {
             code,
             at,
-            call: [0, 0, 0, 0, 0, 0],
+            call: [0; 6],
         },
         Read::Ended => Reading {
             code: ENDED,
             at,
-            call: [0, 0, 0, 0, 0, 0],
+            call: [0; 6],
         },
     }
 }
 
 // The words of the call that the numbers name, if they name one.
-pub fn write(named: Named) -> Written
-    ensures { result ≡ written_for (call_named named) }
+pub fn write(named: Option<Call>) -> Result<Words, Refusal>
+    ensures { result_written result ≡ written_for (maybe_of named) }
 {
-    let Named::One(call) = named else {
-        return Written {
-            code: calls::codes::NO_CALL,
-            count: 0,
-            words: [0, 0, 0],
-        };
-    };
+    let call = named.ok_or(Refusal::NoCall)?;
     encoding::write(call)
 }

@@ -2,27 +2,36 @@
 #![tactic(auto)]
 
 ghost use Rattle.std.specs.Prelude.{◌≡◌};
+ghost use Rattle.calls.specs.Answers.{maybe_of, code_of};
+ghost use Rattle.journal.specs.declared.types.Read.TheVariants.{Refused};
 ghost use Rattle.journal.specs.Words.{words_taken, judged, read_at};
-ghost use Rattle.journal.specs.Steps.{call_named};
 
-use calls::codes::{NO_CALL, RANGE};
-use journal::types::{Named, Read};
+use calls::{Call, Refusal};
+use journal::types::Read;
+
+// A refusal leaves the reader where it stands.
+fn refused(why: Refusal, at: usize) -> Read
+    ensures { result ≡ Refused (code_of why) at }
+{
+    Read::Refused {
+        code: why.into(),
+        at,
+    }
+}
 
 // What is answered at a place where these words stand: 18 before 19.
-fn answer(words: Named, at: usize, next: usize) -> Read
-    ensures { result ≡ judged at next (call_named words) }
+fn answer(named: Option<Call>, at: usize, next: usize) -> Read
+    ensures { result ≡ judged at next (maybe_of named) }
 {
-    let Named::One(call) = words else {
-        return Read::Refused { code: NO_CALL, at };
-    };
-    if calls::in_range(call) {
-        Read::Found { call, next }
-    } else {
-        Read::Refused { code: RANGE, at }
+    match named {
+        Some(call) if calls::in_range(call) => Read::Found { call, next },
+        Some(_) => refused(Refusal::Range, at),
+        None => refused(Refusal::NoCall, at),
     }
 }
 
 // The words that a call takes, by the top byte of its first word; 0 where no call begins so.
+#[tactic(auto, unfolding(journal::specs::Words::words_taken))]
 pub fn words_taken(top: u32) -> usize
     ensures { result ≡ words_taken top }
 {
@@ -37,14 +46,20 @@ pub fn words_taken(top: u32) -> usize
 }
 
 // What the journal's words from number `at` on read as.
+#[tactic(
+    auto,
+    using(
+        journal::proofs::Refusals::ends,
+        journal::proofs::Answers::read_word_at,
+        journal::proofs::Numbers::taken_most
+    )
+)]
 pub fn read(journal: &[u32], at: usize) -> Read
     ensures { result ≡ read_at journal.now at }
 {
-    if journal.len() <= at {
+    let Some(&word) = journal.get(at) else {
         return Read::Ended;
-    }
-    let word = journal[at];
-    let next = at + 1;
-    let words = decoding::call_at(word, &journal[next..]);
-    answer(words, at, at + words_taken(word >> 24))
+    };
+    let named = decoding::call_at(word, &journal[at + 1..]);
+    answer(named, at, at + words_taken(word >> 24))
 }
