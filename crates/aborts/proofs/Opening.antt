@@ -5,11 +5,12 @@ use mathlib.Core.Bool.{Bool, true, false}
 use mathlib.Core.Option.{Option, none, some}
 use mathlib.Core.List.{List, []}
 use native.Mathlib.Omega.{arith}
+use Rattle.std.specs.Prelude.{Ok, Err}
 use Rattle.calls.specs.declared.Answer.{Answer}
-use Rattle.machine.specs.State.{State, Abort, Status, missing, live, closing}
+use Rattle.calls.specs.declared.Refusal.{Refusal}
+use Rattle.machine.specs.State.{State, Abort, Status, live}
 use Rattle.machine.specs.Endpoints.{under_abort, is_aborting, drop_debt}
-use Rattle.machine.specs.Results.{accept}
-use Rattle.calls.specs.Answers.{plain}
+use Rattle.calls.specs.Answers.{plain, code_of}
 use Rattle.machine.specs.Aborts.{work_other, under_badge, abort_from, abort_open, abort_at, abort_unless}
 use Rattle.machine.specs.Aborts.{abort}
 use Rattle.machine.specs.Sound.{Sound}
@@ -17,7 +18,7 @@ use Rattle.machine.proofs.Lists.{clash}
 use Rattle.machine.proofs.Preserved.Mid.{sound_mid}
 use Rattle.machine.proofs.Preserved.Debts.{mid_drop_debt, drop_debt_drops}
 use Rattle.layout.specs.declared.Part.{Part}
-use Rattle.layout.specs.Words.{status_code, abort_code}
+use Rattle.layout.specs.Words.{abort_code}
 use Rattle.layout.specs.Shows.{Shows}
 use Rattle.store.specs.Steps.{Shown, Does, Tells}
 use Rattle.store.specs.Store.{IsThread, IsEndpoint}
@@ -25,7 +26,9 @@ use Rattle.store.specs.Readings.{endpoint_in}
 use Rattle.queues.specs.Queues.{Chooses}
 use Rattle.debts.specs.Debts.{Says, InCall, under_in, noted_in}
 use Rattle.endings.specs.Results.{Calling, Performs, Accepts}
-use Rattle.endings.proofs.Ends.{refused, performs_as, performs_for, performs_after, does_for, shown_for}
+use Rattle.endings.specs.Tests.{Tests, endpoint_open}
+use Rattle.endings.proofs.Ends.{performs_as, performs_for, performs_after, does_for, shown_for}
+use Rattle.endings.proofs.Tests.{shut_refused, open_live}
 use Rattle.endings.proofs.Conditions.{mid_chooses, running_thread, running_calls}
 use Rattle.own_aborts.specs.Own.{Open, Joining, Continues, own_begun, joined_on}
 use Rattle.aborts.specs.Aborts.{unnoted}
@@ -116,23 +119,6 @@ open_dropped {t} {e} {s} O =
       status = D.status e ∙ O.status;
     }
 
--- By the endpoint's status.
-
-is_missing_lem : (x : Status) {r : ℕ} → r ≡ status_code x → r ≡ 0 → x ≡ missing
-is_missing_lem missing k z = refl
-is_missing_lem live k z = absurd (omega arith)
-is_missing_lem closing k z = absurd (omega arith)
-
-is_closing_lem : (x : Status) {r : ℕ} → r ≡ status_code x → r ≡ 2 → x ≡ closing
-is_closing_lem missing k z = absurd (omega arith)
-is_closing_lem live k z = absurd (omega arith)
-is_closing_lem closing k z = refl
-
-is_live : (x : Status) {r : ℕ} → r ≡ status_code x → (r ≡ 0 → ⊥) → (r ≡ 2 → ⊥) → x ≡ live
-is_live missing k n i = absurd (n k)
-is_live live k n i = refl
-is_live closing k n i = absurd (i k)
-
 -- What the call asks of its numbers.
 abbrev Numbers : ℕ → ℕ → ℕ → Type 0
 Numbers e a b = (e ≤ 63) × (a ≤ 65535) × (b < 2 ^ 28)
@@ -144,58 +130,48 @@ module _ {m : List ℕ} {t e a b : ℕ} where
   pub note_asked : Shown m (Calling t (Numbers e a b)) → Shown m (IsThread t)
   note_asked S = shown_for S (λ s C. running_thread (sound_mid C.sound) C.runs)
 
-  module _ {r : ℕ} (T : Tells m (IsEndpoint e) r (endpoint_in Part.Status e)) where
-    pub refused_missing :
-        {x : Answer} → r ≡ 0 → x ≡ plain 23 → Performs m m x (Calling t (Numbers e a b)) (unnoted t e a b)
-    unfolding abort_at
-    refused_missing z k =
-        performs_as (refused 23 k)
-        (λ s M C.
-        let h = is_missing_lem (s.endpoints e).status (T.tells s M C.numbers.0) z in
-        ap (λ (x : Status). abort_at x t e a b s) (sym h))
+  pub endpoint_asked : Shown m (Calling t (Numbers e a b)) → Shown m (IsEndpoint e)
+  endpoint_asked S = shown_for S (λ s C. C.numbers.0)
 
-    pub refused_closing :
-        {x : Answer} → r ≡ 2 → x ≡ plain 25 → Performs m m x (Calling t (Numbers e a b)) (unnoted t e a b)
-    unfolding abort_at
-    refused_closing z k =
-        performs_as (refused 25 k)
-        (λ s M C.
-        let h = is_closing_lem (s.endpoints e).status (T.tells s M C.numbers.0) z in
-        ap (λ (x : Status). abort_at x t e a b s) (sym h))
+  pub not_open :
+      {why : Refusal} → Tests m (IsEndpoint e) (Err why) (endpoint_open e)
+      → Performs m m (plain (code_of why)) (Calling t (Numbers e a b)) (unnoted t e a b)
+  unfolding abort_at
+  not_open T = shut_refused (λ x s. abort_at x t e a b s) (λ s C. C.numbers.0) (λ s. refl) T (λ s. refl)
 
-    module _ (n : r ≡ 0 → ⊥) (i : r ≡ 2 → ⊥) where
-      live_at : (s : State) → Shows m s → Calling t (Numbers e a b) s → (s.endpoints e).status ≡ live
-      live_at s M C = is_live (s.endpoints e).status (T.tells s M C.numbers.0) n i
+  module _ (T : Tests m (IsEndpoint e) (Ok tt) (endpoint_open e)) where
+    live_at : (s : State) → Shows m s → Calling t (Numbers e a b) s → live ≡ (s.endpoints e).status
+    live_at s M C = open_live T s M C.numbers.0
 
-      open_at : (s : State) → Shows m s → Calling t (Numbers e a b) s → Open t e s
-      open_at s M C =
+    open_at : (s : State) → Shows m s → Calling t (Numbers e a b) s → Open t e s
+    open_at s M C =
+        record {
+          mid = sound_mid C.sound;
+          endpoint = C.numbers.0;
+          runs = C.runs;
+          status = sym (live_at s M C);
+        }
+
+    module _ {o : List ℕ} (D : Does m o (IsThread t) (drop_debt t)) where
+      pub open_asked : Shown m (Calling t (Numbers e a b)) → Shown o (Open t e)
+      open_asked S =
+          let C = S.holds in
           record {
-            mid = sound_mid C.sound;
-            endpoint = C.numbers.0;
-            runs = C.runs;
-            status = live_at s M C;
+            state = drop_debt t S.state;
+            shows = D.shows S.state S.shows (running_thread (sound_mid C.sound) C.runs);
+            holds = open_dropped (open_at S.state S.shows C);
           }
 
-      module _ {o : List ℕ} (D : Does m o (IsThread t) (drop_debt t)) where
-        pub open_asked : Shown m (Calling t (Numbers e a b)) → Shown o (Open t e)
-        open_asked S =
-            let C = S.holds in
-            record {
-              state = drop_debt t S.state;
-              shows = D.shows S.state S.shows (running_thread (sound_mid C.sound) C.runs);
-              holds = open_dropped (open_at S.state S.shows C);
-            }
-
-        pub opened :
-            {q : List ℕ} {x : Answer} → Performs o q x (Open t e) (abort_open t e a b)
-            → Performs m q x (Calling t (Numbers e a b)) (unnoted t e a b)
-        unfolding abort_at
-        opened F =
-            performs_as
-            (performs_after
-            (does_for D (λ s C. running_thread (sound_mid C.sound) C.runs))
-            (λ s M C. open_dropped (open_at s M C)) F)
-            (λ s M C. ap (λ (x : Status). abort_at x t e a b s) (sym (live_at s M C)))
+      pub opened :
+          {q : List ℕ} {x : Answer} → Performs o q x (Open t e) (abort_open t e a b)
+          → Performs m q x (Calling t (Numbers e a b)) (unnoted t e a b)
+      unfolding abort_at
+      opened F =
+          performs_as
+          (performs_after
+          (does_for D (λ s C. running_thread (sound_mid C.sound) C.runs))
+          (λ s M C. open_dropped (open_at s M C)) F)
+          (λ s M C. ap (λ (x : Status). abort_at x t e a b s) (live_at s M C))
 
 -- The note.
 
@@ -218,17 +194,15 @@ module _ {m : List ℕ} {t e a b : ℕ} {u : Bool} (U : Says m (InCall t e) u (n
 
   module _ (z : u ≡ true) {n : List ℕ} (D : Does m n (IsThread t) (drop_debt t)) where
     pub noted_answered :
-        {o : List ℕ} {x y : Answer} → x ≡ plain 0 → Accepts n x y Chooses o
+        {o : List ℕ} {y : Answer} → Accepts n (plain 0) y Chooses o
         → Performs m o y (Calling t (Numbers e a b)) (abort t e a b)
     unfolding abort abort_unless
-    noted_answered {x = x} k A =
+    noted_answered A =
         performs_as
         (performs_after
         (does_for D (λ s C. running_thread (sound_mid C.sound) C.runs)) (λ s M C. dropped_chooses t C.sound)
         (A.performs []))
-        (λ s M C.
-        ap (λ (v : Answer). accept v [] (drop_debt t s)) k
-        ∙ ap (λ (q : Bool). abort_unless q t e a b s) (sym z ∙ says_note s M C))
+        (λ s M C. ap (λ (q : Bool). abort_unless q t e a b s) (sym z ∙ says_note s M C))
 
   pub not_noted :
       {o : List ℕ} {x : Answer} → u ≡ false → Performs m o x (Calling t (Numbers e a b)) (unnoted t e a b)

@@ -4,19 +4,20 @@
 #![tactic(auto)]
 
 ghost use Rattle.std.specs.Prelude.{◌≤◌, ◌<◌, ◌^◌};
+ghost use Rattle.calls.specs.Answers.{answer_of};
 ghost use Rattle.machine.specs.Aborts.{abort_open, abort};
 ghost use Rattle.store.specs.Steps.{Shown};
 ghost use Rattle.endings.specs.Results.{Calling, Performs};
 ghost use Rattle.own_aborts.specs.Own.{Open};
 ghost use Rattle.aborts.specs.Aborts.{unnoted};
 
-use calls::Answer;
+use calls::{Accepted, Outcome};
 use layout::{Part, codes};
 
 // An abort is begun where none stands, joined where it is of this badge, and finished first where it is of another.
-fn abort_open(tables: &mut [u32], t: usize, e: usize, allowance: u32, badge: u32) -> Answer
+fn abort_open(tables: &mut [u32], t: usize, e: usize, allowance: u32, badge: u32) -> Outcome
     requires { Shown tables.old (Open t e) × (allowance ≤ 65535) × (badge < 2 ^ 28) }
-    ensures { Performs tables.old tables.new result (Open t e)
+    ensures { Performs tables.old tables.new (answer_of result) (Open t e)
         (abort_open t e allowance badge) }
 {
     let here = store::endpoint(tables, Part::Aborting, e);
@@ -31,32 +32,26 @@ fn abort_open(tables: &mut [u32], t: usize, e: usize, allowance: u32, badge: u32
 }
 
 // Refused where the endpoint is missing or closing. Else the caller leaves its set, or loses its note, before the work.
-fn abort_at(tables: &mut [u32], t: usize, e: usize, allowance: u32, badge: u32) -> Answer
+fn abort_at(tables: &mut [u32], t: usize, e: usize, allowance: u32, badge: u32) -> Outcome
     requires { Shown tables.old (Calling t ((e ≤ 63) × (allowance ≤ 65535) × (badge < 2 ^ 28))) }
-    ensures { Performs tables.old tables.new result
+    ensures { Performs tables.old tables.new (answer_of result)
         (Calling t ((e ≤ 63) × (allowance ≤ 65535) × (badge < 2 ^ 28))) (unnoted t e allowance badge) }
 {
-    let status = store::endpoint(tables, Part::Status, e);
-    if status == codes::MISSING {
-        return calls::plain(calls::codes::ENDPOINT_ABSENT);
-    }
-    if status == codes::CLOSING {
-        return calls::plain(calls::codes::ENDPOINT_CLOSING);
-    }
+    endings::endpoint_open(tables, e)?;
     debts::drop_debt(tables, t);
     abort_open(tables, t, e, allowance, badge)
 }
 
 // 12: thread t aborts badge at endpoint e, with at most as many looks as the allowance lets.
-pub fn abort(tables: &mut [u32], t: usize, e: usize, allowance: u32, badge: u32) -> Answer
+pub fn abort(tables: &mut [u32], t: usize, e: usize, allowance: u32, badge: u32) -> Outcome
     requires { Shown tables.old (Calling t ((e ≤ 63) × (allowance ≤ 65535) × (badge < 2 ^ 28))) }
-    ensures { Performs tables.old tables.new result
+    ensures { Performs tables.old tables.new (answer_of result)
         (Calling t ((e ≤ 63) × (allowance ≤ 65535) × (badge < 2 ^ 28))) (abort t e allowance badge) }
 {
     let noted = debts::has_note(tables, t, e, badge);
     if noted {
         debts::drop_debt(tables, t); // the note goes, and nothing else changes
-        return endings::accept(tables, calls::plain(calls::codes::DONE));
+        return endings::accept(tables, Accepted::Done);
     }
     abort_at(tables, t, e, allowance, badge)
 }

@@ -2,13 +2,13 @@
 #![tactic(auto)]
 
 ghost use Rattle.std.specs.Prelude.{◌+◌, ◌≤◌, ◌<◌, ◌^◌};
+ghost use Rattle.calls.specs.Answers.{answer_of};
 ghost use Rattle.machine.specs.Aborts.{begin_after, work_other};
 ghost use Rattle.store.specs.Steps.{Shown};
 ghost use Rattle.endings.specs.Results.{Performs};
 ghost use Rattle.own_aborts.specs.Own.{Open, Continues};
 
-use calls::Answer;
-use calls::codes::BROKEN_OFF;
+use calls::{Accepted, Outcome};
 use layout::codes::NOBODY;
 use layout::{Part, codes};
 
@@ -20,27 +20,27 @@ fn begin_after(
     left: u32,
     badge: u32,
     earlier: u32,
-) -> Answer
+) -> Outcome
     requires { Shown tables.old (Open t e) × (earlier + left ≤ 65535) × (badge < 2 ^ 28) }
-    ensures { Continues tables.old earlier result (Open t e)
+    ensures { Continues tables.old earlier (answer_of result) (Open t e)
         (begin_after left t e badge) tables.new }
 {
     if left == 0 {
-        return endings::accept(tables, calls::counted(BROKEN_OFF, earlier));
+        return endings::accept(tables, Accepted::BrokenOff(earlier));
     }
     own_aborts::begin_own(tables, t, e, left, badge, earlier)
 }
 
 // Another badge's abort is finished first, at the expense of the allowance.
-pub fn work_other(tables: &mut [u32], t: usize, e: usize, allowance: u32, badge: u32) -> Answer
+pub fn work_other(tables: &mut [u32], t: usize, e: usize, allowance: u32, badge: u32) -> Outcome
     requires { Shown tables.old (Open t e) × (allowance ≤ 65535) × (badge < 2 ^ 28) }
-    ensures { Performs tables.old tables.new result (Open t e)
+    ensures { Performs tables.old tables.new (answer_of result) (Open t e)
         (work_other t e allowance badge) }
 {
     let n = abort_looks::look_up_to(tables, e, allowance);
     let pending = store::endpoint(tables, Part::Cursor, e);
     if pending != NOBODY {
-        return endings::accept(tables, calls::counted(BROKEN_OFF, n));
+        return endings::accept(tables, Accepted::BrokenOff(n));
     }
     debts::end_abort(tables, e, codes::LIVE);
     let rest = allowance - n;

@@ -111,10 +111,10 @@ module _ {m n : List ℕ} {t e : ℕ} (D : Does m n (IsThread t) (drop_debt t)) 
 -- The call's own abort, with nothing or something left.
 module _ {m : List ℕ} {e r : ℕ} (T : Tells m (IsEndpoint e) r (endpoint_in Part.Cursor e)) where
   pub own_broken :
-      {n : List ℕ} {t k : ℕ} {a b : Answer} → (r ≡ 0 → ⊥) → a ≡ counted 2 k → Accepts m a b Chooses n
+      {n : List ℕ} {t k : ℕ} {b : Answer} → (r ≡ 0 → ⊥) → Accepts m (counted 2 k) b Chooses n
       → Continues m k b (Open t e) (own_ended t e) n
   unfolding ended
-  own_broken {n} {t} {k} {a} z i A =
+  own_broken {n} {t} {k} z A =
       record {
         performs = λ looks j.
             performs_as (performs_for (A.performs looks) (λ s M O. open_chooses O))
@@ -122,16 +122,16 @@ module _ {m : List ℕ} {e r : ℕ} (T : Tells m (IsEndpoint e) r (endpoint_in P
       }
     where
       go : (looks : List Look) → length looks ≡ k → (s : State) → HasFirst r (pending_at e s)
-          → accept a looks s ≡ own_ended t e looks s
+          → accept (counted 2 k) looks s ≡ own_ended t e looks s
       go looks j s B =
-          ap (λ (x : Answer). accept x looks s) (i ∙ ap (counted 2) (sym j))
+          ap (λ (x : ℕ). accept (counted 2 x) looks s) (sym j)
           ∙ ap (λ (l : List ℕ). ended l t e looks s) (sym B.whole)
 
   pub own_ended_lem :
-      {n o q : List ℕ} {t k : ℕ} {a b : Answer} → r ≡ 0 → Does m n (IsThread t) (drop_debt t) → EndsAbort n e 1 o
-      → a ≡ counted 0 k → Accepts o a b Chooses q → Continues m k b (Open t e) (own_ended t e) q
+      {n o q : List ℕ} {t k : ℕ} {b : Answer} → r ≡ 0 → Does m n (IsThread t) (drop_debt t) → EndsAbort n e 1 o
+      → Accepts o (counted 0 k) b Chooses q → Continues m k b (Open t e) (own_ended t e) q
   unfolding ended
-  own_ended_lem {n} {o} {q} {t} {k} {a} z D E i A =
+  own_ended_lem {n} {o} {q} {t} {k} z D E A =
       record {
         performs = λ looks j.
             performs_as
@@ -140,9 +140,9 @@ module _ {m : List ℕ} {e r : ℕ} (T : Tells m (IsEndpoint e) r (endpoint_in P
       }
     where
       go : (looks : List Look) → length looks ≡ k → (s : State) → pending_at e s ≡ []
-          → accept a looks (ended_own t e s) ≡ own_ended t e looks s
+          → accept (counted 0 k) looks (ended_own t e s) ≡ own_ended t e looks s
       go looks j s p =
-          ap (λ (x : Answer). accept x looks (ended_own t e s)) (i ∙ ap (counted 0) (sym j))
+          ap (λ (x : ℕ). accept (counted 0 x) looks (ended_own t e s)) (sym j)
           ∙ ap (λ (l : List ℕ). ended l t e looks s) (sym p)
 
 -- The looks leave who runs, the status and every debt.
@@ -234,15 +234,15 @@ module _ {m : List ℕ} {t e : ℕ} where
 -- After another badge's abort.
 module _ {m n : List ℕ} {t e k : ℕ} (b : ℕ) where
   pub after_broken :
-      {left : ℕ} {a r : Answer} → left ≡ 0 → a ≡ counted 2 k → Accepts m a r Chooses n
+      {left : ℕ} {r : Answer} → left ≡ 0 → Accepts m (counted 2 k) r Chooses n
       → Continues m k r (Open t e) (begin_after left t e b) n
   unfolding begin_after
-  after_broken {left} {a} z i A =
+  after_broken {left} z A =
       record {
         performs = λ looks j.
             performs_as (performs_for (A.performs looks) (λ s M B. open_chooses B))
             (λ s M B.
-            ap (λ (x : Answer). accept x looks s) (i ∙ ap (counted 2) (sym j))
+            ap (λ (x : ℕ). accept (counted 2 x) looks s) (sym j)
             ∙ ap (λ (x : ℕ). begin_after x t e b looks s) (sym z));
       }
 
@@ -288,10 +288,10 @@ module _ {m n : List ℕ} {t e a k : ℕ} (L : LooksOn m e a k n) where
         (N, T.tells (looked e a s).state N C.endpoint, L.counts s M (open_within C))
 
     pub other_broken :
-        {o : List ℕ} {x y : Answer} (b : ℕ) → (r ≡ 0 → ⊥) → x ≡ counted 2 k → Accepts n x y Chooses o
+        {o : List ℕ} {y : Answer} (b : ℕ) → (r ≡ 0 → ⊥) → Accepts n (counted 2 k) y Chooses o
         → Performs m o y (Open t e) (work_other t e a b)
     unfolding work_other looked_other finished
-    other_broken {o} {x} b z i A =
+    other_broken {o} b z A =
         performs_each
         (λ s M C.
         let w = looked e a s in
@@ -301,9 +301,9 @@ module _ {m n : List ℕ} {t e a k : ℕ} (L : LooksOn m e a k n) where
         (at_state (A.performs w.looks) N.0 (open_chooses (open_looked a C))))
       where
         go : (w : Looked) → HasFirst r (pending_at e w.state) → k ≡ length w.looks
-            → accept x w.looks w.state ≡ looked_other t e a b w
+            → accept (counted 2 k) w.looks w.state ≡ looked_other t e a b w
         go w B j =
-            ap (λ (v : Answer). accept v w.looks w.state) (i ∙ ap (counted 2) j)
+            ap (λ (v : ℕ). accept (counted 2 v) w.looks w.state) j
             ∙ ap (λ (l : List ℕ). finished l t e a b w) (sym B.whole)
 
     pub other_ended :

@@ -1,6 +1,5 @@
 -- A noted caller is answered; another goes on by the status.
-use borrow.Author.Rules.{rules}
-use Rattle.aborts.proofs.Opening.{calls_asked, note_asked, dropped_asked, noted_answered, not_noted}
+use Rattle.aborts.proofs.Opening.{calls_asked, dropped_asked, noted_answered, not_noted}
 use Rattle.aborts.proofs.abort.Goals as goal
 
 pub has_note-noted-requires : goal.has_note-noted-requires
@@ -13,7 +12,7 @@ accept-requires c =
 pub returns-then-noted : goal.returns-then-noted
 returns-then-noted c =
     noted_answered c.has_note-noted.ensures c.if-noted.true c.drop_debt.ensures
-    c.plain.ensures c.accept.ensures
+    c.accept.ensures
 
 pub returns : goal.returns
 returns c =

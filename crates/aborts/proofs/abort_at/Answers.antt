@@ -1,30 +1,25 @@
 -- The refusals by status, and the work of a caller without other debts.
-use borrow.Author.Rules.{rules}
 use native.Mathlib.Omega.{arith}
-use Rattle.aborts.proofs.Opening.{note_asked, refused_missing, refused_closing, open_asked, opened}
+use Rattle.endings.proofs.Tests.{passed_on}
+use Rattle.aborts.proofs.Opening.{endpoint_asked, note_asked, not_open, open_asked, opened}
 use Rattle.aborts.proofs.abort_at.Goals as goal
 
-pub returns-then-status-eq-MISSING : goal.returns-then-status-eq-MISSING
-returns-then-status-eq-MISSING c =
-    refused_missing c.endpoint-status.ensures c.if-status-eq-MISSING.true c.plain.ensures
+pub endpoint_open-requires : goal.endpoint_open-requires
+endpoint_open-requires c = endpoint_asked c.requires
 
-pub returns-then-status-eq-CLOSING : goal.returns-then-status-eq-CLOSING
-returns-then-status-eq-CLOSING c =
-    refused_closing c.endpoint-status.ensures c.if-status-eq-CLOSING.true c.plain-then-status-eq-CLOSING.ensures
+pub returns-in_err-endpoint_open : goal.returns-in_err-endpoint_open
+returns-in_err-endpoint_open c =
+    passed_on c.from_residual.result _ c.from_residual.ensures.1 (not_open c.in_err-endpoint_open.ensures)
 
 pub drop_debt-requires : goal.drop_debt-requires
-drop_debt-requires c =
-    note_asked c.requires
+drop_debt-requires c = note_asked c.requires
 
 pub abort_open-requires : goal.abort_open-requires
 abort_open-requires c = (
-  open_asked c.endpoint-status.ensures c.if-status-eq-MISSING.false c.if-status-eq-CLOSING.false
-      c.drop_debt.ensures c.requires,
+  open_asked c.in_ok-endpoint_open.ensures c.drop_debt.ensures c.requires,
   omega (arith, c.requires.holds.numbers.1),
   c.requires.holds.numbers.2,
 )
 
 pub returns : goal.returns
-returns c =
-    opened c.endpoint-status.ensures c.if-status-eq-MISSING.false c.if-status-eq-CLOSING.false c.drop_debt.ensures
-    c.abort_open.ensures
+returns c = opened c.in_ok-endpoint_open.ensures c.drop_debt.ensures c.abort_open.ensures

@@ -1,6 +1,5 @@
 -- The three ways into the work.
-use borrow.Author.Rules.{rules}
-use Rattle.aborts.proofs.Opening.{opens_none, joining_shown, opens_same, opens_other}
+use Rattle.aborts.proofs.Opening.{opens_none, opens_same, opens_other}
 use Rattle.aborts.proofs.abort_open.Goals as goal
 
 pub returns-then-here-eq-NO_ABORT : goal.returns-then-here-eq-NO_ABORT

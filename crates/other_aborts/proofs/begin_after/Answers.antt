@@ -1,5 +1,4 @@
 -- Broken off where no allowance is left.
-use borrow.Author.Rules.{rules}
 use Rattle.own_aborts.proofs.Working.{chooses_asked, after_broken, after_begins}
 use Rattle.other_aborts.proofs.begin_after.Goals as goal
 
@@ -8,7 +7,7 @@ accept-requires c = search chooses_asked
 
 pub returns-then-left-eq0 : goal.returns-then-left-eq0
 returns-then-left-eq0 c =
-    after_broken _ c.if-left-eq0.true c.counted.ensures c.accept.ensures
+    after_broken _ c.if-left-eq0.true c.accept.ensures
 
 pub returns : goal.returns
 returns c =

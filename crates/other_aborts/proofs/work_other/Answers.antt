@@ -1,6 +1,5 @@
 -- Looks at the other badge's pending; with none left it ends, and the call's own begins.
-use borrow.Author.Rules.{rules}
-use Rattle.own_aborts.proofs.Working.{within_asked, endpoint_asked, chooses_asked, over_asked}
+use Rattle.own_aborts.proofs.Working.{within_asked, chooses_asked, over_asked}
 use Rattle.own_aborts.proofs.Working.{looked_asked, looks_bound, rest_small, other_broken, other_ended}
 use Rattle.other_aborts.proofs.work_other.Goals as goal
 
@@ -11,7 +10,7 @@ accept-requires c =
 pub returns-then-pending-ne-NOBODY : goal.returns-then-pending-ne-NOBODY
 returns-then-pending-ne-NOBODY c =
     other_broken c.look_up_to-n.ensures c.endpoint-pending.ensures _ c.if-pending-ne-NOBODY.true
-    c.counted.ensures c.accept.ensures
+    c.accept.ensures
 
 pub overflow_sub-rest : goal.overflow_sub-rest
 overflow_sub-rest c =

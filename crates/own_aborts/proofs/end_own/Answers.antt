@@ -8,8 +8,7 @@ accept-requires c = search chooses_asked
 
 pub returns-then-cursor-ne-NOBODY : goal.returns-then-cursor-ne-NOBODY
 returns-then-cursor-ne-NOBODY c =
-    own_broken c.endpoint-cursor.ensures c.if-cursor-ne-NOBODY.true c.counted.ensures
-    c.accept.ensures
+    own_broken c.endpoint-cursor.ensures c.if-cursor-ne-NOBODY.true c.accept.ensures
 
 pub drop_debt-requires : goal.drop_debt-requires
 drop_debt-requires c =
@@ -25,4 +24,4 @@ accept-requires-2 c =
 pub returns : goal.returns
 returns c =
     own_ended_lem c.endpoint-cursor.ensures c.if-cursor-ne-NOBODY.false c.drop_debt.ensures
-    c.end_abort.ensures c.counted-2.ensures c.accept-2.ensures
+    c.end_abort.ensures c.accept-2.ensures
