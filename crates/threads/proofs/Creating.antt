@@ -30,10 +30,10 @@ abbrev Given : ℕ → ℕ → State → Type 0
 Given t p = Asked (PriorityInRange t p)
 
 module _ {m : List ℕ} {t r : ℕ} (p : ℕ) (T : Tells m (IsThread t) r (thread_in Field.Place t)) where
-  pub create_refused : {a : Answer} → (r ≡ 0 → ⊥) → a ≡ plain 22 → Performs m m a (Given t p) (create_thread t p)
+  pub create_refused : (r ≡ 0 → ⊥) → Performs m m (plain 22) (Given t p) (create_thread t p)
   unfolding create_thread create_if
-  create_refused n e =
-      performs_as (refused 22 e)
+  create_refused n =
+      performs_as (refused 22 refl)
       (λ s M h.
       sym
       (ap (λ (b : Bool). create_if b t p s) (code_present (s.threads t).place (T.tells s M h.numbers.0) n)))

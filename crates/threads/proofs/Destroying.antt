@@ -1,6 +1,6 @@
 -- Destroy thread: what its steps ask, and that it comes to what the machine's call comes to.
 use Prim.Native.Nat.{ℕ, ◌≤◌}
-use mathlib.Core.Path.{◌≡◌, sym, ◌∙◌, ap}
+use mathlib.Core.Path.{◌≡◌, refl, sym, ◌∙◌, ap}
 use mathlib.Core.Bool.{Bool, false}
 use mathlib.Core.List.{List}
 use native.Mathlib.Omega.{arith}
@@ -39,10 +39,10 @@ dropped_place : (s : State) (t : ℕ) → ((drop_debt t s).threads t).place ≡ 
 dropped_place s t = keeps_place (drop_debt_drops s t).keeps t
 
 module _ {m : List ℕ} {t r : ℕ} (T : Tells m (IsThread t) r (thread_in Field.Place t)) where
-  pub destroy_refused : {a : Answer} → r ≡ 0 → a ≡ plain 21 → Performs m m a (Given t) (destroy_thread t)
+  pub destroy_refused : r ≡ 0 → Performs m m (plain 21) (Given t) (destroy_thread t)
   unfolding destroy_thread destroy_if
-  destroy_refused z e =
-      performs_as (refused 21 e)
+  destroy_refused z =
+      performs_as (refused 21 refl)
       (λ s M h.
       sym
       (ap (λ (x : Place). destroy_if (is_absent x) t s)

@@ -69,12 +69,12 @@ module _ {s : State} {t code : ℕ} (G : Goes t code s) where
       go (receiving e) k h = absurd (omega arith)
       go (waiting l) k h = absurd (omega arith)
 
-  at_sending : (code ≡ 1 → ⊥) → code < 66 → (s.threads t).place ≡ sending (code - 2)
+  at_sending : 2 ≤ code → code < 66 → (s.threads t).place ≡ sending (code - 2)
   at_sending b c = go (s.threads t).place G.place G.can
     where
       go : (x : Place) → code ≡ place_code x → CanLeave x t s → x ≡ sending (code - 2)
       go absent k h = absurd h
-      go able k h = absurd (b k)
+      go able k h = absurd (omega arith)
       go (sending e) k h = ap sending (let j : e ≡ code - 2 = omega arith in j)
       go (receiving e) k h = absurd (omega arith)
       go (waiting l) k h = absurd (omega arith)
@@ -99,6 +99,17 @@ module _ {s : State} {t code : ℕ} (G : Goes t code s) where
       go (receiving e) k h = absurd (omega (arith, h.endpoint))
       go (waiting l) k h = ap waiting (let j : l ≡ code - 130 = omega arith in j)
 
+  -- It is at some place.
+  pub goes_somewhere : 1 ≤ code
+  goes_somewhere = go (s.threads t).place G.place G.can
+    where
+      go : (x : Place) → code ≡ place_code x → CanLeave x t s → 1 ≤ code
+      go absent k h = absurd h
+      go able k h = omega arith
+      go (sending e) k h = omega arith
+      go (receiving e) k h = omega arith
+      go (waiting l) k h = omega arith
+
   -- What leaving that place asks.
   can_leave : (x : Place) → (s.threads t).place ≡ x → CanLeave x t s
   can_leave x p = subst (λ (y : Place). CanLeave y t s) p G.can
@@ -116,7 +127,7 @@ module _ {m : List ℕ} {t code : ℕ} where
       }
 
   pub leave_sending :
-      {n : List ℕ} → (code ≡ 1 → ⊥) → code < 66 → Does m n (InEndpoint t (code - 2)) (leave_endpoint t (code - 2))
+      {n : List ℕ} → 2 ≤ code → code < 66 → Does m n (InEndpoint t (code - 2)) (leave_endpoint t (code - 2))
       → Does m n (Goes t code) (leaving t)
   unfolding leave
   leave_sending {n} b c D =

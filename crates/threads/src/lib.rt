@@ -3,25 +3,26 @@
 #![tactic(auto)]
 
 ghost use Rattle.std.specs.Prelude.{◌≤◌};
+ghost use Rattle.calls.specs.Answers.{answer_of};
 ghost use Rattle.machine.specs.Machine.{create_thread, destroy_thread};
 ghost use Rattle.store.specs.Steps.{Shown, Does};
 ghost use Rattle.endings.specs.Results.{Asked, Performs};
 ghost use Rattle.threads.specs.Threads.{Able, leaving_ready, Goes, leaving};
 ghost use Rattle.priorities.specs.Priorities.{PriorityInRange};
 
-use calls::Answer;
+use calls::{Outcome, Refusal};
 use layout::codes::NOBODY;
 use layout::{Field, codes};
 
 // 1: a new thread joins its level's tail.
-pub fn create_thread(tables: &mut [u32], t: usize, p: u32) -> Answer
+pub fn create_thread(tables: &mut [u32], t: usize, p: u32) -> Outcome
     requires { Shown tables.old (Asked (PriorityInRange t p)) }
-    ensures { Performs tables.old tables.new result (Asked (PriorityInRange t p))
+    ensures { Performs tables.old tables.new (answer_of result) (Asked (PriorityInRange t p))
         (create_thread t p) }
 {
     let place = store::thread(tables, Field::Place, t);
     if place != codes::ABSENT {
-        return calls::plain(calls::codes::THREAD_PRESENT);
+        return Err(Refusal::ThreadPresent);
     }
     store::new_thread(tables, t, p);
     queues::enqueue(tables, t);
@@ -46,29 +47,26 @@ fn leave(tables: &mut [u32], t: usize, place: u32)
     requires { Shown tables.old (Goes t place) }
     ensures { Does tables.old tables.new (Goes t place) (leaving t) }
 {
-    if place == codes::ABLE {
-        leave_ready(tables, t);
-        return;
+    match place {
+        codes::ABLE => leave_ready(tables, t),
+        codes::SENDING..codes::RECEIVING => {
+            endpoint_queues::leave_endpoint(tables, t, (place - codes::SENDING) as usize)
+        }
+        codes::RECEIVING..codes::WAITING => {
+            endpoint_queues::leave_endpoint(tables, t, (place - codes::RECEIVING) as usize)
+        }
+        _ => store::set_line(tables, (place - codes::WAITING) as usize, codes::QUIET),
     }
-    if place < codes::RECEIVING {
-        endpoint_queues::leave_endpoint(tables, t, (place - codes::SENDING) as usize);
-        return;
-    }
-    if place < codes::WAITING {
-        endpoint_queues::leave_endpoint(tables, t, (place - codes::RECEIVING) as usize);
-        return;
-    }
-    store::set_line(tables, (place - codes::WAITING) as usize, codes::QUIET);
 }
 
 // 2: a thread goes, with its note or its place in a set, from wherever it is.
-pub fn destroy_thread(tables: &mut [u32], t: usize) -> Answer
+pub fn destroy_thread(tables: &mut [u32], t: usize) -> Outcome
     requires { Shown tables.old (Asked (t ≤ 255)) }
-    ensures { Performs tables.old tables.new result (Asked (t ≤ 255)) (destroy_thread t) }
+    ensures { Performs tables.old tables.new (answer_of result) (Asked (t ≤ 255)) (destroy_thread t) }
 {
     let place = store::thread(tables, Field::Place, t);
     if place == codes::ABSENT {
-        return calls::plain(calls::codes::THREAD_ABSENT);
+        return Err(Refusal::ThreadAbsent);
     }
     debts::drop_debt(tables, t); // the set that it is in stands without it
     leave(tables, t, place);

@@ -4,7 +4,7 @@ use Rattle.threads.proofs.create_thread.Goals as goal
 
 pub returns-then-place-ne-ABSENT : goal.returns-then-place-ne-ABSENT
 returns-then-place-ne-ABSENT c =
-    create_refused _ c.thread-place.ensures c.if-place-ne-ABSENT.true c.plain.ensures
+    create_refused _ c.thread-place.ensures c.if-place-ne-ABSENT.true
 
 pub enqueue-requires : goal.enqueue-requires
 enqueue-requires c =
