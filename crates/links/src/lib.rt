@@ -9,17 +9,18 @@ ghost use Rattle.links.specs.Links.{PopsFirst, First, Last, Next, Prev};
 
 use layout::codes::NOBODY;
 use layout::{Link, wide};
+use words::Beside;
 
 // Thread t joins the tail of queue q.
 pub fn push_tail(tables: &mut [u32], q: usize, t: usize)
     requires { Joinable tables.old q t }
     ensures { JoinsLast tables.old q t tables.new }
 {
-    let last = words::get_link(tables, Link::Tail(q));
+    let last = words::get(tables, Link::Tail(q));
     let link = (t + wide::LINK) as u32;
-    words::put_after(tables, q, last as usize, link);
-    words::put_link(tables, Link::Prev(t), last);
-    words::put_link(tables, Link::Tail(q), link);
+    words::put(tables, Beside::After(q, last as usize), link);
+    words::put(tables, Link::Prev(t), last);
+    words::put(tables, Link::Tail(q), link);
 }
 
 // Thread t joins the head of queue q.
@@ -27,11 +28,11 @@ pub fn push_head(tables: &mut [u32], q: usize, t: usize)
     requires { Joinable tables.old q t }
     ensures { JoinsFirst tables.old q t tables.new }
 {
-    let first = words::get_link(tables, Link::Head(q));
+    let first = words::get(tables, Link::Head(q));
     let link = (t + wide::LINK) as u32;
-    words::put_before(tables, q, first as usize, link);
-    words::put_link(tables, Link::Next(t), first);
-    words::put_link(tables, Link::Head(q), link);
+    words::put(tables, Beside::Before(q, first as usize), link);
+    words::put(tables, Link::Next(t), first);
+    words::put(tables, Link::Head(q), link);
 }
 
 // Thread t leaves queue q, in which it stands.
@@ -39,12 +40,12 @@ pub fn unlink(tables: &mut [u32], q: usize, t: usize)
     requires { Leavable tables.old q t }
     ensures { LeavesQueue tables.old q t tables.new }
 {
-    let next = words::get_link(tables, Link::Next(t));
-    let prev = words::get_link(tables, Link::Prev(t));
-    words::put_after(tables, q, prev as usize, next);
-    words::put_before(tables, q, next as usize, prev);
-    words::put_link(tables, Link::Next(t), NOBODY);
-    words::put_link(tables, Link::Prev(t), NOBODY);
+    let next = words::get(tables, Link::Next(t));
+    let prev = words::get(tables, Link::Prev(t));
+    words::put(tables, Beside::After(q, prev as usize), next);
+    words::put(tables, Beside::Before(q, next as usize), prev);
+    words::put(tables, Link::Next(t), NOBODY);
+    words::put(tables, Link::Prev(t), NOBODY);
 }
 
 // Thread t, the first of queue q, leaves it; the link to the first of those that are left.
@@ -52,10 +53,10 @@ pub fn pop_head(tables: &mut [u32], q: usize, t: usize) -> u32
     requires { Leads tables.old q t }
     ensures { PopsFirst tables.old q t result tables.new }
 {
-    let next = words::get_link(tables, Link::Next(t));
-    words::put_before(tables, q, next as usize, NOBODY);
-    words::put_link(tables, Link::Head(q), next);
-    words::put_link(tables, Link::Next(t), NOBODY);
+    let next = words::get(tables, Link::Next(t));
+    words::put(tables, Beside::Before(q, next as usize), NOBODY);
+    words::put(tables, Link::Head(q), next);
+    words::put(tables, Link::Next(t), NOBODY);
     next
 }
 
@@ -64,7 +65,7 @@ pub fn first(tables: &[u32], q: usize) -> u32
     requires { (length tables.now ≡ table_words) × (q ≤ 319) }
     ensures { First tables.now q result }
 {
-    words::get_link(tables, Link::Head(q))
+    words::get(tables, Link::Head(q))
 }
 
 // The link to the last of queue q, 0 for none.
@@ -72,7 +73,7 @@ pub fn last(tables: &[u32], q: usize) -> u32
     requires { (length tables.now ≡ table_words) × (q ≤ 319) }
     ensures { Last tables.now q result }
 {
-    words::get_link(tables, Link::Tail(q))
+    words::get(tables, Link::Tail(q))
 }
 
 // The link to the one behind thread t in its queue.
@@ -80,7 +81,7 @@ pub fn next(tables: &[u32], t: usize) -> u32
     requires { (length tables.now ≡ table_words) × (t ≤ 255) }
     ensures { Next tables.now t result }
 {
-    words::get_link(tables, Link::Next(t))
+    words::get(tables, Link::Next(t))
 }
 
 // The link to the one before thread t in its queue.
@@ -88,5 +89,5 @@ pub fn prev(tables: &[u32], t: usize) -> u32
     requires { (length tables.now ≡ table_words) × (t ≤ 255) }
     ensures { Prev tables.now t result }
 {
-    words::get_link(tables, Link::Prev(t))
+    words::get(tables, Link::Prev(t))
 }

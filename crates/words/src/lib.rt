@@ -2,13 +2,31 @@
 // stands here and in specs/Addresses of crate layout, and nowhere else.
 #![tactic(auto)]
 
-ghost use Rattle.std.specs.Prelude.{◌≡◌, ◌≤◌, ◌<◌, length, set, replicate};
+ghost use Rattle.std.specs.Prelude.{◌≡◌, ℕ, ◌≤◌, ◌<◌, length, set, replicate};
 ghost use Rattle.layout.specs.declared.Slot.{Slot};
-ghost use Rattle.layout.specs.Addresses.{column, offset, at, link_at, word, after_at, before_at, ValidSlot, ValidLink};
-ghost use Rattle.layout.specs.Addresses.{table_words};
-ghost use Rattle.words.specs.Access.{Address, Pair};
+ghost use Rattle.layout.specs.Addresses.{column, offset, at, link_at, word, ValidSlot, ValidLink, table_words};
+ghost use Rattle.words.specs.Access.{Address, Pair, beside_at, ValidBeside};
 
 use layout::{Field, Link, Part, Slot, wide};
+
+// The name of a lent word. What reads and writes the words below knows of a name its address alone.
+pub trait Name: Copy {
+    ghost at: { Self → ℕ };
+
+    ghost valid: { Self → Type 0 };
+
+    fn address(self) -> usize
+        requires { valid self }
+        ensures { Address result (at self) };
+}
+
+// The link from link x of queue q to what comes after it, and to what comes before it. Link 0 is the queue itself, link
+// t + 1 is thread t.
+#[derive(Clone, Copy)]
+pub enum Beside {
+    After(usize, usize),
+    Before(usize, usize),
+}
 
 // The place of a word in its thread's ten.
 fn column_of(f: Field) -> usize
@@ -39,37 +57,42 @@ fn offset_of(p: Part) -> usize
     }
 }
 
-// The address of a word that is no link.
-fn slot_at(a: Slot) -> usize
-    requires { ValidSlot a }
-    ensures { Address result (at a) }
-{
-    match a {
-        Slot::Thread(f, t) => 10 * t + column_of(f),
-        Slot::Endpoint(p, e) => 3200 + 5 * e + offset_of(p),
-        Slot::Line(l) => 3520 + l,
-        Slot::Summary(w) => 3552 + w,
-        Slot::Top => 3560,
-        Slot::Running => 3561,
-        Slot::Unused(i) => 3562 + i,
+impl Name for Slot {
+    ghost at = { at };
+
+    ghost valid = { ValidSlot };
+
+    #[tactic(auto, unfolding(layout::specs::Addresses::at))]
+    fn address(self) -> usize {
+        match self {
+            Slot::Thread(f, t) => 10 * t + column_of(f),
+            Slot::Endpoint(p, e) => 3200 + 5 * e + offset_of(p),
+            Slot::Line(l) => 3520 + l,
+            Slot::Summary(w) => 3552 + w,
+            Slot::Top => 3560,
+            Slot::Running => 3561,
+            Slot::Unused(i) => 3562 + i,
+        }
     }
 }
 
-// The address of a link.
-fn link_at(k: Link) -> usize
-    requires { ValidLink k }
-    ensures { Address result (link_at k) }
-{
-    match k {
-        Link::Next(t) => 10 * t + 6,
-        Link::Prev(t) => 10 * t + 7,
-        Link::Head(q) => 2560 + 2 * q,
-        Link::Tail(q) => 2561 + 2 * q,
+impl Name for Link {
+    ghost at = { link_at };
+
+    ghost valid = { ValidLink };
+
+    #[tactic(auto, unfolding(layout::specs::Addresses::link_at))]
+    fn address(self) -> usize {
+        match self {
+            Link::Next(t) => 10 * t + 6,
+            Link::Prev(t) => 10 * t + 7,
+            Link::Head(q) => 2560 + 2 * q,
+            Link::Tail(q) => 2561 + 2 * q,
+        }
     }
 }
 
-// Which pair of words link x of queue q is, what comes after it and what comes before it: link 0 is the queue itself,
-// link t + 1 is thread t. The queue's own is computed in either case, so that the choice is no branch.
+// Which pair of words link x of queue q is, what comes after it and what comes before it. The queue's own is computed in either case, so that the choice is no branch.
 fn pair_at(q: usize, x: usize) -> usize
     requires { (q ≤ 319) × (x ≤ 256) }
     ensures { Pair result q x }
@@ -82,70 +105,50 @@ fn pair_at(q: usize, x: usize) -> usize
     5 * t + 3
 }
 
-// A word that is no link.
-pub fn get(tables: &[u32], a: Slot) -> u32
-    requires { (length tables.now ≡ table_words) × ValidSlot a }
-    ensures { result ≡ word tables.now (at a) }
-{
-    tables[slot_at(a)]
+impl Name for Beside {
+    ghost at = { beside_at };
+
+    ghost valid = { ValidBeside };
+
+    fn address(self) -> usize {
+        match self {
+            Beside::After(q, x) => 2 * pair_at(q, x),
+            Beside::Before(q, x) => 2 * pair_at(q, x) + 1,
+        }
+    }
 }
 
-// A word that is no link becomes v.
-pub fn put(tables: &mut [u32], a: Slot, v: u32)
-    requires { (length tables.old ≡ table_words) × ValidSlot a }
-    ensures { tables.new ≡ set tables.old (at a) v }
+// The word of a name.
+#[tactic(auto, unfolding(layout::specs::Addresses::word))]
+pub fn get<N: Name>(tables: &[u32], name: N) -> u32
+    requires { (length tables.now ≡ table_words) × N.valid name }
+    ensures { result ≡ word tables.now (N.at name) }
 {
-    tables[slot_at(a)] = v;
+    tables[name.address()]
 }
 
-// A link.
-pub fn get_link(tables: &[u32], k: Link) -> u32
-    requires { (length tables.now ≡ table_words) × ValidLink k }
-    ensures { result ≡ word tables.now (link_at k) }
+// The word of a name becomes v.
+pub fn put<N: Name>(tables: &mut [u32], name: N, v: u32)
+    requires { (length tables.old ≡ table_words) × N.valid name }
+    ensures { tables.new ≡ set tables.old (N.at name) v }
 {
-    tables[link_at(k)]
+    tables[name.address()] = v;
 }
 
-// A link becomes v.
-pub fn put_link(tables: &mut [u32], k: Link, v: u32)
-    requires { (length tables.old ≡ table_words) × ValidLink k }
-    ensures { tables.new ≡ set tables.old (link_at k) v }
+// The word of a name at the width at which the check reads, so that code above has no cast.
+pub fn wide<N: Name>(tables: &[u32], name: N) -> usize
+    requires { (length tables.now ≡ table_words) × N.valid name }
+    ensures { result ≡ word tables.now (N.at name) }
 {
-    tables[link_at(k)] = v;
+    get(tables, name) as usize
 }
 
-// The link after link x of queue q becomes v.
-pub fn put_after(tables: &mut [u32], q: usize, x: usize, v: u32)
-    requires { (length tables.old ≡ table_words) × (q ≤ 319) × (x ≤ 256) }
-    ensures { tables.new ≡ set tables.old (after_at q x) v }
-{
-    tables[2 * pair_at(q, x)] = v;
-}
-
-// The link before link x of queue q becomes v.
-pub fn put_before(tables: &mut [u32], q: usize, x: usize, v: u32)
-    requires { (length tables.old ≡ table_words) × (q ≤ 319) × (x ≤ 256) }
-    ensures { tables.new ≡ set tables.old (before_at q x) v }
-{
-    tables[2 * pair_at(q, x) + 1] = v;
-}
-
-// The words at the width at which the check reads, so that code above has no cast.
-
-// A word that is no link.
-pub fn wide(tables: &[u32], a: Slot) -> usize
-    requires { (length tables.now ≡ table_words) × ValidSlot a }
-    ensures { result ≡ word tables.now (at a) }
-{
-    get(tables, a) as usize
-}
-
-// A link.
+// A link. The crates of the check name it still.
 pub fn wide_link(tables: &[u32], k: Link) -> usize
     requires { (length tables.now ≡ table_words) × ValidLink k }
     ensures { result ≡ word tables.now (link_at k) }
 {
-    get_link(tables, k) as usize
+    wide(tables, k)
 }
 
 // A word of thread t.
@@ -168,9 +171,5 @@ pub fn endpoint(tables: &[u32], p: Part, e: usize) -> usize
 pub fn clear(words: &mut [u32])
     ensures { words.new ≡ replicate (length words.old) 0 }
 {
-    let mut i = 0;
-    while i < words.len() {
-        words[i] = 0;
-        i += 1;
-    }
+    words.fill(0);
 }

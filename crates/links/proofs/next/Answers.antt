@@ -3,4 +3,4 @@ use Rattle.links.proofs.Readings.{reads_next}
 use Rattle.links.proofs.next.Goals as goal
 
 pub returns : goal.returns
-returns c = reads_next c.get_link.ensures
+returns c = reads_next c.get.ensures

@@ -3,22 +3,21 @@ use borrow.Author.Rules.{rules}
 use Rattle.links.proofs.Leaving.{leaver_small, first_neighbours, popped}
 use Rattle.links.proofs.pop_head.Goals as goal
 
-pub get_link-next-requires : goal.get_link-next-requires
-get_link-next-requires c =
+pub get-next-requires : goal.get-next-requires
+get-next-requires c =
     (c.requires.leavable.size, leaver_small c.requires.leavable)
 
-pub put_before-requires : goal.put_before-requires
-put_before-requires c = (
+pub put-requires : goal.put-requires
+put-requires c = (
   c.requires.leavable.size,
-  c.requires.leavable.queue,
-  (first_neighbours c.requires c.get_link-next.ensures).after_small,
+  (c.requires.leavable.queue, (first_neighbours c.requires c.get-next.ensures).after_small),
 )
 
-pub put_link-requires-2 : goal.put_link-requires-2
-put_link-requires-2 c =
+pub put-requires-3 : goal.put-requires-3
+put-requires-3 c =
     (search rules, leaver_small c.requires.leavable)
 
 pub returns : goal.returns
 returns c =
-    popped c.requires c.get_link-next.ensures c.put_before.ensures
-    c.put_link.ensures c.put_link-2.ensures
+    popped c.requires c.get-next.ensures c.put.ensures
+    c.put-2.ensures c.put-3.ensures

@@ -3,4 +3,4 @@ use Rattle.links.proofs.Readings.{reads_prev}
 use Rattle.links.proofs.prev.Goals as goal
 
 pub returns : goal.returns
-returns c = reads_prev c.get_link.ensures
+returns c = reads_prev c.get.ensures

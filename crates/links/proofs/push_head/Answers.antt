@@ -2,11 +2,11 @@
 use Rattle.links.proofs.Joining.{head_small, pushed_head}
 use Rattle.links.proofs.push_head.Goals as goal
 
-pub put_before-requires : goal.put_before-requires
-put_before-requires c =
-    (c.requires.size, c.requires.queue, head_small c.requires c.get_link-first.ensures)
+pub put-requires : goal.put-requires
+put-requires c =
+    (c.requires.size, (c.requires.queue, head_small c.requires c.get-first.ensures))
 
 pub returns : goal.returns
 returns c =
-    pushed_head c.requires c.get_link-first.ensures c.put_before.ensures
-    c.put_link.ensures c.put_link-2.ensures
+    pushed_head c.requires c.get-first.ensures c.put.ensures
+    c.put-2.ensures c.put-3.ensures
