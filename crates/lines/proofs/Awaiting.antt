@@ -1,5 +1,5 @@
 -- Waiting on a line: refused where another waits, done where it is pending, and else the caller blocks.
-use Prim.Native.Nat.{ℕ, ◌+◌, ◌≤◌, ◌<◌}
+use Prim.Native.Nat.{ℕ, ◌+◌, ◌≤◌}
 use mathlib.Core.Path.{◌≡◌, refl}
 use mathlib.Core.List.{List, []}
 use native.Mathlib.Omega.{arith}
@@ -23,11 +23,10 @@ use Rattle.waiting.proofs.Callers.{calling_thread, dropped_mid, dropped_first}
 use Rattle.lines.proofs.Firing.{line_of, line_chooses}
 
 module _ {m : List ℕ} {t l r : ℕ} (T : Tells m (IsLine l) r (line_in l)) where
-  pub awaited_refused :
-      {a : Answer} → 1 < r → a ≡ plain 27 → Performs m m a (Calling t (l ≤ 31)) (wait t l)
+  pub awaited_refused : 2 ≤ r → Performs m m (plain 27) (Calling t (l ≤ 31)) (wait t l)
   unfolding wait wait_at
-  awaited_refused z k =
-      performs_as (refused 27 k) (λ s M h. go s (s.lines l) (T.tells s M h.numbers))
+  awaited_refused z =
+      performs_as (refused 27 refl) (λ s M h. go s (s.lines l) (T.tells s M h.numbers))
     where
       go : (s : State) (x : Line) → r ≡ line_code x
           → record { state = s; answer = plain 27; looks = [] } ≡ wait_at x t l s
@@ -82,14 +81,14 @@ module _ {m n o p : List ℕ} {t l r : ℕ} {a : Answer} (T : Tells m (IsLine l)
       go s (awaited u) j = absurd (omega arith)
 
   pub waited_quiet :
-      r ≤ 1 → (r ≡ 1 → ⊥) → SetsLine n l (2 + t) o → Suspends o t (130 + l) 0 0 a p
+      r ≡ 0 → SetsLine n l (2 + t) o → Suspends o t (130 + l) 0 0 a p
       → Performs m p a (Calling t (l ≤ 31)) (wait t l)
   unfolding wait wait_at
-  waited_quiet z y W D =
+  waited_quiet z W D =
       performs_as (dropped_first E (awaits W D)) (λ s M h. go s (s.lines l) (T.tells s M h.numbers))
     where
       go : (s : State) (x : Line) → r ≡ line_code x
           → blocked (block t (waiting l) 0 0 (set_line l (awaited t) (drop_debt t s))) ≡ wait_at x t l s
       go s quiet j = refl
-      go s pending j = absurd (y j)
+      go s pending j = absurd (omega arith)
       go s (awaited u) j = absurd (omega arith)

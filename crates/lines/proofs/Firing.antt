@@ -65,13 +65,13 @@ module _ {m : List ℕ} {l r : ℕ} (T : Tells m (IsLine l) r (line_in l)) where
       go s M pending k = M
       go s M (awaited t) k = absurd (omega arith)
 
-  module _ (z : r ≡ 0 → ⊥) (y : r ≡ 1 → ⊥) where
+  module _ (z : 2 ≤ r) where
     waiter_is : (s : State) → Shows m s → Asked (l ≤ 31) s → s.lines l ≡ awaited (r - 2)
     waiter_is s M h = go (s.lines l) (T.tells s M h.numbers)
       where
         go : (x : Line) → r ≡ line_code x → x ≡ awaited (r - 2)
-        go quiet k = absurd (z k)
-        go pending k = absurd (y k)
+        go quiet k = absurd (omega arith)
+        go pending k = absurd (omega arith)
         go (awaited t) k = let j : t ≡ r - 2 = omega arith in rw (← j)
 
     waiter_loose : (s : State) (x : Line) → Shows m s → Asked (l ≤ 31) s → Loose (r - 2) (set_line l x s)
