@@ -5,6 +5,7 @@
 ghost use Rattle.std.specs.Prelude.{◌<◌};
 
 use calls::Call;
+use calls::codes::BADGES;
 use journal::types::Read;
 
 // Every word stands where a call may be looked for, so each is read as one.
@@ -88,108 +89,65 @@ const ABORT_CUT: [u32; 1] = [0x1C40_0000];
 
 const GRANT_CUT: [u32; 1] = [0x1D03_0100];
 
-fn text(rt: &impl Print, bytes: &[u8]) {
-    let _ = rt.write_all(bytes);
-}
-
-fn number(rt: &impl Print, n: u32) {
-    let _ = print!(rt; "{n}");
-}
-
-fn place(rt: &impl Print, n: usize) {
-    let _ = print!(rt; "{n}");
-}
-
 // The numbers that a call carries, in order, with zeros for those that it has not.
-#[derive(Drop)]
-struct Quadruple {
-    first: u32,
-    second: u32,
-    third: u32,
-    fourth: u32,
-}
-
-fn four(first: u32, second: u32, third: u32, fourth: u32) -> Quadruple {
-    Quadruple {
-        first,
-        second,
-        third,
-        fourth,
-    }
-}
-
-fn numbers(call: Call) -> Quadruple {
+fn numbers(call: Call) -> [u32; 4] {
     match call {
-        Call::CreateThread { thread, priority } => four(thread, priority, 0, 0),
-        Call::DestroyThread { thread } => four(thread, 0, 0, 0),
-        Call::SetPriority { thread, priority } => four(thread, priority, 0, 0),
-        Call::CreateEndpoint { endpoint } => four(endpoint, 0, 0, 0),
-        Call::Interrupt { line } => four(line, 0, 0, 0),
-        Call::Tick => four(0, 0, 0, 0),
+        Call::CreateThread { thread, priority } => [thread, priority, 0, 0],
+        Call::DestroyThread { thread } => [thread, 0, 0, 0],
+        Call::SetPriority { thread, priority } => [thread, priority, 0, 0],
+        Call::CreateEndpoint { endpoint } => [endpoint, 0, 0, 0],
+        Call::Interrupt { line } => [line, 0, 0, 0],
+        Call::Tick => [0; 4],
         Call::Send {
             endpoint,
             badge,
             message,
-        } => four(endpoint, badge, message, 0),
-        Call::Receive { endpoint } => four(endpoint, 0, 0, 0),
-        Call::Yield => four(0, 0, 0, 0),
-        Call::Wait { line } => four(line, 0, 0, 0),
+        } => [endpoint, badge, message, 0],
+        Call::Receive { endpoint } => [endpoint, 0, 0, 0],
+        Call::Yield => [0; 4],
+        Call::Wait { line } => [line, 0, 0, 0],
         Call::Delete {
             endpoint,
             allowance,
-        } => four(endpoint, allowance, 0, 0),
+        } => [endpoint, allowance, 0, 0],
         Call::Abort {
             endpoint,
             allowance,
             badge,
-        } => four(endpoint, allowance, badge, 0),
+        } => [endpoint, allowance, badge, 0],
         Call::Grant {
             thread,
             endpoint,
             rights,
             badge,
-        } => four(thread, endpoint, rights, badge),
+        } => [thread, endpoint, rights, badge],
     }
 }
 
-fn show_number(rt: &impl Print, n: u32) {
-    text(rt, b" ");
-    number(rt, n);
-}
-
-fn show_call(rt: &impl Print, call: Call) {
-    show_number(rt, calls::number(call));
-    let n = numbers(call);
-    show_number(rt, n.first);
-    show_number(rt, n.second);
-    show_number(rt, n.third);
-    show_number(rt, n.fourth);
+fn show_numbers(rt: &impl Print, numbers: [u32; 4]) {
+    for n in numbers {
+        let _ = print!(rt; " {n}");
+    }
 }
 
 // The code, for a call its number and its numbers, and the place to go on from.
 fn show(rt: &impl Print, reading: Read) {
-    match reading {
+    let _ = match reading {
         Read::Found { call, next } => {
-            text(rt, b" 0");
-            show_call(rt, call);
-            text(rt, b" ");
-            place(rt, next);
+            let _ = print!(rt; " 0 {}", calls::number(call));
+            show_numbers(rt, numbers(call));
+            print!(rt; " {next}")
         }
-        Read::Refused { code, at } => {
-            show_number(rt, code);
-            text(rt, b" ");
-            place(rt, at);
-        }
-        Read::Ended => text(rt, b" ended"),
-    }
+        Read::Refused { code, at } => print!(rt; " {code} {at}"),
+        Read::Ended => print!(rt; " ended"),
+    };
 }
 
 // A line for what reads at a place.
 fn show_at(rt: &impl Print, journal: &[u32], at: usize) {
-    place(rt, at);
-    text(rt, b":");
+    let _ = print!(rt; "{at}:");
     show(rt, parsing::read(journal, at));
-    text(rt, b"\n");
+    let _ = println!(rt);
 }
 
 // What reads at each word, and at the two places past the last.
@@ -215,12 +173,8 @@ fn taken(top: u32, argument: u32) -> usize
 fn show_top(rt: &impl Print, top: u32, argument: u32)
     requires { (top < 256) × (argument < 2) }
 {
-    place(rt, taken(top, argument));
-    if top % 16 == 15 {
-        text(rt, b"\n");
-    } else {
-        text(rt, b" ");
-    }
+    let end = if top % 16 == 15 { '\n' } else { ' ' };
+    let _ = print!(rt; "{}{end}", taken(top, argument));
 }
 
 // All top bytes, a row for each value of the top four bits.
@@ -232,216 +186,132 @@ fn show_tops(rt: &impl Print, argument: u32)
     }
 }
 
-fn word(rt: &impl Print, w: u32) {
-    text(rt, b" ");
-    let _ = print!(rt; "{w:08x}");
+// A line: code, count and the three words.
+fn show_words(rt: &impl Print, code: u32, count: usize, words: [u32; 3]) {
+    let _ = print!(rt; "{code} {count}");
+    for w in words {
+        let _ = print!(rt; " {w:08x}");
+    }
+    let _ = println!(rt);
 }
 
-// A line for what a call is written as: code, count and the three words.
+// What a call is written as.
 fn show_written(rt: &impl Print, call: Call) {
-    let w = encoding::write(call);
-    number(rt, w.code);
-    text(rt, b" ");
-    place(rt, w.count);
-    let words = w.words;
-    word(rt, words[0]);
-    word(rt, words[1]);
-    word(rt, words[2]);
-    text(rt, b"\n");
+    match encoding::write(call) {
+        Ok(written) => {
+            let words = written.words;
+            show_words(rt, 0, written.count, words);
+        }
+        Err(why) => show_words(rt, why.into(), 0, [0; 3]),
+    }
+}
+
+fn show_each(rt: &impl Print, calls: &[Call]) {
+    for call in calls {
+        show_written(rt, *call);
+    }
 }
 
 fn write_threads(rt: &impl Print) {
-    show_written(
+    let create = |thread, priority| Call::CreateThread { thread, priority };
+    let set = |thread, priority| Call::SetPriority { thread, priority };
+    show_each(
         rt,
-        Call::CreateThread {
-            thread: 255,
-            priority: 255,
-        },
+        &[
+            create(255, 255),
+            create(255, 256),
+            create(256, 0),
+            Call::DestroyThread { thread: 255 },
+            Call::DestroyThread { thread: 256 },
+            set(255, 255),
+            set(0, 256),
+            Call::Tick,
+        ],
     );
-    show_written(
-        rt,
-        Call::CreateThread {
-            thread: 255,
-            priority: 256,
-        },
-    );
-    show_written(
-        rt,
-        Call::CreateThread {
-            thread: 256,
-            priority: 0,
-        },
-    );
-    show_written(rt, Call::DestroyThread { thread: 255 });
-    show_written(rt, Call::DestroyThread { thread: 256 });
-    show_written(
-        rt,
-        Call::SetPriority {
-            thread: 255,
-            priority: 255,
-        },
-    );
-    show_written(
-        rt,
-        Call::SetPriority {
-            thread: 0,
-            priority: 256,
-        },
-    );
-    show_written(rt, Call::Tick);
 }
 
 fn write_lines(rt: &impl Print) {
-    show_written(rt, Call::CreateEndpoint { endpoint: 63 });
-    show_written(rt, Call::CreateEndpoint { endpoint: 64 });
-    show_written(rt, Call::Interrupt { line: 31 });
-    show_written(rt, Call::Interrupt { line: 32 });
-    show_written(rt, Call::Receive { endpoint: 63 });
-    show_written(rt, Call::Receive { endpoint: 64 });
-    show_written(rt, Call::Wait { line: 31 });
-    show_written(rt, Call::Wait { line: 32 });
+    show_each(
+        rt,
+        &[
+            Call::CreateEndpoint { endpoint: 63 },
+            Call::CreateEndpoint { endpoint: 64 },
+            Call::Interrupt { line: 31 },
+            Call::Interrupt { line: 32 },
+            Call::Receive { endpoint: 63 },
+            Call::Receive { endpoint: 64 },
+            Call::Wait { line: 31 },
+            Call::Wait { line: 32 },
+        ],
+    );
 }
 
 // Badge and message 0, 2^28 - 1 and 2^28.
 fn write_sends(rt: &impl Print) {
-    show_written(rt, Call::Yield);
-    show_written(
+    let send = |endpoint, badge, message| Call::Send {
+        endpoint,
+        badge,
+        message,
+    };
+    show_each(
         rt,
-        Call::Send {
-            endpoint: 63,
-            badge: 0,
-            message: 0,
-        },
-    );
-    show_written(
-        rt,
-        Call::Send {
-            endpoint: 63,
-            badge: 0x0FFF_FFFF,
-            message: 0x0FFF_FFFF,
-        },
-    );
-    show_written(
-        rt,
-        Call::Send {
-            endpoint: 63,
-            badge: 0x1000_0000,
-            message: 0,
-        },
-    );
-    show_written(
-        rt,
-        Call::Send {
-            endpoint: 63,
-            badge: 0,
-            message: 0x1000_0000,
-        },
-    );
-    show_written(
-        rt,
-        Call::Send {
-            endpoint: 64,
-            badge: 0,
-            message: 0,
-        },
+        &[
+            Call::Yield,
+            send(63, 0, 0),
+            send(63, BADGES - 1, BADGES - 1),
+            send(63, BADGES, 0),
+            send(63, 0, BADGES),
+            send(64, 0, 0),
+        ],
     );
 }
 
 // Allowance 0, 1, 65,535 and 65,536.
 fn write_deletes(rt: &impl Print) {
-    show_written(
-        rt,
-        Call::Delete {
-            endpoint: 63,
-            allowance: 0,
-        },
-    );
-    show_written(
-        rt,
-        Call::Delete {
-            endpoint: 63,
-            allowance: 1,
-        },
-    );
-    show_written(
-        rt,
-        Call::Delete {
-            endpoint: 63,
-            allowance: 65535,
-        },
-    );
-    show_written(
-        rt,
-        Call::Delete {
-            endpoint: 63,
-            allowance: 65536,
-        },
-    );
-}
-
-fn show_grant(rt: &impl Print, thread: u32, endpoint: u32, rights: u32, badge: u32) {
-    show_written(
-        rt,
-        Call::Grant {
-            thread,
-            endpoint,
-            rights,
-            badge,
-        },
-    );
+    let delete = |allowance| Call::Delete {
+        endpoint: 63,
+        allowance,
+    };
+    show_each(rt, &[delete(0), delete(1), delete(65535), delete(65536)]);
 }
 
 fn write_aborts(rt: &impl Print) {
-    show_written(
+    let abort = |endpoint, allowance, badge| Call::Abort {
+        endpoint,
+        allowance,
+        badge,
+    };
+    show_each(
         rt,
-        Call::Abort {
-            endpoint: 63,
-            allowance: 1,
-            badge: 0,
-        },
-    );
-    show_written(
-        rt,
-        Call::Abort {
-            endpoint: 63,
-            allowance: 65535,
-            badge: 0x0FFF_FFFF,
-        },
-    );
-    show_written(
-        rt,
-        Call::Abort {
-            endpoint: 63,
-            allowance: 1,
-            badge: 0x1000_0000,
-        },
-    );
-    show_written(
-        rt,
-        Call::Abort {
-            endpoint: 63,
-            allowance: 0,
-            badge: 0,
-        },
-    );
-    show_written(
-        rt,
-        Call::Abort {
-            endpoint: 64,
-            allowance: 1,
-            badge: 0,
-        },
+        &[
+            abort(63, 1, 0),
+            abort(63, 65535, BADGES - 1),
+            abort(63, 1, BADGES),
+            abort(63, 0, 0),
+            abort(64, 1, 0),
+        ],
     );
 }
 
 // A badge with rights 0; then each number too large by one.
 fn write_grants(rt: &impl Print) {
-    show_grant(rt, 255, 63, 15, 0x0FFF_FFFF);
-    show_grant(rt, 0, 0, 0, 7);
-    show_grant(rt, 256, 0, 1, 0);
-    show_grant(rt, 0, 64, 1, 0);
-    show_grant(rt, 0, 0, 16, 0);
-    show_grant(rt, 0, 0, 0, 0x1000_0000);
+    let grant = |thread, endpoint, rights, badge| Call::Grant {
+        thread,
+        endpoint,
+        rights,
+        badge,
+    };
+    show_each(
+        rt,
+        &[
+            grant(255, 63, 15, BADGES - 1),
+            grant(0, 0, 0, 7),
+            grant(256, 0, 1, 0),
+            grant(0, 64, 1, 0),
+            grant(0, 0, 16, 0),
+            grant(0, 0, 0, BADGES),
+        ],
+    );
 }
 
 fn show_writing(rt: &impl Print) {
