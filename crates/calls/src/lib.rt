@@ -1,7 +1,7 @@
 // The thirteen calls and their answer. What the calls do, the queue machine, stands in crate machine.
 #![tactic(auto)]
 
-ghost use Rattle.std.specs.Prelude.{◌≡◌};
+ghost use Rattle.std.specs.Prelude.{◌≡◌, ◌&&◌, leb};
 ghost use Rattle.calls.specs.Calls.{number_of, is_allowance, in_range};
 ghost use Rattle.calls.specs.Answers.{plain, counted, code_of, code_in, accepted_as, answer_of, thread_of, seat};
 
@@ -218,6 +218,13 @@ pub fn number(c: Call) -> u32
             badge: _,
         } => 13,
     }
+}
+
+// Whether the call of this number is one that the running thread makes; the others are the host's.
+pub fn is_own(number: u32) -> bool
+    ensures { result ≡ (leb 7 number && leb number 12) }
+{
+    7 <= number && number <= 12
 }
 
 fn is_allowance(a: u32) -> bool
