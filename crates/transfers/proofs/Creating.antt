@@ -46,11 +46,10 @@ standing_chooses {s} e x M = record { running = λ t r. loose t r }
         }
 
 module _ {m : List ℕ} {e r : ℕ} (T : Tells m (IsEndpoint e) r (endpoint_in Part.Status e)) where
-  pub present_refused :
-      {a : Answer} → (r ≡ 0 → ⊥) → a ≡ plain 24 → Performs m m a (Asked (e ≤ 63)) (create_endpoint e)
+  pub present_refused : (r ≡ 0 → ⊥) → Performs m m (plain 24) (Asked (e ≤ 63)) (create_endpoint e)
   unfolding create_endpoint create_at
-  present_refused z k =
-      performs_as (refused 24 k) (λ s M h. go s (s.endpoints e).status (T.tells s M h.numbers))
+  present_refused z =
+      performs_as (refused 24 refl) (λ s M h. go s (s.endpoints e).status (T.tells s M h.numbers))
     where
       go : (s : State) (x : Status) → r ≡ status_code x
           → record { state = s; answer = plain 24; looks = [] } ≡ create_at x e s

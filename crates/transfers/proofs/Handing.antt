@@ -5,23 +5,24 @@ use mathlib.Core.Bool.{Bool, true, false}
 use mathlib.Core.Option.{Option}
 use mathlib.Core.List.{List}
 use native.Mathlib.Omega.{arith}
+use Rattle.std.specs.Prelude.{Ok, Err}
 use Rattle.calls.specs.declared.Answer.{Answer}
+use Rattle.calls.specs.declared.Refusal.{Refusal}
 use Rattle.machine.specs.Lists.{first}
 use Rattle.machine.specs.State.{State, Status, sending}
 use Rattle.machine.specs.Endpoints.{is_receiving, receivers, join_endpoint, wake_from, drop_debt}
 use Rattle.machine.specs.Results.{done}
-use Rattle.calls.specs.Answers.{plain}
+use Rattle.calls.specs.Answers.{code_of, plain}
 use Rattle.machine.specs.Machine.{send_to, send_unless, send_at, send}
 use Rattle.machine.specs.Sound.{Queued}
 use Rattle.machine.proofs.Preserved.Waking.{mid_wake_from}
-use Rattle.layout.specs.declared.Part.{Part}
-use Rattle.layout.specs.Words.{status_code}
 use Rattle.layout.specs.Shows.{Shows}
-use Rattle.store.specs.Steps.{Shown, Does, Tells}
+use Rattle.store.specs.Steps.{Shown, Does}
 use Rattle.store.specs.Store.{IsThread, IsEndpoint}
-use Rattle.store.specs.Readings.{endpoint_in}
 use Rattle.queues.specs.Queues.{Chooses, ToEndpoint, InEndpoint}
 use Rattle.debts.specs.Debts.{Says, under_in, FirstAt, first_receiver}
+use Rattle.endings.specs.Tests.{Tests, endpoint_open}
+use Rattle.endings.proofs.Tests.{shut_refused, open_live}
 use Rattle.endings.specs.Results.{Calling, Performs}
 use Rattle.endings.proofs.Ends.{refused, performs_as, performs_after}
 use Rattle.endings.proofs.Conditions.{mid_chooses, mid_alike, queued_waits}
@@ -30,7 +31,7 @@ use Rattle.transfers.specs.Transfers.{handing}
 use Rattle.queues.proofs.Joining.{shown_next}
 use Rattle.waiting.proofs.Callers.{dropped_mid, dropped_first}
 use Rattle.transfers.proofs.Firsts.{first_none, first_some, first_queued, kind_kept}
-use Rattle.transfers.proofs.Queueing.{is_missing_lem, is_closing_lem, is_live, queued}
+use Rattle.transfers.proofs.Queueing.{queued}
 
 -- The numbers of a send.
 abbrev pub Sent : ℕ → ℕ → ℕ → Type 0
@@ -87,35 +88,26 @@ module _ {m : List ℕ} {t e b x r : ℕ} (F : FirstAt m e (66 + e) r) where
           (sym (first_some (receivers s.threads (s.endpoints e).waiters) (link_is s M h) z)))
 
 -- The whole call.
-module _ {m : List ℕ} {t e b x r : ℕ} (T : Tells m (IsEndpoint e) r (endpoint_in Part.Status e)) where
-  status_is : (s : State) → Shows m s → Calling t (Sent e b x) s → r ≡ status_code (s.endpoints e).status
-  status_is s M h = T.tells s M h.numbers.0
-
-  pub send_missing : {a : Answer} → r ≡ 0 → a ≡ plain 23 → Performs m m a (Calling t (Sent e b x)) (send t e b x)
+module _ {m : List ℕ} {t e b x : ℕ} where
+  pub send_shut :
+      {why : Refusal} → Tests m (IsEndpoint e) (Err why) (endpoint_open e)
+      → Performs m m (plain (code_of why)) (Calling t (Sent e b x)) (send t e b x)
   unfolding send send_at
-  send_missing z k =
-      performs_as (refused 23 k)
-      (λ s M h. ap (λ (y : Status). send_at y t e b x s) (is_missing_lem (s.endpoints e).status (status_is s M h) z))
+  send_shut T = shut_refused (λ y. send_at y t e b x) (λ s h. h.numbers.0) (λ s. refl) T (λ s. refl)
 
-  pub send_closing : {a : Answer} → r ≡ 2 → a ≡ plain 25 → Performs m m a (Calling t (Sent e b x)) (send t e b x)
-  unfolding send send_at
-  send_closing z k =
-      performs_as (refused 25 k)
-      (λ s M h. ap (λ (y : Status). send_at y t e b x s) (is_closing_lem (s.endpoints e).status (status_is s M h) z))
-
-  module _ {u : Bool} (z : r ≡ 0 → ⊥) (y : r ≡ 2 → ⊥) (U : Says m (IsEndpoint e) u (under_in e b)) where
+  module _ {u : Bool} (T : Tests m (IsEndpoint e) (Ok tt) (endpoint_open e))
+      (U : Says m (IsEndpoint e) u (under_in e b)) where
     -- The endpoint is live, and u says whether the badge is under abort.
     send_is : (s : State) → Shows m s → Calling t (Sent e b x) s → send_unless u t e b x s ≡ send t e b x s
     unfolding send send_at
     send_is s M h =
         ap (λ (v : Bool). send_unless v t e b x s) (U.says s M h.numbers.0)
-        ∙ ap (λ (v : Status). send_at v t e b x s) (is_live (s.endpoints e).status (status_is s M h) z y)
+        ∙ ap (λ (v : Status). send_at v t e b x s) (open_live T s M h.numbers.0)
 
-    pub send_under :
-        {a : Answer} → u ≡ true → a ≡ plain 26 → Performs m m a (Calling t (Sent e b x)) (send t e b x)
+    pub send_under : u ≡ true → Performs m m (plain 26) (Calling t (Sent e b x)) (send t e b x)
     unfolding send_unless
-    send_under w k =
-        performs_as (refused 26 k) (λ s M h. ap (λ (v : Bool). send_unless v t e b x s) (sym w) ∙ send_is s M h)
+    send_under w =
+        performs_as (refused 26 refl) (λ s M h. ap (λ (v : Bool). send_unless v t e b x s) (sym w) ∙ send_is s M h)
 
     pub sent :
         {n o : List ℕ} {a : Answer} → u ≡ false → Does m n (IsThread t) (drop_debt t)

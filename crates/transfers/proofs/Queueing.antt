@@ -1,14 +1,13 @@
--- At an endpoint: its status, the caller that waits there, and the waiter that is woken.
+-- At an endpoint: the caller that waits there.
 use Prim.Native.Nat.{ℕ, ◌≤◌}
-use mathlib.Core.Path.{◌≡◌, refl}
+use mathlib.Core.Path.{◌≡◌}
 use mathlib.Core.List.{List}
-use native.Mathlib.Omega.{arith}
 use Rattle.calls.specs.declared.Answer.{Answer}
-use Rattle.machine.specs.State.{State, Place, Status, missing, live, closing}
+use Rattle.machine.specs.State.{State, Place}
 use Rattle.machine.specs.Scheduling.{block}
 use Rattle.machine.specs.Endpoints.{join_endpoint}
 use Rattle.machine.specs.Results.{blocked}
-use Rattle.layout.specs.Words.{place_code, status_code}
+use Rattle.layout.specs.Words.{place_code}
 use Rattle.store.specs.Steps.{Shown, Does}
 use Rattle.store.specs.Store.{IsThread}
 use Rattle.queues.specs.Queues.{ToEndpoint}
@@ -19,23 +18,6 @@ use Rattle.endings.proofs.Conditions.{running_comes, mid_alike}
 use Rattle.waiting.specs.Waiting.{Dropped, Suspends}
 use Rattle.queues.proofs.Joining.{shown_next}
 use Rattle.waiting.proofs.Callers.{calling_thread, dropped_mid, dropped_runs}
-
--- The statuses by their numbers.
-
-pub is_missing_lem : {r : ℕ} (x : Status) → r ≡ status_code x → r ≡ 0 → missing ≡ x
-is_missing_lem missing k z = refl
-is_missing_lem live k z = absurd (omega arith)
-is_missing_lem closing k z = absurd (omega arith)
-
-pub is_closing_lem : {r : ℕ} (x : Status) → r ≡ status_code x → r ≡ 2 → closing ≡ x
-is_closing_lem missing k z = absurd (omega arith)
-is_closing_lem live k z = absurd (omega arith)
-is_closing_lem closing k z = refl
-
-pub is_live : {r : ℕ} (x : Status) → r ≡ status_code x → (r ≡ 0 → ⊥) → (r ≡ 2 → ⊥) → live ≡ x
-is_live missing k z y = absurd (z k)
-is_live live k z y = refl
-is_live closing k z y = absurd (y k)
 
 -- The caller comes to endpoint e, whose waiters are alike.
 module _ {t e : ℕ} {N : Type 0} (n : N → e ≤ 63) where

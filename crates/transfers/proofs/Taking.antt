@@ -4,31 +4,33 @@ use mathlib.Core.Path.{◌≡◌, refl, sym, ◌∙◌, ap}
 use mathlib.Core.Option.{Option}
 use mathlib.Core.List.{List, []}
 use native.Mathlib.Omega.{arith}
+use Rattle.std.specs.Prelude.{Ok, Err}
 use Rattle.calls.specs.declared.Answer.{Answer}
+use Rattle.calls.specs.declared.Refusal.{Refusal}
 use Rattle.machine.specs.Lists.{first}
 use Rattle.machine.specs.State.{State, Status, receiving}
 use Rattle.machine.specs.Endpoints.{is_sending, senders, join_endpoint, wake_from, drop_debt}
-use Rattle.calls.specs.Answers.{plain, receipt}
+use Rattle.calls.specs.Answers.{code_of, plain, receipt}
 use Rattle.machine.specs.Machine.{receive_from, receive_at, receive}
 use Rattle.machine.proofs.Preserved.Waking.{mid_wake_from}
 use Rattle.layout.specs.declared.Field.{Field}
-use Rattle.layout.specs.declared.Part.{Part}
-use Rattle.layout.specs.Words.{status_code}
 use Rattle.layout.specs.Shows.{Shows}
 use Rattle.store.specs.Steps.{Shown, Does, Tells}
 use Rattle.store.specs.Store.{IsThread, IsEndpoint}
-use Rattle.store.specs.Readings.{endpoint_in, thread_in}
+use Rattle.store.specs.Readings.{thread_in}
 use Rattle.queues.specs.Queues.{Chooses, ToEndpoint, InEndpoint}
 use Rattle.debts.specs.Debts.{FirstAt, first_sender}
+use Rattle.endings.specs.Tests.{Tests, endpoint_open}
+use Rattle.endings.proofs.Tests.{shut_refused, open_live}
 use Rattle.endings.specs.Results.{Calling, Performs, Accepts}
-use Rattle.endings.proofs.Ends.{refused, performs_as, performs_for, shown_for}
+use Rattle.endings.proofs.Ends.{performs_as, performs_for, shown_for}
 use Rattle.endings.proofs.Conditions.{mid_chooses, mid_alike, queued_waits, queued_present, present_thread_lem}
 use Rattle.waiting.specs.Waiting.{Dropped, Suspends}
 use Rattle.transfers.specs.Transfers.{TakesFrom, taking, taking_from}
 use Rattle.queues.proofs.Joining.{shown_next}
 use Rattle.waiting.proofs.Callers.{dropped_mid, dropped_first}
 use Rattle.transfers.proofs.Firsts.{first_none, first_some, first_queued, kind_kept}
-use Rattle.transfers.proofs.Queueing.{is_missing_lem, is_closing_lem, is_live, queued}
+use Rattle.transfers.proofs.Queueing.{queued}
 
 -- From a sender u.
 module _ {u e : ℕ} where
@@ -105,28 +107,20 @@ module _ {m : List ℕ} {t e r : ℕ} (F : FirstAt m e (2 + e) r) where
         (sym (first_some (senders s.threads (s.endpoints e).waiters) (link_is s M h) z)))
 
 -- The whole call.
-module _ {m : List ℕ} {t e r : ℕ} (T : Tells m (IsEndpoint e) r (endpoint_in Part.Status e)) where
-  status_is : (s : State) → Shows m s → Calling t (e ≤ 63) s → r ≡ status_code (s.endpoints e).status
-  status_is s M h = T.tells s M h.numbers
-
-  pub receive_missing : {a : Answer} → r ≡ 0 → a ≡ plain 23 → Performs m m a (Calling t (e ≤ 63)) (receive t e)
+module _ {m : List ℕ} {t e : ℕ} where
+  pub receive_shut :
+      {why : Refusal} → Tests m (IsEndpoint e) (Err why) (endpoint_open e)
+      → Performs m m (plain (code_of why)) (Calling t (e ≤ 63)) (receive t e)
   unfolding receive receive_at
-  receive_missing z k =
-      performs_as (refused 23 k)
-      (λ s M h. ap (λ (y : Status). receive_at y t e s) (is_missing_lem (s.endpoints e).status (status_is s M h) z))
-
-  pub receive_closing : {a : Answer} → r ≡ 2 → a ≡ plain 25 → Performs m m a (Calling t (e ≤ 63)) (receive t e)
-  unfolding receive receive_at
-  receive_closing z k =
-      performs_as (refused 25 k)
-      (λ s M h. ap (λ (y : Status). receive_at y t e s) (is_closing_lem (s.endpoints e).status (status_is s M h) z))
+  receive_shut T = shut_refused (λ y. receive_at y t e) (λ s h. h.numbers) (λ s. refl) T (λ s. refl)
 
   pub receive_live :
-      {n o : List ℕ} {a : Answer} → (r ≡ 0 → ⊥) → (r ≡ 2 → ⊥) → Does m n (IsThread t) (drop_debt t)
-      → Performs n o a (Dropped t (e ≤ 63)) (taking t e) → Performs m o a (Calling t (e ≤ 63)) (receive t e)
+      {n o : List ℕ} {a : Answer} → Tests m (IsEndpoint e) (Ok tt) (endpoint_open e)
+      → Does m n (IsThread t) (drop_debt t) → Performs n o a (Dropped t (e ≤ 63)) (taking t e)
+      → Performs m o a (Calling t (e ≤ 63)) (receive t e)
   unfolding receive receive_at
-  receive_live z y D H =
+  receive_live T D H =
       performs_as (dropped_first D H)
       (λ s M h.
       ap (λ (l : List ℕ). receive_from (first l) t e (drop_debt t s)) (kind_kept is_sending e t s)
-      ∙ ap (λ (v : Status). receive_at v t e s) (is_live (s.endpoints e).status (status_is s M h) z y))
+      ∙ ap (λ (v : Status). receive_at v t e s) (open_live T s M h.numbers))

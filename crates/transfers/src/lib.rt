@@ -3,33 +3,34 @@
 #![tactic(auto)]
 
 ghost use Rattle.std.specs.Prelude.{◌≤◌, ◌<◌, ◌^◌};
+ghost use Rattle.calls.specs.Answers.{answer_of};
 ghost use Rattle.machine.specs.Machine.{create_endpoint, send as sending, receive as receiving};
 ghost use Rattle.store.specs.Steps.{Shown};
 ghost use Rattle.endings.specs.Results.{Asked, Calling, Performs};
 ghost use Rattle.waiting.specs.Waiting.{Dropped};
 ghost use Rattle.transfers.specs.Transfers.{TakesFrom, handing, taking, taking_from};
 
-use calls::Answer;
+use calls::{Accepted, Outcome, Refusal};
 use layout::codes::{LINK, NOBODY};
 use layout::{Field, Part, codes};
 
 // 4: endpoint e, which is absent, is made. An absent one has no waiter and no abort, so only the status changes.
-pub fn create_endpoint(tables: &mut [u32], e: usize) -> Answer
+pub fn create_endpoint(tables: &mut [u32], e: usize) -> Outcome
     requires { Shown tables.old (Asked (e ≤ 63)) }
-    ensures { Performs tables.old tables.new result (Asked (e ≤ 63)) (create_endpoint e) }
+    ensures { Performs tables.old tables.new (answer_of result) (Asked (e ≤ 63)) (create_endpoint e) }
 {
     let status = store::endpoint(tables, Part::Status, e);
     if status != codes::MISSING {
-        return calls::plain(calls::codes::ENDPOINT_PRESENT);
+        return Err(Refusal::EndpointPresent);
     }
     store::set_status(tables, e, codes::LIVE);
     endings::done(tables)
 }
 
 // The message goes to the first receiver at endpoint e; without one the caller t waits there to send it.
-fn hand(tables: &mut [u32], t: usize, e: usize, badge: u32, message: u32) -> Answer
+fn hand(tables: &mut [u32], t: usize, e: usize, badge: u32, message: u32) -> Outcome
     requires { Shown tables.old (Dropped t ((e ≤ 63) × (badge < 2 ^ 28) × (message < 2 ^ 28))) }
-    ensures { Performs tables.old tables.new result
+    ensures { Performs tables.old tables.new (answer_of result)
         (Dropped t ((e ≤ 63) × (badge < 2 ^ 28) × (message < 2 ^ 28))) (handing t e badge message) }
 {
     let link = debts::first_at(tables, e, codes::RECEIVING + e as u32);
@@ -43,47 +44,35 @@ fn hand(tables: &mut [u32], t: usize, e: usize, badge: u32, message: u32) -> Ans
 }
 
 // 7: the running thread t sends to endpoint e.
-pub fn send(tables: &mut [u32], t: usize, e: usize, badge: u32, message: u32) -> Answer
+pub fn send(tables: &mut [u32], t: usize, e: usize, badge: u32, message: u32) -> Outcome
     requires { Shown tables.old (Calling t ((e ≤ 63) × (badge < 2 ^ 28) × (message < 2 ^ 28))) }
-    ensures { Performs tables.old tables.new result
+    ensures { Performs tables.old tables.new (answer_of result)
         (Calling t ((e ≤ 63) × (badge < 2 ^ 28) × (message < 2 ^ 28))) (sending t e badge message) }
 {
-    let status = store::endpoint(tables, Part::Status, e);
-    if status == codes::MISSING {
-        return calls::plain(calls::codes::ENDPOINT_ABSENT);
-    }
-    if status == codes::CLOSING {
-        return calls::plain(calls::codes::ENDPOINT_CLOSING);
-    }
+    endings::endpoint_open(tables, e)?;
     let under = debts::under_abort(tables, e, badge);
     if under {
-        return calls::plain(calls::codes::BADGE_ABORTED);
+        return Err(Refusal::BadgeAborted);
     }
     debts::drop_debt(tables, t);
     hand(tables, t, e, badge, message)
 }
 
 // The message of sender u, who waits at endpoint e, is taken; its badge and message are read before it is woken.
-fn take_from(tables: &mut [u32], e: usize, u: usize) -> Answer
+fn take_from(tables: &mut [u32], e: usize, u: usize) -> Outcome
     requires { Shown tables.old (TakesFrom u e) }
-    ensures { Performs tables.old tables.new result (TakesFrom u e) (taking_from e u) }
+    ensures { Performs tables.old tables.new (answer_of result) (TakesFrom u e) (taking_from e u) }
 {
     let badge = store::thread(tables, Field::Badge, u);
     let message = store::thread(tables, Field::Message, u);
     endpoint_queues::wake_from(tables, e, u, calls::codes::MESSAGE_TAKEN, 0, 0);
-    let answer = Answer {
-        code: calls::codes::DONE,
-        count: 0,
-        badge,
-        message,
-    };
-    endings::accept(tables, answer)
+    endings::accept(tables, Accepted::Received { badge, message })
 }
 
 // The message of the first sender at endpoint e is taken; without one the caller t waits there to receive.
-fn take(tables: &mut [u32], t: usize, e: usize) -> Answer
+fn take(tables: &mut [u32], t: usize, e: usize) -> Outcome
     requires { Shown tables.old (Dropped t (e ≤ 63)) }
-    ensures { Performs tables.old tables.new result (Dropped t (e ≤ 63)) (taking t e) }
+    ensures { Performs tables.old tables.new (answer_of result) (Dropped t (e ≤ 63)) (taking t e) }
 {
     let link = debts::first_at(tables, e, codes::SENDING + e as u32);
     if link == NOBODY {
@@ -94,17 +83,11 @@ fn take(tables: &mut [u32], t: usize, e: usize) -> Answer
 }
 
 // 8: the running thread t receives from endpoint e.
-pub fn receive(tables: &mut [u32], t: usize, e: usize) -> Answer
+pub fn receive(tables: &mut [u32], t: usize, e: usize) -> Outcome
     requires { Shown tables.old (Calling t (e ≤ 63)) }
-    ensures { Performs tables.old tables.new result (Calling t (e ≤ 63)) (receiving t e) }
+    ensures { Performs tables.old tables.new (answer_of result) (Calling t (e ≤ 63)) (receiving t e) }
 {
-    let status = store::endpoint(tables, Part::Status, e);
-    if status == codes::MISSING {
-        return calls::plain(calls::codes::ENDPOINT_ABSENT);
-    }
-    if status == codes::CLOSING {
-        return calls::plain(calls::codes::ENDPOINT_CLOSING);
-    }
+    endings::endpoint_open(tables, e)?;
     debts::drop_debt(tables, t);
     take(tables, t, e)
 }

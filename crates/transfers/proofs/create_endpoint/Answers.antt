@@ -4,7 +4,7 @@ use Rattle.transfers.proofs.create_endpoint.Goals as goal
 
 pub returns-then-status-ne-MISSING : goal.returns-then-status-ne-MISSING
 returns-then-status-ne-MISSING c =
-    present_refused c.endpoint-status.ensures c.if-status-ne-MISSING.true c.plain.ensures
+    present_refused c.endpoint-status.ensures c.if-status-ne-MISSING.true
 
 pub done-requires : goal.done-requires
 done-requires c =

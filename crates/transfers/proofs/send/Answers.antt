@@ -1,25 +1,25 @@
 -- Refused by the status and by the abort, in that order; else the debt goes and the message is handed over.
+use Rattle.endings.proofs.Tests.{passed_on}
 use Rattle.waiting.proofs.Callers.{thread_asked, dropped_asked}
-use Rattle.transfers.proofs.Handing.{send_missing, send_closing, send_under, sent}
+use Rattle.transfers.proofs.Handing.{send_shut, send_under, sent}
 use Rattle.transfers.proofs.send.Goals as goal
 
-pub returns-then-status-eq-MISSING : goal.returns-then-status-eq-MISSING
-returns-then-status-eq-MISSING c = search send_missing depth 9
-
-pub returns-then-status-eq-CLOSING : goal.returns-then-status-eq-CLOSING
-returns-then-status-eq-CLOSING c = search send_closing depth 9
+pub returns-in_err-endpoint_open : goal.returns-in_err-endpoint_open
+returns-in_err-endpoint_open c =
+    passed_on c.from_residual.result _ c.from_residual.ensures.1 (send_shut c.in_err-endpoint_open.ensures)
 
 pub returns-then-under : goal.returns-then-under
 returns-then-under c =
-    send_under c.endpoint-status.ensures c.if-status-eq-MISSING.false c.if-status-eq-CLOSING.false
-    c.under_abort-under.ensures c.if-under.true c.plain-then-under.ensures
+    send_under c.in_ok-endpoint_open.ensures c.under_abort-under.ensures c.if-under.true
 
 pub drop_debt-requires : goal.drop_debt-requires
-drop_debt-requires c = search thread_asked depth 9
+drop_debt-requires c = thread_asked c.requires
 
 pub hand-requires : goal.hand-requires
 hand-requires c =
     dropped_asked c.drop_debt.ensures c.requires
 
 pub returns : goal.returns
-returns c = search sent depth 9
+returns c =
+    sent c.in_ok-endpoint_open.ensures c.under_abort-under.ensures c.if-under.false c.drop_debt.ensures
+    c.hand.ensures
