@@ -1,36 +1,14 @@
 -- The tests of a thread's block, as the code takes them: by the values read.
-use Prim.Native.Nat.{ℕ, zero, suc, ◌+◌, ◌-◌, ◌≤◌, ◌<◌, ◌^◌}
+use Prim.Native.Nat.{ℕ, zero, suc, ◌-◌, ◌≤◌, ◌<◌, ◌^◌}
 use mathlib.Core.Bool.{Bool, true, false, ◌&&◌}
 use mathlib.Core.List.{List}
 use mathlib.Core.Path.{◌≡◌, refl, ap, sym, ◌∙◌}
-use native.Mathlib.Numerals.{add-two}
 use native.Mathlib.Omega.{arith}
 use lib.Dec.{eqb, leb, ltb}
-use borrow.Author.Tests.{lt-ltb, le-ltb, eq-eqb, ne_eqb, leb-true}
+use borrow.Author.Tests.{lt-ltb, le-ltb, leb-true}
 use Rattle.layout.specs.declared.Field.{Field}
 use Rattle.layout.specs.declared.Part.{Part}
-use Rattle.layout.specs.declared.Slot.{Slot}
-use Rattle.layout.specs.Addresses.{at, word}
-use Rattle.soundness.specs.Checks.{thread_at, endpoint_at, numbers_test, stored_test, waits_test, owes_test}
-use Rattle.soundness.specs.Checks.{absent_test}
-use Rattle.soundness.specs.Checks.{present_test, block_test}
-
-module _ (m : List ℕ) (t : ℕ) {p : ℕ} (is : p ≡ thread_at m Field.Place t) where
-  pub waits_not : p < 130 → true ≡ waits_test m t
-  unfolding waits_test
-  waits_not h = rw (← is, lt-ltb p 130 h)
-
-  pub waits_line : {w : ℕ} → 130 ≤ p → w ≡ word m (at (Slot.Line (p - 130))) → eqb w (t + 2) ≡ waits_test m t
-  unfolding waits_test
-  waits_line {w} h e = rw (← is, le-ltb p 130 h, ← e, add-two)
-
-  pub block_absent : {r : Bool} → p ≡ 0 → r ≡ absent_test m t → r ≡ block_test m t
-  unfolding block_test
-  block_absent h e = rw (← is, eq-eqb p 0 h) e
-
-  pub block_present : {r : Bool} → (p ≡ 0 → ⊥) → r ≡ present_test m t → r ≡ block_test m t
-  unfolding block_test
-  block_present h e = rw (← is, ne_eqb p 0 h) e
+use Rattle.soundness.specs.Checks.{thread_at, endpoint_at, numbers_test, owes_test}
 
 module _ (m : List ℕ) (t : ℕ) {n : ℕ} (noted : n ≡ thread_at m Field.Note t) where
   owes_zero : (w : ℕ) → w ≡ 0 → eqb n 0 ≡ owes_test w m t
@@ -70,17 +48,6 @@ and_left true b e = refl
 and_left false b e = e
 
 module _ (m : List ℕ) (t : ℕ) {n : Bool} (numbers : n ≡ numbers_test m t) where
-  pub present_not : n ≡ false → false ≡ present_test m t
-  unfolding present_test
-  present_not h = rw (← numbers, h)
-
-  pub present_all :
-      {s w o : Bool} → n ≡ true → s ≡ stored_test m t → w ≡ waits_test m t → o
-      ≡ owes_test (thread_at m Field.Owes t) m t
-      → ((s && w) && o) ≡ present_test m t
-  unfolding present_test
-  present_all h e f g = rw (← numbers, h, e, f, g)
-
   pub place_small : n ≡ true → thread_at m Field.Place t ≤ 161
   unfolding numbers_test
   place_small h =

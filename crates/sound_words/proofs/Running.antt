@@ -5,14 +5,15 @@ use mathlib.Core.List.{List}
 use mathlib.Core.Path.{◌≡◌, refl, ap, sym, ◌∙◌, fun_ext}
 use native.Mathlib.Omega.{arith}
 use lib.Dec.{eqb, leb}
-use borrow.Author.Tests.{eq-eqb, ne_eqb, le-leb, lt-leb}
+use borrow.Author.Tests.{le-leb, lt-leb, leb-true, leb-false}
+use Rattle.std.specs.List.{list_all, range_with_len}
 use Rattle.layout.specs.declared.Field.{Field}
 use Rattle.layout.specs.declared.Slot.{Slot}
 use Rattle.layout.specs.declared.Link.{Link}
 use Rattle.layout.specs.Addresses.{at, link_at, word}
 use Rattle.layout.specs.Tests.{all}
 use Rattle.soundness.specs.Checks.{thread_at, line_from, line_test, occupied_at, running_from, running_test}
-use Rattle.soundness.proofs.Every.{one_fails}
+use Rattle.soundness.proofs.Every.{one_fails, turned}
 
 -- Lines
 
@@ -55,18 +56,35 @@ abbrev pub lower : List ℕ → ℕ → ℕ → Bool
 lower m p i = leb i p || not (occupied_at m i)
 
 module _ (m : List ℕ) (p : ℕ) where
-  pub lower_self : (i : ℕ) → i < p + 1 → lower m p i ≡ true
-  lower_self i h = rw (le-leb i p (omega arith))
+  -- The level above i is not occupied.
+  abbrev pub empty : ℕ → Bool
+  empty i = eqb (word m (link_at (Link.Head (i + 1)))) 0
 
-  pub lower_empty : (i : ℕ) {h : ℕ} → h ≡ word m (link_at (Link.Head i)) → h ≡ 0 → lower m p i ≡ true
-  lower_empty i e z = rw (eq-eqb (word m (link_at (Link.Head i))) 0 (sym e ∙ z)) (go (leb i p))
+  higher : (n : ℕ) → list_all empty (range_with_len p (n - p)) ≡ all (suc n) (lower m p)
+  unfolding all
+  higher zero = let e : 0 - p ≡ 0 = omega arith in rw (e, le-leb 0 p (omega arith))
+  higher (suc n) = go (leb (suc n) p) refl (higher n)
     where
-      go : (b : Bool) → (b || true) ≡ true
-      go true = refl
-      go false = refl
+      twice : (b : Bool) → not (not b) ≡ b
+      twice true = refl
+      twice false = refl
 
-  pub lower_not : (i : ℕ) {h : ℕ} → p < i → h ≡ word m (link_at (Link.Head i)) → (h ≡ 0 → ⊥) → lower m p i ≡ false
-  lower_not i l e n = rw (lt-leb i p l, ne_eqb (word m (link_at (Link.Head i))) 0 (λ z. n (e ∙ z)))
+      go : (b : Bool) → leb (suc n) p ≡ b → list_all empty (range_with_len p (n - p)) ≡ all (suc n) (lower m p)
+          → list_all empty (range_with_len p (suc n - p)) ≡ lower m p (suc n) && all (suc n) (lower m p)
+      go true h below =
+          let l = leb-true (suc n) p h in
+          let e : suc n - p ≡ 0 = omega arith in
+          let f : n - p ≡ 0 = omega arith in
+          rw (h, e) (rw f at below)
+      go false h below =
+          let l = leb-false (suc n) p h in
+          let e : suc n - p ≡ suc (n - p) = omega arith in
+          let f : p + (n - p) ≡ n = omega arith in
+          let g : n + 1 ≡ suc n = omega arith in
+          rw (h, e, turned empty p (n - p), f, g, twice (eqb (word m (link_at (Link.Head (suc n)))) 0), below)
+
+  pub above_is : {r : Bool} → r ≡ list_all empty (range_with_len p (255 - p)) → r ≡ all 256 (lower m p)
+  above_is e = e ∙ higher 255
 
 -- No level is occupied: not the lowest, and none above it.
 idle : (m : List ℕ) {h : ℕ} → h ≡ word m (link_at (Link.Head 0))

@@ -25,14 +25,12 @@ fn word(tables: &[u32], w: usize) -> usize
     requires { (length tables.now ≡ table_words) × (w ≤ 7) }
     ensures { result ≡ word_of (occupied_at tables.now) w }
 {
-    let mut k = 0;
     let mut bit: usize = 1;
     let mut sum: usize = 0;
-    while k < LEVELS_IN_WORD {
+    for k in 0..LEVELS_IN_WORD {
         let p = LEVELS_IN_WORD * w + k;
         sum += share(words::wide_link(tables, Link::Head(p)), bit);
         bit += bit;
-        k += 1;
     }
     sum
 }
@@ -41,17 +39,15 @@ pub fn summary(tables: &[u32]) -> bool
     requires { length tables.now ≡ table_words }
     ensures { result ≡ summary_test tables.now }
 {
-    let mut w = 0;
     let mut bit: usize = 1;
     let mut sum: usize = 0;
-    while w < WORDS {
+    for w in 0..WORDS {
         let word = word(tables, w);
         if words::wide(tables, Slot::Summary(w)) != word {
             return false;
         }
         sum += share(word, bit);
         bit += bit;
-        w += 1;
     }
     words::wide(tables, Slot::Top) == sum
 }
@@ -61,14 +57,7 @@ fn above(tables: &[u32], p: usize) -> bool
     requires { length tables.now ≡ table_words }
     ensures { result ≡ all 256 (λ i. leb i p || not (occupied_at tables.now i)) }
 {
-    let mut i = p;
-    while i < wide::LAST_PRIORITY {
-        i += 1;
-        if words::wide_link(tables, Link::Head(i)) != wide::NOBODY {
-            return false;
-        }
-    }
-    true
+    (p..wide::LAST_PRIORITY).all(|i| words::wide_link(tables, Link::Head(i + 1)) == wide::NOBODY)
 }
 
 pub fn running(tables: &[u32]) -> bool

@@ -26,14 +26,7 @@ pub fn lines(tables: &[u32]) -> bool
     requires { length tables.now ≡ table_words }
     ensures { result ≡ all 32 (line_test tables.now) }
 {
-    let mut l = 0;
-    while l < LINES {
-        if !line(tables, l) {
-            return false;
-        }
-        l += 1;
-    }
-    true
+    (0..LINES).all(|l| line(tables, l))
 }
 
 // The unused words are 0.
@@ -41,12 +34,5 @@ pub fn unused(tables: &[u32]) -> bool
     requires { length tables.now ≡ table_words }
     ensures { result ≡ all 534 (unused_test tables.now) }
 {
-    let mut i = 0;
-    while i < UNUSED_WORDS {
-        if words::wide(tables, Slot::Unused(i)) != 0 {
-            return false;
-        }
-        i += 1;
-    }
-    true
+    (0..UNUSED_WORDS).all(|i| words::wide(tables, Slot::Unused(i)) == 0)
 }

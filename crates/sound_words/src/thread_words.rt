@@ -11,6 +11,7 @@ use calls::sizes::THREADS;
 use layout::{Field, Part, Slot, wide};
 
 // An absent thread's words are 0.
+#[tactic(auto, unfolding(soundness::specs::Checks::absent_test))]
 fn absent(tables: &[u32], t: usize) -> bool
     requires { (length tables.now ≡ table_words) × (t ≤ 255) }
     ensures { result ≡ absent_test tables.now t }
@@ -25,6 +26,7 @@ fn absent(tables: &[u32], t: usize) -> bool
 }
 
 // A present thread's numbers are in range.
+#[tactic(auto, unfolding(soundness::specs::Checks::numbers_test))]
 fn numbers(tables: &[u32], t: usize) -> bool
     requires { (length tables.now ≡ table_words) × (t ≤ 255) }
     ensures { result ≡ numbers_test tables.now t }
@@ -39,6 +41,7 @@ fn numbers(tables: &[u32], t: usize) -> bool
 }
 
 // Outcome, badge and message stand only where a thread stores them.
+#[tactic(auto, unfolding(soundness::specs::Checks::stored_test))]
 fn stored(tables: &[u32], t: usize) -> bool
     requires { (length tables.now ≡ table_words) × (t ≤ 255) }
     ensures { result ≡ stored_test tables.now t }
@@ -54,6 +57,7 @@ fn stored(tables: &[u32], t: usize) -> bool
 }
 
 // A thread on a line is the line's waiter.
+#[tactic(auto, unfolding(soundness::specs::Checks::waits_test))]
 fn waits(tables: &[u32], t: usize) -> bool
     requires { (length tables.now ≡ table_words) × (t ≤ 255) × (thread_at tables.now Field.Place t ≤ 161) }
     ensures { result ≡ waits_test tables.now t }
@@ -84,6 +88,7 @@ fn owing(tables: &[u32], t: usize) -> bool
 }
 
 // A present thread. Where its numbers are in range, its line exists.
+#[tactic(auto, using(crate::proofs::Numbers::place_small), unfolding(soundness::specs::Checks::present_test))]
 fn present(tables: &[u32], t: usize) -> bool
     requires { (length tables.now ≡ table_words) × (t ≤ 255) }
     ensures { result ≡ present_test tables.now t }
@@ -94,6 +99,7 @@ fn present(tables: &[u32], t: usize) -> bool
     stored(tables, t) & waits(tables, t) & owing(tables, t)
 }
 
+#[tactic(auto, unfolding(soundness::specs::Checks::block_test))]
 fn block(tables: &[u32], t: usize) -> bool
     requires { (length tables.now ≡ table_words) × (t ≤ 255) }
     ensures { result ≡ block_test tables.now t }
@@ -108,12 +114,5 @@ pub fn threads(tables: &[u32]) -> bool
     requires { length tables.now ≡ table_words }
     ensures { result ≡ all 256 (block_test tables.now) }
 {
-    let mut t = 0;
-    while t < THREADS {
-        if !block(tables, t) {
-            return false;
-        }
-        t += 1;
-    }
-    true
+    (0..THREADS).all(|t| block(tables, t))
 }

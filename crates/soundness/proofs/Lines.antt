@@ -17,7 +17,6 @@ use Rattle.layout.specs.declared.Slot.{Slot}
 use Rattle.layout.specs.Addresses.{at, word}
 use Rattle.layout.specs.Words.{link_of, first_of, line_code}
 use Rattle.layout.specs.Decode.{line_by}
-use Rattle.layout.proofs.RoundTrip.{line_small}
 use Rattle.layout.proofs.Tests.{Decides, tells_true, tells_false, tells_map, tells_and, tells_or, tells_eqb, tells_leb}
 use Rattle.layout.proofs.Tests.{tells_below}
 use Rattle.soundness.specs.Checks.{thread_at, line_from, line_test, occupied_at, summary_test, running_from}

@@ -1,13 +1,11 @@
-use native.Mathlib.Omega.{arith}
-use borrow.Author.Rules.{rules}
-use Rattle.soundness.proofs.Every.{all_hold, one_fails}
-use Rattle.sound_words.proofs.Running.{lower, lower_not}
+use Rattle.std.proofs.Common.{rules, refl}
+use Rattle.std.proofs.lemmas.Iterator.{YieldsList-from_range}
+use Rattle.std.proofs.lemmas.Iterator.Search.{all_from_yields_List}
+use Rattle.sound_words.proofs.Running.{empty, above_is}
 use Rattle.sound_words.proofs.chosen.above.Goals as goal
 
-pub returns-then-wide_link-ne-NOBODY : goal.returns-then-wide_link-ne-NOBODY
-returns-then-wide_link-ne-NOBODY c =
-    one_fails (lower _ _) 256 _ (search rules) (lower_not _ _ _ (search rules) c.wide_link.ensures
-    c.if-wide_link-ne-NOBODY.true)
-
 pub returns : goal.returns
-returns c = all_hold (lower _ _) 256 (λ k l. c.loop-i.invariant.1 k (omega arith))
+returns c =
+    above_is _ c.args.p
+    (all_from_yields_List (empty _ c.args.p) _ _ _ c.all.ensures.ran (YieldsList-from_range c.args.p 255 _ refl refl)
+    (λ x b q k. search rules))

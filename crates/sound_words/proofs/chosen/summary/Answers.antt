@@ -1,28 +1,27 @@
 use borrow.Author.Count.{below_none, below_more}
-use borrow.Author.Rules.{rules}
+use native.Mathlib.Omega.{arith}
 use Rattle.sound_words.proofs.Summing.{summary_bad, summary_is, share_of, agree}
 use Rattle.sound_words.proofs.Summing.{summed_none, summed_more}
 use Rattle.sound_words.proofs.chosen.summary.Goals as goal
 
 pub loop-w-init : goal.loop-w-init
-loop-w-init c = (search rules, summed_none _, below_none _)
+loop-w-init c = (summed_none _, below_none _)
 
 pub returns-then-wide-word : goal.returns-then-wide-word
 returns-then-wide-word c =
-    summary_bad _ _ c.loop-w-test.true c.word-word.ensures c.wide.ensures
+    summary_bad _ c.loop-w.w (omega arith) c.word-word.ensures c.wide.ensures
     c.if-wide-word.true
 
 pub loop-w-preserved : goal.loop-w-preserved
 loop-w-preserved c = (
-  search rules,
-  summed_more _ _ c.loop-w.invariant.1
+  summed_more _ _ c.loop-w.invariant.0
       (share_of c.loop-w.bit c.word-word.ensures c.share-sum.ensures),
   below_more _ _
-      c.loop-w.invariant.2
+      c.loop-w.invariant.1
       (agree _ _ c.word-word.ensures c.wide.ensures c.if-wide-word.false),
 )
 
 pub returns : goal.returns
 returns c =
-    summary_is _ _ c.loop-w.invariant.0 c.loop-w-test.false c.loop-w.invariant.1
-    c.loop-w.invariant.2 c.wide-2.ensures
+    summary_is _ c.loop-w.w (omega arith) (omega arith) c.loop-w.invariant.0
+    c.loop-w.invariant.1 c.wide-2.ensures

@@ -1,12 +1,9 @@
-use mathlib.Core.Path.{sym, ◌∙◌}
-use native.Mathlib.Omega.{arith}
-use borrow.Author.Rules.{rules}
+use Rattle.std.proofs.Common.{rules, arith, refl}
+use Rattle.std.proofs.lemmas.Iterator.{YieldsList-from_range}
 use Rattle.soundness.specs.Checks.{line_test}
-use Rattle.soundness.proofs.Every.{all_hold, one_fails}
+use Rattle.soundness.proofs.Every.{tried}
 use Rattle.sound_words.proofs.rest.lines.Goals as goal
 
-pub returns-then-not-line : goal.returns-then-not-line
-returns-then-not-line c = one_fails (line_test _) 32 _ (search rules) (sym c.line.ensures ∙ c.if-not-line.true)
-
 pub returns : goal.returns
-returns c = all_hold (line_test _) 32 (λ k l. c.loop-l.invariant.1 k (omega arith))
+returns c = tried (line_test _) 32 _ _ c.all.ensures.ran (YieldsList-from_range 0 32 32 refl (omega arith))
+    (λ x b q k. search rules)
