@@ -7,7 +7,7 @@ use native.Mathlib.Numerals.{add-one}
 use native.Mathlib.Omega.{arith}
 use lib.Dec.{eqb, leb}
 use lib.ListN.{length}
-use borrow.Author.Tests.{eq-eqb, ne_eqb, le-leb, lt-leb}
+use borrow.Author.Tests.{le-leb, lt-leb}
 use Rattle.layout.specs.declared.Field.{Field}
 use Rattle.layout.specs.declared.Part.{Part}
 use Rattle.layout.specs.declared.Link.{Link}
@@ -24,22 +24,6 @@ use Rattle.sound_queues.proofs.Walking.{met_done}
 use Rattle.sound_queues.proofs.Walking.{met_below_lem}
 
 -- The phases of the code
-
-pub enter_in : (f : Phase) (c y : ℕ) → f ≡ Phase.Ahead → y ≡ c → Phase.Inside ≡ phase_at f c y
-unfolding phase_at
-enter_in f c y e h = rw (e, eq-eqb y c h)
-
-pub enter_not : (f : Phase) (c y : ℕ) → f ≡ Phase.Ahead → (y ≡ c → ⊥) → Phase.Ahead ≡ phase_at f c y
-unfolding phase_at
-enter_not f c y e h = rw (e, ne_eqb y c h)
-
-pub leave_out : (f : Phase) (d y : ℕ) → f ≡ Phase.Inside → y ≡ d → Phase.Past ≡ phase_behind f d y
-unfolding phase_behind
-leave_out f d y e h = rw (e, eq-eqb y d h)
-
-pub leave_not : (f : Phase) (d y : ℕ) → f ≡ Phase.Inside → (y ≡ d → ⊥) → Phase.Inside ≡ phase_behind f d y
-unfolding phase_behind
-leave_not f d y e h = rw (e, ne_eqb y d h)
 
 -- What holds at the head of the walk's loop: it is at link y, behind x, in phase f, with some turns left.
 pub record WaitersAt (m : List ℕ) (e k c d b : ℕ) (before after : List ℕ) (f : Phase) (x y left : ℕ) : Type 0 where

@@ -9,7 +9,7 @@ ghost use Rattle.soundness.specs.Checks.{status_test, endpoint_test, met, met_be
 ghost use Rattle.sound_queues.specs.Steps.{stands_behind, waiters_as, kind_fits};
 ghost use Rattle.sound_queues.specs.Met.{met_in, Follows, FollowsAll};
 
-use calls::sizes::ENDPOINTS;
+use calls::sizes::{ENDPOINTS, THREADS};
 use layout::codes::ENDPOINT_QUEUES;
 use layout::{Field, Link, Part, wide};
 use soundness::Phase;
@@ -101,8 +101,7 @@ fn waiters(tables: &[u32], scratch: &mut [u32], e: usize, k: usize) -> bool
     let mut f = Phase::Ahead;
     let mut x: usize = wide::NOBODY;
     let mut y = words::wide_link(tables, Link::Head(q));
-    let mut left: usize = 257;
-    while 0 < left {
+    for _ in 0..THREADS + 1 {
         if y == wide::NOBODY {
             return (words::wide_link(tables, Link::Tail(q)) == x)
                 & crate::phases::complete(f, cursor);
@@ -119,7 +118,6 @@ fn waiters(tables: &[u32], scratch: &mut [u32], e: usize, k: usize) -> bool
         f = crate::phases::leave(here, end, y);
         x = y;
         y = words::wide_link(tables, Link::Next(t));
-        left -= 1;
     }
     false
 }
@@ -151,12 +149,10 @@ pub fn endpoints(tables: &[u32], scratch: &mut [u32]) -> bool
     ensures { FollowsAll scratch.new (met_below 320 tables.now)
         (all 64 (endpoint_test tables.now)) result }
 {
-    let mut e = 0;
-    while e < ENDPOINTS {
+    for e in 0..ENDPOINTS {
         if !endpoint(tables, scratch, e) {
             return false;
         }
-        e += 1;
     }
     true
 }

@@ -7,7 +7,7 @@ ghost use Rattle.soundness.specs.Checks.{level_test, met, met_below};
 ghost use Rattle.sound_queues.specs.Steps.{ready_behind};
 ghost use Rattle.sound_queues.specs.Met.{met_in, Follows, FollowsAll};
 
-use calls::sizes::LEVELS;
+use calls::sizes::{LEVELS, THREADS};
 use layout::{Field, Link, Slot, wide};
 
 // Thread t, met behind link x in the queue of level p: it is linked back, and ready at p.
@@ -29,8 +29,7 @@ fn level(tables: &[u32], scratch: &mut [u32], p: usize) -> bool
 {
     let mut x: usize = wide::NOBODY;
     let mut y = words::wide_link(tables, Link::Head(p));
-    let mut left: usize = 257;
-    while 0 < left {
+    for _ in 0..THREADS + 1 {
         if y == wide::NOBODY {
             return words::wide_link(tables, Link::Tail(p)) == x;
         }
@@ -44,7 +43,6 @@ fn level(tables: &[u32], scratch: &mut [u32], p: usize) -> bool
         crate::met::meet(scratch, t);
         x = y;
         y = words::wide_link(tables, Link::Next(t));
-        left -= 1;
     }
     false
 }
@@ -55,12 +53,10 @@ pub fn levels(tables: &[u32], scratch: &mut [u32]) -> bool
     ensures { FollowsAll scratch.new (met_below 256 tables.now)
         (all 256 (level_test tables.now)) result }
 {
-    let mut p = 0;
-    while p < LEVELS {
+    for p in 0..LEVELS {
         if !level(tables, scratch, p) {
             return false;
         }
-        p += 1;
     }
     true
 }

@@ -7,49 +7,37 @@ use layout::wide;
 use soundness::Phase;
 
 // The phase at link y, where the cursor is c.
+#[tactic(auto, unfolding(soundness::specs::Checks::phase_at))]
 pub fn enter(f: Phase, c: usize, y: usize) -> Phase
     ensures { result ≡ phase_at f c y }
 {
     match f {
-        Phase::Ahead => {
-            if y == c {
-                return Phase::Inside;
-            }
-            Phase::Ahead
-        }
-        Phase::Inside => Phase::Inside,
-        Phase::Past => Phase::Past,
+        Phase::Ahead if y == c => Phase::Inside,
+        _ => f,
     }
 }
 
 // The phase behind link y, where the end mark is d.
+#[tactic(auto, unfolding(soundness::specs::Checks::phase_behind))]
 pub fn leave(f: Phase, d: usize, y: usize) -> Phase
     ensures { result ≡ phase_behind f d y }
 {
     match f {
-        Phase::Ahead => Phase::Ahead,
-        Phase::Inside => {
-            if y == d {
-                return Phase::Past;
-            }
-            Phase::Inside
-        }
-        Phase::Past => Phase::Past,
+        Phase::Inside if y == d => Phase::Past,
+        _ => f,
     }
 }
 
 // Whether a waiter under badge w may stand here, where the aborted badge is b.
+#[tactic(auto, unfolding(soundness::specs::Checks::allowed))]
 pub fn allowed(f: Phase, b: usize, w: usize) -> bool
     ensures { result ≡ allowed f b w }
 {
-    match f {
-        Phase::Ahead => w != b,
-        Phase::Inside => true,
-        Phase::Past => w != b,
-    }
+    matches!(f, Phase::Inside) || w != b
 }
 
 // At the end of the queue both marks have been met, or there are none.
+#[tactic(auto, unfolding(soundness::specs::Checks::complete))]
 pub fn complete(f: Phase, c: usize) -> bool
     ensures { result ≡ complete f c }
 {

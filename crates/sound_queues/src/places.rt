@@ -29,12 +29,5 @@ pub fn places(tables: &[u32], scratch: &[u32]) -> bool
         × (scratch.now ≡ met_in (met_below 320 tables.now)) }
     ensures { result ≡ all 256 (placed_test tables.now) }
 {
-    let mut t = 0;
-    while t < THREADS {
-        if !place(tables, scratch, t) {
-            return false;
-        }
-        t += 1;
-    }
-    true
+    (0..THREADS).all(|t| place(tables, scratch, t))
 }

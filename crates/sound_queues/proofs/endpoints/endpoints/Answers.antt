@@ -1,7 +1,6 @@
 use mathlib.Core.Path.{sym, ◌∙◌}
 use native.Mathlib.Omega.{arith}
 use borrow.Author.Count.{below_more}
-use borrow.Author.Rules.{rules}
 use Rattle.soundness.specs.Checks.{endpoint_test}
 use Rattle.soundness.proofs.Every.{all_hold, one_fails}
 use Rattle.sound_queues.proofs.Waiting.{endpoint_more, walks_failed, walks_all}
@@ -9,20 +8,19 @@ use Rattle.sound_queues.proofs.endpoints.endpoints.Goals as goal
 
 pub returns-then-not-endpoint : goal.returns-then-not-endpoint
 returns-then-not-endpoint c =
-    walks_failed (one_fails (endpoint_test _) 64 _ (search rules)
+    walks_failed (one_fails (endpoint_test _) 64 _ (omega arith)
     (sym c.endpoint.ensures.is ∙ c.if-not-endpoint.true))
 
 pub loop-e-preserved : goal.loop-e-preserved
 loop-e-preserved c = (
-  search rules,
-  c.endpoint.auto.scratch ∙ c.loop-e.invariant.1,
+  c.endpoint.auto.scratch ∙ c.loop-e.invariant.0,
   endpoint_more _ _
-      c.endpoint.ensures c.if-not-endpoint.false c.loop-e.invariant.2,
+      c.endpoint.ensures c.if-not-endpoint.false c.loop-e.invariant.1,
   below_more _ _
-      c.loop-e.invariant.3 (sym c.endpoint.ensures.is ∙ c.if-not-endpoint.false),
+      c.loop-e.invariant.2 (sym c.endpoint.ensures.is ∙ c.if-not-endpoint.false),
 )
 
 pub returns : goal.returns
 returns c =
-    walks_all _ _ 320 c.loop-e.invariant.2 (omega arith)
-    (all_hold (endpoint_test _) 64 (λ k l. c.loop-e.invariant.3 k (omega arith)))
+    walks_all _ _ 320 c.loop-e.invariant.1 (omega arith)
+    (all_hold (endpoint_test _) 64 (λ k l. c.loop-e.invariant.2 k (omega arith)))

@@ -1,5 +1,5 @@
 -- All endpoints. The loop's invariant: those below e pass, and whom they have was met.
-use Prim.Native.Nat.{ℕ, ◌≤◌, ◌<◌, ◌-◌}
+use Prim.Native.Nat.{ℕ, ◌<◌}
 use mathlib.Core.Bool.{true}
 use mathlib.Core.Path.{◌≡◌}
 use lib.ListN.{length}
@@ -10,8 +10,5 @@ use Rattle.sound_queues.proofs.endpoints.endpoints.Given as goal
 
 abbrev pub invariant-loop-e : goal.invariant-loop-e
 invariant-loop-e l =
-    (l.e ≤ 64) × (length l.scratch ≡ 256) × (l.scratch ≡ met_in (met_below (endpoint_queue l.e) l.tables))
+    (length l.scratch ≡ 256) × (l.scratch ≡ met_in (met_below (endpoint_queue l.e) l.tables))
     × ((k : ℕ) → k < l.e → endpoint_test l.tables k ≡ true)
-
-abbrev pub decreases-loop-e : goal.decreases-loop-e
-decreases-loop-e l = 64 - l.e

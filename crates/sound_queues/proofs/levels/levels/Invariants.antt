@@ -1,5 +1,5 @@
 -- All levels. The loop's invariant: those below p pass, and whom they have was met.
-use Prim.Native.Nat.{ℕ, ◌≤◌, ◌<◌, ◌-◌}
+use Prim.Native.Nat.{ℕ, ◌<◌}
 use mathlib.Core.Bool.{true}
 use mathlib.Core.Path.{◌≡◌}
 use lib.ListN.{length}
@@ -9,8 +9,5 @@ use Rattle.sound_queues.proofs.levels.levels.Given as goal
 
 abbrev pub invariant-loop-p : goal.invariant-loop-p
 invariant-loop-p l =
-    (l.p ≤ 256) × (length l.scratch ≡ 256) × (l.scratch ≡ met_in (met_below l.p l.tables))
+    (length l.scratch ≡ 256) × (l.scratch ≡ met_in (met_below l.p l.tables))
     × ((k : ℕ) → k < l.p → level_test l.tables k ≡ true)
-
-abbrev pub decreases-loop-p : goal.decreases-loop-p
-decreases-loop-p l = 256 - l.p
