@@ -1,4 +1,4 @@
--- The words of the summary: reading them one by one, storing the two that a mark changes, and what a mark does.
+-- The words of the summary: reading them, storing the two that a mark changes, and what a mark does.
 use Prim.Native.Nat.{ℕ, ◌+◌, ◌*◌, ◌/◌, ◌≤◌, ◌<◌}
 use mathlib.Core.Path.{◌≡◌, sym, ◌∙◌, ap}
 use mathlib.Core.Bool.{Bool}
@@ -23,34 +23,16 @@ use Rattle.store.proofs.Words.{Stored, stored}
 pub shown_words : (m : List ℕ) (s : State) → Shows m s → SummaryWords m (occupied_in s)
 shown_words m s M = record { words = λ w h. M.slots (Slot.Summary w) h; top = M.slots Slot.Top tt }
 
--- The first w words of the summary are read.
-pub record ReadTo (m row : List ℕ) (w : ℕ) : Type 0 where
-  pub long : length row ≡ 8
-  pub small : w ≤ 8
-  pub words : (k : ℕ) → k < w → get_or row k 0 ≡ word m (at (Slot.Summary k))
-
-pub read_none : (m row : List ℕ) → length row ≡ 8 → ReadTo m row 0
-read_none m row l = record { long = l; small = omega arith; words = λ k h. absurd (omega arith) }
-
-pub read_more :
-    (m row : List ℕ) (w v : ℕ) → ReadTo m row w → w < 8 → v ≡ word m (at (Slot.Summary w))
-    → ReadTo m (set row w v) (w + 1)
-read_more m row w v R h e =
-    record { long = length-set row w v ∙ R.long; small = omega arith; words = λ k g. go k g (same? k w) }
-  where
-    go : (k : ℕ) → k < w + 1 → Same k w → get_or (set row w v) k 0 ≡ word m (at (Slot.Summary k))
-    go k g (same j _) = rw j (get_or-set_same row w v 0 (omega (arith, R.long)) ∙ e)
-    go k g (other d _) = get_or-set_other row w k v 0 d ∙ R.words k (omega arith)
-
+-- The words of the summary are read, each of its place.
 pub loads :
-    (m row : List ℕ) (w v : ℕ) → ReadTo m row w → 8 ≤ w → v ≡ word m (at Slot.Top)
-    → LoadsSummary m (record { words = row; top = v })
-loads m row w v R h e = record { loaded = is; shown = λ s M. is (occupied_in s) (shown_words m s M) }
+    (m row : List ℕ) (v : ℕ) → length row ≡ 8 → ((k : ℕ) → k < 8 → get_or row k 0 ≡ word m (at (Slot.Summary k)))
+    → v ≡ word m (at Slot.Top) → LoadsSummary m (record { words = row; top = v })
+loads m row v long R e = record { loaded = is; shown = λ s M. is (occupied_in s) (shown_words m s M) }
   where
     is : (f : ℕ → Bool) → SummaryWords m f → ◌≡◌ {A = Summary} (record { words = row; top = v }) (summary_of f)
     is f S =
         summary_is (record { words = row; top = v }) f
-        (words_are f row R.long (λ k g. R.words k (omega arith) ∙ S.words k (omega arith)))
+        (words_are f row long (λ k g. R k (omega arith) ∙ S.words k (omega arith)))
         (e ∙ S.top)
 
 -- The two stores of a mark.

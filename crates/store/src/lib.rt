@@ -13,6 +13,7 @@ ghost use Rattle.store.specs.Readings.{slot_in, thread_in, endpoint_in, line_in,
 ghost use Rattle.store.specs.Levels.{LoadsSummary, SetsLevel, WritesLevel};
 
 use layout::{Field, Part, Slot, codes};
+use std::array;
 use summary::Summary;
 
 // A word that is no link.
@@ -167,16 +168,9 @@ pub fn load_summary(tables: &[u32]) -> Summary
     requires { length tables.now ≡ table_words }
     ensures { LoadsSummary tables.now result }
 {
-    let mut row = [0u32; summary::WORDS];
-    let mut w = 0;
-    while w < summary::WORDS {
-        row[w] = words::get(tables, Slot::Summary(w));
-        w += 1;
-    }
-    let top = words::get(tables, Slot::Top);
     Summary {
-        words: row,
-        top: top,
+        words: array::from_fn(|w| words::get(tables, Slot::Summary(w))),
+        top: words::get(tables, Slot::Top),
     }
 }
 
@@ -186,8 +180,7 @@ fn store_level(tables: &mut [u32], sm: Summary, p: u32)
     ensures { WritesLevel tables.old sm p tables.new }
 {
     let w = (p / 32) as usize;
-    let row = sm.words;
-    let word = row[w];
+    let word = sm.words[w];
     words::put(tables, Slot::Summary(w), word);
     words::put(tables, Slot::Top, sm.top);
 }
