@@ -22,28 +22,25 @@ pub struct Block {
     pub note: u32,
 }
 
-// The block with a tick less; at 0 it has all again.
-fn ticked(b: Block) -> Block
-    ensures { result ≡ ticked_block b }
-{
-    let ticks = if b.ticks < 2 { TICKS } else { b.ticks - 1 };
-    Block {
-        place: b.place,
-        priority: b.priority,
-        ticks: ticks,
-        outcome: b.outcome,
-        badge: b.badge,
-        message: b.message,
-        owes: b.owes,
-        note: b.note,
+impl Block {
+    // The block with a tick less; at 0 it has all again.
+    fn ticked(self) -> Self
+        ensures { result ≡ ticked_block self }
+    {
+        let ticks = if self.ticks < 2 {
+            TICKS
+        } else {
+            self.ticks - 1
+        };
+        Block { ticks, ..self }
     }
-}
 
-// A tick changes the block where it is lent.
-pub fn tick(b: &mut Block)
-    ensures { b.new ≡ ticked_block b.old }
-{
-    *b = ticked(*b);
+    // A tick changes the block where it is lent.
+    pub fn tick(&mut self)
+        ensures { self.new ≡ ticked_block self.old }
+    {
+        *self = self.ticked();
+    }
 }
 
 // The block is lent to the tick. Whoever calls this holds no reference to a struct.
@@ -51,7 +48,7 @@ pub fn lend_to_tick(block: Block) -> Block
     ensures { result ≡ ticked_block block }
 {
     let mut lent = block;
-    tick(&mut lent);
+    lent.tick();
     lent
 }
 
@@ -60,23 +57,15 @@ pub fn load(tables: &[u32], t: usize) -> Block
     requires { Shown tables.now (IsThread t) }
     ensures { LoadsBlock tables.now t result }
 {
-    let place = store::thread(tables, Field::Place, t);
-    let priority = store::thread(tables, Field::Priority, t);
-    let ticks = store::thread(tables, Field::Ticks, t);
-    let outcome = store::thread(tables, Field::Outcome, t);
-    let badge = store::thread(tables, Field::Badge, t);
-    let message = store::thread(tables, Field::Message, t);
-    let owes = store::thread(tables, Field::Owes, t);
-    let note = store::thread(tables, Field::Note, t);
     Block {
-        place: place,
-        priority: priority,
-        ticks: ticks,
-        outcome: outcome,
-        badge: badge,
-        message: message,
-        owes: owes,
-        note: note,
+        place: store::thread(tables, Field::Place, t),
+        priority: store::thread(tables, Field::Priority, t),
+        ticks: store::thread(tables, Field::Ticks, t),
+        outcome: store::thread(tables, Field::Outcome, t),
+        badge: store::thread(tables, Field::Badge, t),
+        message: store::thread(tables, Field::Message, t),
+        owes: store::thread(tables, Field::Owes, t),
+        note: store::thread(tables, Field::Note, t),
     }
 }
 
