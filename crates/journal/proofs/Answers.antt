@@ -1,22 +1,18 @@
 -- What the calls above rest on: a number that is no one-word call's, and what a part of the journal holds.
-use mathlib.Core.Path.{◌≡◌, refl, sym, ap, ◌∙◌}
-use mathlib.Core.Bool.{true}
+use mathlib.Core.Path.{◌≡◌, refl}
 use mathlib.Core.List.{List, []}
 use mathlib.Core.Logic.{◌≢◌}
-use mathlib.Core.Option.{Option, none, some}
+use mathlib.Core.Option.{Option, none}
 use Prim.Native.Nat.{ℕ, ◌+◌, ◌-◌, ◌^◌, ◌/◌, ◌%◌, ◌<◌}
 use native.Mathlib.Omega.{arith}
 use native.Mathlib.Numerals.{add-one}
 use lib.ListN.{length, get_or, take, drop, length-drop}
 use lib.Seq.{drop-cons, take_all}
 use Rattle.calls.specs.declared.Call.{Call}
-use Rattle.calls.specs.declared.Call.TheVariants.{Send, Abort, Grant}
-use Rattle.calls.specs.Calls.{in_range}
-use Rattle.journal.specs.Words.{top_byte, words_taken, unused, number_in, send_of, abort_of, grant_of}
+use Rattle.journal.specs.Words.{top_byte, words_taken}
 use Rattle.journal.specs.Words.{call_of, call_at, judged, read_from, read_at}
 use Rattle.journal.proofs.Numbers.{by_number}
 use Rattle.journal.proofs.Options.{unused_none, unused_both_none}
-use Rattle.journal.proofs.Naming.{NumbersFit, in_range_fits}
 
 -- a number that is none of a one-word call, as the last arm of a match on them knows it
 abbrev pub Other : ℕ → Type 0

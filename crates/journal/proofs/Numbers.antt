@@ -3,7 +3,7 @@ use mathlib.Core.Path.{◌≡◌}
 use mathlib.Core.Bool.{Bool, true, false, ◌&&◌, and-false}
 use Prim.Native.Nat.{ℕ, zero, suc, ◌≤◌, ◌<◌}
 use native.Mathlib.Omega.{arith}
-use borrow.Author.Tests.{ne_eqb, le-leb, lt-leb}
+use borrow.Author.Tests.{ne_eqb, lt-leb}
 use lib.Dec.{eqb, leb}
 use Rattle.machine.specs.Lists.{pick}
 use Rattle.journal.specs.Words.{words_taken}
@@ -39,15 +39,6 @@ by_number P p0 p1 p2 p3 p4 p5 p6 p7 p8 p9 p10 p11 p12 p13 more
 pub taken_low : (top : ℕ) → top < 17 → words_taken top ≡ 0
 unfolding words_taken
 taken_low top h = simp (ne_eqb top 0x17 (omega arith), lt-leb 0x1C top (omega arith), lt-leb 0x11 top h)
-
-pub taken_one : (top : ℕ) → 17 ≤ top → top < 28 → (top ≡ 23 → ⊥) → words_taken top ≡ 1
-unfolding words_taken
-taken_one top l h n =
-    simp (ne_eqb top 0x17 n, lt-leb 0x1C top (omega arith), le-leb 0x11 top l, le-leb top 0x1B (omega arith))
-
-pub taken_two : (top : ℕ) → 28 ≤ top → top < 30 → words_taken top ≡ 2
-unfolding words_taken
-taken_two top l h = simp (ne_eqb top 0x17 (omega arith), le-leb 0x1C top l, le-leb top 0x1D (omega arith))
 
 pub taken_high : (top : ℕ) → 29 < top → words_taken top ≡ 0
 unfolding words_taken

@@ -4,7 +4,7 @@ use mathlib.Core.Bool.{Bool, true, false}
 use mathlib.Core.List.{List, [], ◌∷◌}
 use mathlib.Core.Logic.{◌⊎◌, inl, inr, ◌≢◌}
 use mathlib.Core.Option.{Option, none, some, none-ne-some, some-injective}
-use Prim.Native.Nat.{ℕ, zero, suc, ◌+◌, ◌*◌, ◌^◌, ◌%◌, ◌≤◌, ◌<◌}
+use Prim.Native.Nat.{ℕ, zero, suc, ◌+◌, ◌*◌, ◌^◌, ◌%◌, ◌<◌}
 use native.Mathlib.Omega.{arith}
 use borrow.Author.Tests.{eqb-true, eq-eqb, ne_eqb}
 use lib.Dec.{eqb}
@@ -71,22 +71,9 @@ number_some k (w ∷ l) n e = go (eqb (top_bits w) k) refl e
         (omega arith, ap (λ (x : ℕ). x ∷ l) is)
     go false t e' = absurd (none-ne-some n e')
 
-pub number_missing : (k : ℕ) (l : List ℕ) → length l ≡ 0 → number_in k l ≡ none
-number_missing k [] h = refl
-number_missing k (w ∷ l) h = absurd (omega arith)
-
-pub number_first :
-    (k : ℕ) (l : List ℕ) → length l ≢ 0 → top_bits (get_or l 0 0) ≡ k → number_in k l ≡ some (get_or l 0 0 % 2 ^ 28)
-number_first k [] h t = absurd (h refl)
-number_first k (w ∷ l) h t = rw (eq-eqb (top_bits w) k t)
-
 pub number_other : (k : ℕ) (l : List ℕ) → top_bits (get_or l 0 0) ≢ k → number_in k l ≡ none
 number_other k [] h = refl
 number_other k (w ∷ l) h = rw (ne_eqb (top_bits w) k h)
-
-pub number_there : (k : ℕ) (l : List ℕ) (n : ℕ) → number_in k l ≡ some n → 1 ≤ length l
-number_there k [] n e = let z : ◌≡◌ {A = ℕ} 0 1 = cc in absurd (omega arith)
-number_there k (w ∷ l) n e = omega arith
 
 pub number_which : (k : ℕ) (l : List ℕ) → number_in k l ≡ none → (length l ≡ 0) ⊎ (top_bits (get_or l 0 0) ≢ k)
 number_which k [] e = inl refl
