@@ -1,3 +1,4 @@
 -- The calls and their answers.
 pub mod Calls
 pub mod Answers
+pub mod Numbers

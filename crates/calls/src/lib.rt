@@ -3,6 +3,7 @@
 
 ghost use Rattle.std.specs.Prelude.{◌≡◌, ◌&&◌, leb};
 ghost use Rattle.calls.specs.Calls.{number_of, is_allowance, in_range};
+ghost use Rattle.calls.specs.Numbers.{four, answer_in};
 ghost use Rattle.calls.specs.Answers.{plain, counted, code_of, code_in, accepted_as, answer_of, thread_of, seat};
 
 pub mod codes;
@@ -65,6 +66,27 @@ pub struct Answer {
     pub count: u32,
     pub badge: u32,
     pub message: u32,
+}
+
+impl From<Answer> for [u32; 4] {
+    ghost from_gives = { λ answer numbers. numbers ≡ four answer };
+
+    fn from(answer: Answer) -> [u32; 4] {
+        [answer.code, answer.count, answer.badge, answer.message]
+    }
+}
+
+impl From<[u32; 4]> for Answer {
+    ghost from_gives = { λ numbers answer. answer ≡ answer_in numbers };
+
+    fn from([code, count, badge, message]: [u32; 4]) -> Answer {
+        Answer {
+            code,
+            count,
+            badge,
+            message,
+        }
+    }
 }
 
 // Why a call or an entry is refused: each has its code. The causes are tried in this order, but for the last three.
