@@ -2,10 +2,11 @@
 // fails is never taken for the end of the input: what was made of half a journal would look like the whole.
 #![tactic(auto)]
 
-ghost use Rattle.std.specs.Prelude.{◌<◌, ◌≡◌, false, length, take, true};
-ghost use Rattle.std.specs.Io.KnownBytes.{Appends, Consumes, IsAtEnd};
-ghost use Rattle.files.specs.Counts.{IsPrefixLen};
+ghost use Rattle.std.specs.Prelude.{◌<◌, ◌≡◌, length, take, IfOk, OnOk};
+ghost use Rattle.std.specs.Io.KnownBytes.{Appends, Consumes, IsAtEnd, ReadConsumes};
+ghost use Rattle.files.specs.Counts.{IsPrefixLen, came};
 
+use std::io;
 use std::io::{Read, Stderr, Stdin, Stdout, Write};
 
 #[cfg(test)]
@@ -19,11 +20,10 @@ pub struct Streams<R, W, E> {
     pub errors: E,
 }
 
-// So many bytes were read, to the front of a buffer, and whether a read failed after them.
-#[derive(Clone, Copy)]
-pub struct Input {
-    pub used: usize,
-    pub failed: bool,
+// A read failed after so many bytes.
+#[derive(Clone, Copy, Debug, PartialEq, Eq)]
+pub struct ReadFailed {
+    pub after: usize,
 }
 
 // The process's own.
@@ -35,67 +35,62 @@ pub fn standard(rt: &HostRuntime) -> Streams<Stdin, Stdout, Stderr> {
     }
 }
 
-pub fn complain<R, W, E: Write>(s: &mut Streams<R, W, E>, text: &[u8])
+pub fn complain<R, W, E: Write>(s: &mut Streams<R, W, E>, text: &[u8]) -> io::Result<()>
     ensures input { s.new.input ≡ s.old.input }
     ensures output { s.new.output ≡ s.old.output }
+    ensures said { OnOk result (Appends (E.contents s.old.errors) (E.contents s.new.errors) text.now) }
 {
-    let _ = s.errors.write_all(text);
+    s.errors.write_all(text)
 }
 
-// Writes all of it; whether it could.
-pub fn show<R, W: Write, E: Write>(s: &mut Streams<R, W, E>, text: &[u8]) -> bool
+// Writes all of it, or says that it could not.
+pub fn show<R, W: Write, E: Write>(s: &mut Streams<R, W, E>, text: &[u8]) -> io::Result<()>
     ensures input { s.new.input ≡ s.old.input }
-    ensures shown { result ≡ true → Appends (W.contents s.old.output) (W.contents s.new.output) text.now }
+    ensures shown { OnOk result (Appends (W.contents s.old.output) (W.contents s.new.output) text.now) }
+    ensures quiet { OnOk result (s.new.errors ≡ s.old.errors) }
 {
-    let shown = s.output.write_all(text).is_ok();
-    if !shown {
-        complain(s, b"nazsombet: standard output could not be written\n");
+    let shown = s.output.write_all(text);
+    if shown.is_err() {
+        let _ = complain(s, b"nazsombet: standard output could not be written\n");
     }
     shown
 }
 
-// Reads once, what is there: no bytes at the end of the input or where the read fails.
-pub fn part<R: Read, W, E: Write>(s: &mut Streams<R, W, E>, buf: &mut [u8]) -> Input
-    ensures prefix { IsPrefixLen result.used buf.new }
+// Reads once, what is there: no bytes at the end of the input.
+pub fn part<R: Read, W, E: Write>(s: &mut Streams<R, W, E>, buf: &mut [u8]) -> io::Result<usize>
+    ensures prefix { IfOk result (λ n. IsPrefixLen n buf.new) }
     ensures output { s.new.output ≡ s.old.output }
-    ensures bytes { Consumes (R.remaining s.old.input) (R.remaining s.new.input) (take result.used buf.new) }
-    ensures end { result.used ≡ 0 → result.failed ≡ false → 0 < length buf.old → IsAtEnd (R.remaining s.new.input) }
+    ensures bytes { ReadConsumes (R.remaining s.old.input) (R.remaining s.new.input) result buf.new }
+    ensures quiet { OnOk result (s.new.errors ≡ s.old.errors) }
 {
-    match s.input.read(buf) {
-        Ok(used) => Input {
-            used,
-            failed: false,
-        },
-        Err(_) => {
-            complain(s, b"nazsombet: standard input could not be read\n");
-            Input {
-                used: 0,
-                failed: true,
-            }
-        }
+    let got = s.input.read(buf);
+    if got.is_err() {
+        let _ = complain(s, b"nazsombet: standard input could not be read\n");
     }
+    got
 }
 
 // Reads to the end of the input or of the buffer.
-pub fn whole<R: Read, W, E: Write>(s: &mut Streams<R, W, E>, buf: &mut [u8]) -> Input
-    ensures prefix { IsPrefixLen result.used buf.new }
+pub fn whole<R: Read, W, E: Write>(
+    s: &mut Streams<R, W, E>,
+    buf: &mut [u8],
+) -> Result<usize, ReadFailed>
+    ensures prefix { IsPrefixLen (came result) buf.new }
     ensures output { s.new.output ≡ s.old.output }
-    ensures bytes { Consumes (R.remaining s.old.input) (R.remaining s.new.input) (take result.used buf.new) }
-    ensures end { result.failed ≡ false → result.used < length buf.new → IsAtEnd (R.remaining s.new.input) }
+    ensures bytes { Consumes (R.remaining s.old.input) (R.remaining s.new.input) (take (came result) buf.new) }
+    ensures end { IfOk result (λ n. n < length buf.new → IsAtEnd (R.remaining s.new.input)) }
+    ensures quiet { OnOk result (s.new.errors ≡ s.old.errors) }
 {
     let mut done = 0;
+    // stays: no index is counted, each turn goes on by what a read gave (d)
     while done < buf.len() {
-        let got = part(s, &mut buf[done..]);
-        if got.used == 0 {
-            return Input {
-                used: done,
-                failed: got.failed,
-            };
+        let Ok(got) = part(s, &mut buf[done..]) else {
+            return Err(ReadFailed { after: done });
+        };
+        if got == 0 {
+            break;
         }
-        done += got.used;
+        done += got;
     }
-    Input {
-        used: done,
-        failed: false,
-    }
+    Ok(done)
 }

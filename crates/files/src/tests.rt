@@ -1,5 +1,5 @@
 // A journal that comes in pieces, and a read and a write that fail in its midst.
-use crate::Streams;
+use crate::{ReadFailed, Streams};
 use std::io;
 use std::io::{Error, ErrorKind, Read, Write};
 
@@ -51,7 +51,7 @@ fn reads_to_the_end(rt: HostRuntime) {
     let mut s = three_bytes(&rt, false);
     let mut buf = [9u8; 5];
     let got = crate::whole(&mut s, &mut buf);
-    assert!(rt; got.used == 3 && !got.failed);
+    assert_eq!(rt; got, Ok(3));
     assert!(rt; buf == [3, 2, 1, 9, 9]);
     assert!(rt; s.errors.is_empty());
 }
@@ -61,7 +61,7 @@ fn a_failed_read_is_no_end(rt: HostRuntime) {
     let mut s = three_bytes(&rt, true);
     let mut buf = [9u8; 5];
     let got = crate::whole(&mut s, &mut buf);
-    assert!(rt; got.used == 3 && got.failed);
+    assert_eq!(rt; got, Err(ReadFailed { after: 3 }));
     assert!(rt; s.errors.as_slice() == b"nazsombet: standard input could not be read\n".as_slice());
 }
 
@@ -70,14 +70,14 @@ fn reads_no_more_than_there_is_room(rt: HostRuntime) {
     let mut s = three_bytes(&rt, true);
     let mut buf = [9u8; 2];
     let got = crate::whole(&mut s, &mut buf);
-    assert!(rt; got.used == 2 && !got.failed);
+    assert_eq!(rt; got, Ok(2));
     assert!(rt; s.input.left == 1);
 }
 
 #[test]
 fn says_what_could_not_be_written(rt: HostRuntime) {
     let mut s = three_bytes(&rt, false);
-    assert!(rt; !crate::show(&mut s, b"text"));
+    assert!(rt; crate::show(&mut s, b"text").is_err());
     assert!(rt;
         s.errors.as_slice() == b"nazsombet: standard output could not be written\n".as_slice()
     );
@@ -90,6 +90,6 @@ fn writes_all(rt: HostRuntime) {
         output: Vec::new(rt.alloc()),
         errors: Full {},
     };
-    assert!(rt; crate::show(&mut s, b"te") && crate::show(&mut s, b"xt"));
+    assert!(rt; crate::show(&mut s, b"te").is_ok() && crate::show(&mut s, b"xt").is_ok());
     assert!(rt; s.output.as_slice() == b"text".as_slice());
 }

@@ -1,47 +1,14 @@
--- A buffer that is filled with words from the front: after one store more, one word more is right; all of them are the
--- words in the bytes.
+-- A buffer that is filled with words from the front: all of them are the words in the bytes.
 use Prim.Native.Nat.{ℕ, zero, suc, ◌+◌, ◌*◌, ◌/◌, ◌≤◌, ◌<◌}
-use mathlib.Core.Path.{◌≡◌, refl, ap, subst, ◌∙◌}
+use mathlib.Core.Path.{◌≡◌, refl, ap, ◌∙◌}
 use mathlib.Core.List.{List, [], ◌∷◌}
 use native.Mathlib.Omega.{arith}
-use lib.ListN.{length, get_or, set, take}
-use lib.Seq.{get_or-set_same, get_or-set_other}
-use Rattle.machine.proofs.Lists.{Same, same, other, same?}
+use lib.ListN.{length, get_or, take}
 use Rattle.input.specs.Words.{little_endian, words_in}
 
 -- the buffer's first words, so many, are those of the bytes
 pub record WordsOf (bytes words : List ℕ) (count : ℕ) : Type 0 where
   pub each : (i : ℕ) → i < count → get_or words i 0 ≡ little_endian bytes (i * 4)
-
--- what holds of the places before i, and of i, holds of those before i + 1
-below_more :
-    (P : ℕ → Type 0) (i : ℕ) → ((j : ℕ) → j < i → P j) → P i → (j : ℕ) → j < i + 1 → P j
-below_more P i before here j h = go (same? i j)
-  where
-    go : Same i j → P j
-    go (same e _) = subst P e here
-    go (other n _) = before j (less n)
-      where
-        less : (i ≡ j → ⊥) → j < i
-        less n = omega arith
-
-pub no_words : (bytes words : List ℕ) → WordsOf bytes words 0
-no_words bytes words = record { each = λ i h. absurd (omega arith) }
-
-pub one_word_more :
-    (bytes words : List ℕ) (i w : ℕ) → i < length words → WordsOf bytes words i → w ≡ little_endian bytes (i * 4) →
-    WordsOf bytes (set words i w) (i + 1)
-one_word_more bytes words i w h so_far e = record {
-  each =
-      below_more (λ j. get_or (set words i w) j 0 ≡ little_endian bytes (j * 4)) i
-      (λ j l. get_or-set_other words i j w 0 (λ (d : j ≡ i). omega (arith, l, d)) ∙ so_far.each j l)
-      (get_or-set_same words i w 0 h ∙ e);
-}
-
--- What holds of so many holds of fewer.
-pub fewer_words :
-    (bytes words : List ℕ) (i count : ℕ) → WordsOf bytes words i → count ≤ i → WordsOf bytes words count
-fewer_words bytes words i count all h = record { each = λ j l. all.each j (omega (arith, h, l)) }
 
 -- Four bytes further on the words are the next ones.
 next_words :

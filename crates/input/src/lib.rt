@@ -1,24 +1,16 @@
 // Bytes and the little-endian words in them.
 #![tactic(auto)]
 
-ghost use Rattle.std.specs.Prelude.{◌+◌, ◌*◌, ◌/◌, ◌≤◌, ◌<◌, ◌≡◌, length, take};
+ghost use Rattle.std.specs.Prelude.{◌+◌, ◌*◌, ◌/◌, ◌≤◌, ◌≡◌, length, take};
 ghost use Rattle.texts.specs.Buffer.{Counts};
 ghost use Rattle.input.specs.Words.{little_endian, words_in};
-
-fn wide(byte: u8) -> u32
-    ensures { (result ≡ byte) × (result < 256) }
-{
-    byte as u32
-}
 
 // The word whose lowest byte stands at a place.
 pub fn word(bytes: &[u8], at: usize) -> u32
     requires { at + 4 ≤ length bytes.now }
     ensures { result ≡ little_endian bytes.now at }
 {
-    let low = wide(bytes[at]) + wide(bytes[at + 1]) * 0x100;
-    let high = wide(bytes[at + 2]) + wide(bytes[at + 3]) * 0x100;
-    low + high * 0x1_0000
+    u32::from_le_bytes([bytes[at], bytes[at + 1], bytes[at + 2], bytes[at + 3]])
 }
 
 // The whole words among the bytes, to the front of the buffer; how many.
@@ -29,10 +21,8 @@ pub fn words(bytes: &[u8], words: &mut [u32]) -> usize
     ensures words_after { take result words.new ≡ words_in bytes.now }
 {
     let count = bytes.len() / 4;
-    let mut i = 0;
-    while i < count {
+    for i in 0..count {
         words[i] = word(bytes, i * 4);
-        i += 1;
     }
     count
 }

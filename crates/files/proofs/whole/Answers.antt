@@ -20,12 +20,13 @@ front_grows a k n xs ys within fits =
 
 pub loop-done-preserved : goal.loop-done-preserved
 loop-done-preserved g c =
-    let within = c.loop-done.invariant.1 in
-    let grown = front_grows c.loop-done.done (length c.loop-done.buf - c.loop-done.done) c.part-got.result.used
-    c.loop-done.buf c.part-got.new.buf within c.part-got.ensures.prefix.0 in (
-      search rules,
-      search rules,
-      search rules,
-      subst (Consumes _ _) grown
-          (Consumes-trans _ _ _ _ _ c.loop-done.invariant.3 c.part-got.ensures.bytes),
-    )
+    let within = c.loop-done.invariant.within in
+    let grown = front_grows c.loop-done.done (length c.loop-done.buf - c.loop-done.done) c.in-Ok.got
+    c.loop-done.buf c.part.new.buf within c.in-Ok.ensures.prefix.0 in record {
+      long = search rules;
+      within = search rules;
+      output = search rules;
+      quiet = search rules;
+      bytes = subst (Consumes _ _) grown
+          (Consumes-trans _ _ _ _ _ c.loop-done.invariant.bytes c.in-Ok.ensures.bytes.0);
+    }
