@@ -23,8 +23,7 @@ fn status(tables: &[u32], e: usize) -> bool
     let aborting = words::endpoint(tables, Part::Aborting, e);
     if status == wide::MISSING {
         let q = ENDPOINT_QUEUES + e;
-        return (words::wide_link(tables, Link::Head(q)) == wide::NOBODY)
-            & (aborting == wide::NO_ABORT);
+        return (words::wide(tables, Link::Head(q)) == wide::NOBODY) & (aborting == wide::NO_ABORT);
     }
     if status == wide::LIVE {
         return true;
@@ -56,7 +55,7 @@ fn kind(tables: &[u32], e: usize) -> usize
     ensures { result ≡ kind_in tables.now e }
 {
     let q = ENDPOINT_QUEUES + e;
-    let y = words::wide_link(tables, Link::Head(q));
+    let y = words::wide(tables, Link::Head(q));
     if y == wide::NOBODY {
         return wide::SENDING + e;
     }
@@ -83,7 +82,7 @@ fn stands(tables: &[u32], k: usize, b: usize, x: usize, t: usize, f: Phase) -> b
     requires { (length tables.now ≡ table_words) × (t ≤ 255) }
     ensures { result ≡ stands_behind tables.now k b f x t }
 {
-    let prev = words::wide_link(tables, Link::Prev(t));
+    let prev = words::wide(tables, Link::Prev(t));
     let place = words::thread(tables, Field::Place, t);
     let badge = words::thread(tables, Field::Badge, t);
     (prev == x) & (place == k) & crate::phases::allowed(f, b, badge)
@@ -100,11 +99,10 @@ fn waiters(tables: &[u32], scratch: &mut [u32], e: usize, k: usize) -> bool
     let banned = banned(tables, e, k);
     let mut f = Phase::Ahead;
     let mut x: usize = wide::NOBODY;
-    let mut y = words::wide_link(tables, Link::Head(q));
+    let mut y = words::wide(tables, Link::Head(q));
     for _ in 0..THREADS + 1 {
         if y == wide::NOBODY {
-            return (words::wide_link(tables, Link::Tail(q)) == x)
-                & crate::phases::complete(f, cursor);
+            return (words::wide(tables, Link::Tail(q)) == x) & crate::phases::complete(f, cursor);
         }
         if wide::LAST_LINK < y {
             return false;
@@ -117,7 +115,7 @@ fn waiters(tables: &[u32], scratch: &mut [u32], e: usize, k: usize) -> bool
         crate::met::meet(scratch, t);
         f = crate::phases::leave(here, end, y);
         x = y;
-        y = words::wide_link(tables, Link::Next(t));
+        y = words::wide(tables, Link::Next(t));
     }
     false
 }

@@ -15,7 +15,7 @@ fn ready(tables: &[u32], p: usize, x: usize, t: usize) -> bool
     requires { (length tables.now ≡ table_words) × (t ≤ 255) }
     ensures { result ≡ ready_behind tables.now p x t }
 {
-    let prev = words::wide_link(tables, Link::Prev(t));
+    let prev = words::wide(tables, Link::Prev(t));
     let place = words::thread(tables, Field::Place, t);
     let priority = words::thread(tables, Field::Priority, t);
     let running = words::wide(tables, Slot::Running);
@@ -28,10 +28,10 @@ fn level(tables: &[u32], scratch: &mut [u32], p: usize) -> bool
         (level_test tables.now p) result }
 {
     let mut x: usize = wide::NOBODY;
-    let mut y = words::wide_link(tables, Link::Head(p));
+    let mut y = words::wide(tables, Link::Head(p));
     for _ in 0..THREADS + 1 {
         if y == wide::NOBODY {
-            return words::wide_link(tables, Link::Tail(p)) == x;
+            return words::wide(tables, Link::Tail(p)) == x;
         }
         if wide::LAST_LINK < y {
             return false;
@@ -42,7 +42,7 @@ fn level(tables: &[u32], scratch: &mut [u32], p: usize) -> bool
         }
         crate::met::meet(scratch, t);
         x = y;
-        y = words::wide_link(tables, Link::Next(t));
+        y = words::wide(tables, Link::Next(t));
     }
     false
 }

@@ -19,8 +19,8 @@ fn place(tables: &[u32], scratch: &[u32], t: usize) -> bool
     let running = words::wide(tables, Slot::Running);
     let queued = ((place == wide::ABLE) & (running != t + wide::LINK))
         | ((wide::SENDING <= place) & (place < wide::WAITING));
-    let bare = (words::wide_link(tables, Link::Next(t)) == wide::NOBODY)
-        & (words::wide_link(tables, Link::Prev(t)) == wide::NOBODY);
+    let bare = (words::wide(tables, Link::Next(t)) == wide::NOBODY)
+        & (words::wide(tables, Link::Prev(t)) == wide::NOBODY);
     (met == queued) & (met | bare)
 }
 

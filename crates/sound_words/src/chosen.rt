@@ -29,7 +29,7 @@ fn word(tables: &[u32], w: usize) -> usize
     let mut sum: usize = 0;
     for k in 0..LEVELS_IN_WORD {
         let p = LEVELS_IN_WORD * w + k;
-        sum += share(words::wide_link(tables, Link::Head(p)), bit);
+        sum += share(words::wide(tables, Link::Head(p)), bit);
         bit += bit;
     }
     sum
@@ -57,7 +57,7 @@ fn above(tables: &[u32], p: usize) -> bool
     requires { length tables.now ≡ table_words }
     ensures { result ≡ all 256 (λ i. leb i p || not (occupied_at tables.now i)) }
 {
-    (p..wide::LAST_PRIORITY).all(|i| words::wide_link(tables, Link::Head(i + 1)) == wide::NOBODY)
+    (p..wide::LAST_PRIORITY).all(|i| words::wide(tables, Link::Head(i + 1)) == wide::NOBODY)
 }
 
 pub fn running(tables: &[u32]) -> bool
@@ -66,7 +66,7 @@ pub fn running(tables: &[u32]) -> bool
 {
     let running = words::wide(tables, Slot::Running);
     if running == wide::NOBODY {
-        return (words::wide_link(tables, Link::Head(0)) == wide::NOBODY) & above(tables, 0);
+        return (words::wide(tables, Link::Head(0)) == wide::NOBODY) & above(tables, 0);
     }
     if wide::LAST_LINK < running {
         return false;

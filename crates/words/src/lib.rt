@@ -143,14 +143,6 @@ pub fn wide<N: Name>(tables: &[u32], name: N) -> usize
     get(tables, name) as usize
 }
 
-// A link. The crates of the check name it still.
-pub fn wide_link(tables: &[u32], k: Link) -> usize
-    requires { (length tables.now ≡ table_words) × ValidLink k }
-    ensures { result ≡ word tables.now (link_at k) }
-{
-    wide(tables, k)
-}
-
 // A word of thread t.
 pub fn thread(tables: &[u32], f: Field, t: usize) -> usize
     requires { (length tables.now ≡ table_words) × (t ≤ 255) }

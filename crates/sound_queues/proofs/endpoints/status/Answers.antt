@@ -5,7 +5,7 @@ use Rattle.sound_queues.proofs.endpoints.status.Goals as goal
 pub returns-then-status-eq-MISSING : goal.returns-then-status-eq-MISSING
 returns-then-status-eq-MISSING c =
     rw (← c.endpoint-status.ensures)
-    (status_absent _ _ _ c.endpoint-aborting.ensures c.if-status-eq-MISSING.true c.wide_link.ensures)
+    (status_absent _ _ _ c.endpoint-aborting.ensures c.if-status-eq-MISSING.true c.wide.ensures)
 
 pub returns-then-status-eq-LIVE : goal.returns-then-status-eq-LIVE
 returns-then-status-eq-LIVE c =

@@ -9,7 +9,7 @@ use Rattle.sound_queues.proofs.endpoints.waiters.Goals as goal
 pub returns-then-y-eq-NOBODY : goal.returns-then-y-eq-NOBODY
 returns-then-y-eq-NOBODY c =
     waiters_walked _ _ _ c.loop.invariant (omega arith) c.if-y-eq-NOBODY.true
-    c.wide_link.ensures c.complete.ensures
+    c.wide.ensures c.complete.ensures
 
 pub returns-then-y-gt-LAST_LINK : goal.returns-then-y-gt-LAST_LINK
 returns-then-y-gt-LAST_LINK c =
@@ -26,7 +26,7 @@ loop-preserved c =
     rw turn at
     (waiters_again _ _ _ c.loop.invariant (omega arith) c.if-y-eq-NOBODY.false c.if-y-gt-LAST_LINK.false
     c.enter-here.ensures c.stands.ensures c.if-not-stands.false
-    c.leave-f.ensures c.meet.ensures c.meet.auto.scratch c.wide_link-y-in-loop.ensures)
+    c.leave-f.ensures c.meet.ensures c.meet.auto.scratch c.wide-y-in-loop.ensures)
 
 pub returns : goal.returns
 returns c = walk_failed (waiters_long _ _ _ c.loop.invariant (omega arith))

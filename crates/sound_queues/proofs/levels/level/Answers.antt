@@ -8,11 +8,11 @@ use Rattle.sound_queues.proofs.Walking.{walk_failed}
 use Rattle.sound_queues.proofs.levels.level.Goals as goal
 
 pub loop-init : goal.loop-init
-loop-init c = level_holds _ _ _ (search rules) c.wide_link-y.ensures
+loop-init c = level_holds _ _ _ (search rules) c.wide-y.ensures
 
 pub returns-then-y-eq-NOBODY : goal.returns-then-y-eq-NOBODY
 returns-then-y-eq-NOBODY c =
-    level_walked _ _ c.loop.invariant (omega arith) c.if-y-eq-NOBODY.true c.wide_link.ensures
+    level_walked _ _ c.loop.invariant (omega arith) c.if-y-eq-NOBODY.true c.wide.ensures
 
 pub returns-then-y-gt-LAST_LINK : goal.returns-then-y-gt-LAST_LINK
 returns-then-y-gt-LAST_LINK c =
@@ -29,7 +29,7 @@ loop-preserved c =
     rw turn at
     (level_again _ _ c.loop.invariant (omega arith) c.if-y-eq-NOBODY.false c.if-y-gt-LAST_LINK.false
     c.ready.ensures c.if-not-ready.false c.meet.ensures c.meet.auto.scratch
-    c.wide_link-y-in-loop.ensures)
+    c.wide-y-in-loop.ensures)
 
 pub returns : goal.returns
 returns c = walk_failed (level_long _ _ c.loop.invariant (omega arith))

@@ -4,5 +4,5 @@ use Rattle.sound_queues.proofs.levels.ready.Goals as goal
 
 pub returns : goal.returns
 returns c =
-    ready_is _ _ _ _ c.wide_link-prev.ensures c.thread-place.ensures c.thread-priority.ensures
+    ready_is _ _ _ _ c.wide-prev.ensures c.thread-place.ensures c.thread-priority.ensures
     c.wide-running.ensures

@@ -4,7 +4,7 @@ use Rattle.sound_words.proofs.chosen.running.Goals as goal
 
 pub returns-then-running-eq-NOBODY : goal.returns-then-running-eq-NOBODY
 returns-then-running-eq-NOBODY c =
-    running_nobody _ c.wide-running.ensures c.if-running-eq-NOBODY.true c.wide_link.ensures c.above.ensures
+    running_nobody _ c.wide-running.ensures c.if-running-eq-NOBODY.true c.wide.ensures c.above.ensures
 
 pub returns-then-running-gt-LAST_LINK : goal.returns-then-running-gt-LAST_LINK
 returns-then-running-gt-LAST_LINK c = running_outside _ c.wide-running.ensures c.if-running-gt-LAST_LINK.true

@@ -7,7 +7,7 @@ pub loop-k-init : goal.loop-k-init
 loop-k-init c = summed_none _
 
 pub loop-k-preserved : goal.loop-k-preserved
-loop-k-preserved c = summed_more _ _ c.loop-k.invariant (share_of c.loop-k.bit c.wide_link.ensures c.share-sum.ensures)
+loop-k-preserved c = summed_more _ _ c.loop-k.invariant (share_of c.loop-k.bit c.wide.ensures c.share-sum.ensures)
 
 pub returns : goal.returns
 returns c = word_is _ _ c.loop-k.k (omega arith) (omega arith) c.loop-k.invariant
