@@ -9,6 +9,7 @@ use calls::Call;
 use calls::codes::BADGES;
 
 // The top bits of a call word, and of the words after it.
+// stays: (d) each is compared with bits of a word, once; an enum would need its numbers told again.
 const CALL: u32 = 1;
 
 const BADGE: u32 = 2;

@@ -45,6 +45,7 @@ pub fn call_in(numbers: [u32; 6]) -> Option<Call>
 }
 
 // The six numbers of a call.
+// stays: (d) neither type is this crate's, so From would have to stand in calls, away from `call_in`.
 #[tactic(auto, unfolding(crate::specs::Numbers::numbers_of))]
 pub fn numbers_of(call: Call) -> [u32; 6]
     ensures { result ≡ numbers_of call }
