@@ -32,11 +32,10 @@ fn tick_running(tables: &mut [u32])
     requires { Shown tables.old (Asked (Unit {0})) }
     ensures { Does tables.old tables.new (Asked (Unit {0})) ticking_for }
 {
-    let link = store::running(tables);
-    if link == NOBODY {
-        return;
+    match store::running(tables) {
+        NOBODY => {}
+        link => take_tick(tables, (link - LINK) as usize),
     }
-    take_tick(tables, (link - LINK) as usize);
 }
 
 // 6: a tick takes one from the running thread.
