@@ -64,6 +64,7 @@ pub fn destroy_thread(tables: &mut [u32], t: usize) -> Outcome
     requires { Shown tables.old (Asked (t ≤ 255)) }
     ensures { Performs tables.old tables.new (answer_of result) (Asked (t ≤ 255)) (destroy_thread t) }
 {
+    // stays: (d) read once, for this test and for leave, where endings::thread_there would read it twice
     let place = store::thread(tables, Field::Place, t);
     if place == codes::ABSENT {
         return Err(Refusal::ThreadAbsent);

@@ -1,5 +1,5 @@
 -- Sending: the message goes to the first receiver, or the sender waits.
-use Prim.Native.Nat.{ℕ, ◌+◌, ◌-◌, ◌≤◌, ◌<◌, ◌^◌}
+use Prim.Native.Nat.{ℕ, suc, ◌+◌, ◌≤◌, ◌<◌, ◌^◌}
 use mathlib.Core.Path.{◌≡◌, refl, sym, ◌∙◌, ap}
 use mathlib.Core.Bool.{Bool, true, false}
 use mathlib.Core.Option.{Option}
@@ -52,26 +52,26 @@ module _ {m : List ℕ} {t e b x r : ℕ} (F : FirstAt m e (66 + e) r) where
       ap (λ (k : Option ℕ). send_to k t e b x s)
       (sym (first_none (receivers s.threads (s.endpoints e).waiters) (link_is s M h) z)))
 
-  module _ (z : r ≡ 0 → ⊥) where
-    receiver : (s : State) → Shows m s → Dropped t (Sent e b x) s → Queued s (r - 1) e
+  module _ {u : ℕ} (z : r ≡ suc u) where
+    receiver : (s : State) → Shows m s → Dropped t (Sent e b x) s → Queued s u e
     receiver s M h = first_queued (dropped_mid h) is_receiving e (link_is s M h) z
 
-    waits : (s : State) → Shows m s → Dropped t (Sent e b x) s → InEndpoint (r - 1) e s
+    waits : (s : State) → Shows m s → Dropped t (Sent e b x) s → InEndpoint u e s
     waits s M h = queued_waits (dropped_mid h) (receiver s M h) h.calling.numbers.0
 
-    pub receiver_asked : Shown m (Dropped t (Sent e b x)) → Shown m (InEndpoint (r - 1) e)
+    pub receiver_asked : Shown m (Dropped t (Sent e b x)) → Shown m (InEndpoint u e)
     receiver_asked S =
         record { state = S.state; shows = S.shows; holds = waits S.state S.shows S.holds }
 
-    module _ {n : List ℕ} (W : Does m n (InEndpoint (r - 1) e) (wake_from e (r - 1) 2 b x)) where
-      wakes : Does m n (Dropped t (Sent e b x)) (wake_from e (r - 1) 2 b x)
+    module _ {n : List ℕ} (W : Does m n (InEndpoint u e) (wake_from e u 2 b x)) where
+      wakes : Does m n (Dropped t (Sent e b x)) (wake_from e u 2 b x)
       wakes = record { shows = λ s M h. W.shows s M (waits s M h) }
 
-      chooses : (s : State) → Shows m s → Dropped t (Sent e b x) s → Chooses (wake_from e (r - 1) 2 b x s)
+      chooses : (s : State) → Shows m s → Dropped t (Sent e b x) s → Chooses (wake_from e u 2 b x s)
       chooses s M h =
           let N : Sent e b x = h.calling.numbers in
           mid_chooses
-          (mid_wake_from s e (r - 1) 2 b x (dropped_mid h) (receiver s M h) (omega arith) N.1 N.2
+          (mid_wake_from s e u 2 b x (dropped_mid h) (receiver s M h) (omega arith) N.1 N.2
           (λ k. absurd (k refl)))
 
       pub handed_asked : Shown m (Dropped t (Sent e b x)) → Shown n Chooses

@@ -1,5 +1,5 @@
 -- Receiving: the message of the first sender is taken, or the receiver waits.
-use Prim.Native.Nat.{ℕ, ◌+◌, ◌-◌, ◌≤◌}
+use Prim.Native.Nat.{ℕ, suc, ◌+◌, ◌≤◌}
 use mathlib.Core.Path.{◌≡◌, refl, sym, ◌∙◌, ap}
 use mathlib.Core.Option.{Option}
 use mathlib.Core.List.{List, []}
@@ -87,17 +87,17 @@ module _ {m : List ℕ} {t e r : ℕ} (F : FirstAt m e (2 + e) r) where
       ap (λ (k : Option ℕ). receive_from k t e s)
       (sym (first_none (senders s.threads (s.endpoints e).waiters) (link_is s M h) z)))
 
-  module _ (z : r ≡ 0 → ⊥) where
-    takes : (s : State) → Shows m s → Dropped t (e ≤ 63) s → TakesFrom (r - 1) e s
+  module _ {u : ℕ} (z : r ≡ suc u) where
+    takes : (s : State) → Shows m s → Dropped t (e ≤ 63) s → TakesFrom u e s
     takes s M h =
         record { caller = t; dropped = h; waits = first_queued (dropped_mid h) is_sending e (link_is s M h) z }
 
-    pub takes_asked : Shown m (Dropped t (e ≤ 63)) → Shown m (TakesFrom (r - 1) e)
+    pub takes_asked : Shown m (Dropped t (e ≤ 63)) → Shown m (TakesFrom u e)
     takes_asked S =
         record { state = S.state; shows = S.shows; holds = takes S.state S.shows S.holds }
 
     pub taken_first :
-        {o : List ℕ} {a : Answer} → Performs m o a (TakesFrom (r - 1) e) (taking_from e (r - 1))
+        {o : List ℕ} {a : Answer} → Performs m o a (TakesFrom u e) (taking_from e u)
         → Performs m o a (Dropped t (e ≤ 63)) (taking t e)
     unfolding receive_from
     taken_first H =

@@ -3,13 +3,16 @@
 #![tactic(auto)]
 
 ghost use Rattle.std.specs.Prelude.{◌≤◌, ◌<◌, ◌^◌};
-ghost use Rattle.calls.specs.Answers.{answer_of};
+ghost use Rattle.calls.specs.Answers.{answer_of, maybe_of};
 ghost use Rattle.machine.specs.Machine.{create_endpoint, send as sending, receive as receiving};
 ghost use Rattle.store.specs.Steps.{Shown};
+ghost use Rattle.layout.specs.Words.{link_of};
+ghost use Rattle.debts.specs.Debts.{Alike, FirstAt};
 ghost use Rattle.endings.specs.Results.{Asked, Calling, Performs};
 ghost use Rattle.waiting.specs.Waiting.{Dropped};
 ghost use Rattle.transfers.specs.Transfers.{TakesFrom, handing, taking, taking_from};
 
+use calls::codes::{MESSAGE_RECEIVED, MESSAGE_TAKEN};
 use calls::{Accepted, Outcome, Refusal};
 use layout::codes::{LINK, NOBODY};
 use layout::{Field, Part, codes};
@@ -27,19 +30,28 @@ pub fn create_endpoint(tables: &mut [u32], e: usize) -> Outcome
     endings::done(tables)
 }
 
+// The first waiter at endpoint e if it is at this place, sending or receiving; otherwise no waiter is.
+fn first_waiter(tables: &[u32], e: usize, place: u32) -> Option<usize>
+    requires { Shown tables.now (Alike e) }
+    ensures { FirstAt tables.now e place (link_of (maybe_of result)) }
+{
+    match debts::first_at(tables, e, place) {
+        NOBODY => None,
+        link => Some((link - LINK) as usize),
+    }
+}
+
 // The message goes to the first receiver at endpoint e; without one the caller t waits there to send it.
 fn hand(tables: &mut [u32], t: usize, e: usize, badge: u32, message: u32) -> Outcome
     requires { Shown tables.old (Dropped t ((e ≤ 63) × (badge < 2 ^ 28) × (message < 2 ^ 28))) }
     ensures { Performs tables.old tables.new (answer_of result)
         (Dropped t ((e ≤ 63) × (badge < 2 ^ 28) × (message < 2 ^ 28))) (handing t e badge message) }
 {
-    let link = debts::first_at(tables, e, codes::RECEIVING + e as u32);
-    if link == NOBODY {
+    let Some(u) = first_waiter(tables, e, codes::RECEIVING + e as u32) else {
         endpoint_queues::join_endpoint(tables, t, e);
         return waiting::suspend(tables, t, codes::SENDING + e as u32, badge, message);
-    }
-    let outcome = calls::codes::MESSAGE_RECEIVED;
-    endpoint_queues::wake_from(tables, e, (link - LINK) as usize, outcome, badge, message);
+    };
+    endpoint_queues::wake_from(tables, e, u, MESSAGE_RECEIVED, badge, message);
     endings::done(tables)
 }
 
@@ -65,7 +77,7 @@ fn take_from(tables: &mut [u32], e: usize, u: usize) -> Outcome
 {
     let badge = store::thread(tables, Field::Badge, u);
     let message = store::thread(tables, Field::Message, u);
-    endpoint_queues::wake_from(tables, e, u, calls::codes::MESSAGE_TAKEN, 0, 0);
+    endpoint_queues::wake_from(tables, e, u, MESSAGE_TAKEN, 0, 0);
     endings::accept(tables, Accepted::Received { badge, message })
 }
 
@@ -74,12 +86,11 @@ fn take(tables: &mut [u32], t: usize, e: usize) -> Outcome
     requires { Shown tables.old (Dropped t (e ≤ 63)) }
     ensures { Performs tables.old tables.new (answer_of result) (Dropped t (e ≤ 63)) (taking t e) }
 {
-    let link = debts::first_at(tables, e, codes::SENDING + e as u32);
-    if link == NOBODY {
+    let Some(u) = first_waiter(tables, e, codes::SENDING + e as u32) else {
         endpoint_queues::join_endpoint(tables, t, e);
         return waiting::suspend(tables, t, codes::RECEIVING + e as u32, 0, 0);
-    }
-    take_from(tables, e, (link - LINK) as usize)
+    };
+    take_from(tables, e, u)
 }
 
 // 8: the running thread t receives from endpoint e.
