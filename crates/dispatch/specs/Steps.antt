@@ -16,6 +16,10 @@ use Rattle.grants.specs.Memory.{grants_of, grant_image}
 abbrev pub Ranged : Call → Type 0
 Ranged c = in_range c ≡ true
 
+-- And it is one that the running thread makes.
+abbrev pub Own : Call → Type 0
+Own c = Ranged c × (7 ≤ number_of c) × (number_of c ≤ 12)
+
 -- A call that can be made: the link is that of the thread that runs, and there is one for 7 to 12.
 pub record Served (link : ℕ) (c : Call) (s : State) : Type 0 where
   pub sound : Sound s

@@ -1,17 +1,16 @@
 -- The thread's place, then the endpoint's status.
+use Rattle.endings.proofs.Tests.{passed_on}
 use Rattle.dispatch.proofs.Granting.{grant_absent, grant_missing, granted}
 use Rattle.dispatch.proofs.grantable.Goals as goal
 
-pub returns-then-place-eq-ABSENT : goal.returns-then-place-eq-ABSENT
-returns-then-place-eq-ABSENT c =
-    grant_absent c.thread-place.ensures c.if-place-eq-ABSENT.true c.plain.ensures
+pub returns-in_err-thread_there : goal.returns-in_err-thread_there
+returns-in_err-thread_there c =
+    passed_on c.from_residual.result _ c.from_residual.ensures.1 (grant_absent c.in_err-thread_there.ensures)
 
-pub returns-then-status-eq-MISSING : goal.returns-then-status-eq-MISSING
-returns-then-status-eq-MISSING c =
-    grant_missing c.thread-place.ensures c.if-place-eq-ABSENT.false c.endpoint-status.ensures
-    c.if-status-eq-MISSING.true c.plain-then-status-eq-MISSING.ensures
+pub returns-in_err-endpoint_there : goal.returns-in_err-endpoint_there
+returns-in_err-endpoint_there c =
+    passed_on c.from_residual-in_err-endpoint_there.result _ c.from_residual-in_err-endpoint_there.ensures.1
+    (grant_missing c.in_ok-thread_there.ensures c.in_err-endpoint_there.ensures)
 
 pub returns : goal.returns
-returns c =
-    granted c.thread-place.ensures c.if-place-eq-ABSENT.false c.endpoint-status.ensures
-    c.if-status-eq-MISSING.false c.plain-2.ensures
+returns c = granted c.in_ok-thread_there.ensures c.in_ok-endpoint_there.ensures
