@@ -2,4 +2,3 @@
 pub mod Memory
 pub mod Passing
 pub mod Stores
-pub mod Calls

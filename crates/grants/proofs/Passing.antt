@@ -1,7 +1,7 @@
 -- The pass over the words, one after the other.
 use Prim.Native.Nat.{ℕ, ◌+◌, ◌≤◌}
 use mathlib.Core.Path.{◌≡◌, refl, ◌∙◌, ap}
-use mathlib.Core.Bool.{Bool, true, ◌&&◌}
+use mathlib.Core.Bool.{Bool, true, false, ◌&&◌}
 use mathlib.Core.List.{List}
 use native.Mathlib.Numerals.{add-one}
 use native.Mathlib.Omega.{arith}
@@ -16,9 +16,15 @@ module _ (l : List ℕ) where
 
   pub pass_more :
       (i w : ℕ) (s b : Bool) → w ≡ word l i → s ≡ sound_word w → b ≡ all i (sound_at l)
-      → (s && b) ≡ all (i + 1) (sound_at l)
+      → (b && s) ≡ all (i + 1) (sound_at l)
   unfolding all sound_at
-  pass_more i w s b e f h = rw (f, e, h, add-one)
+  pass_more i w s b e f h = turned b s ∙ rw (f, e, h, add-one)
+    where
+      turned : (x y : Bool) → (x && y) ≡ (y && x)
+      turned true true = refl
+      turned true false = refl
+      turned false true = refl
+      turned false false = refl
 
   -- A pass to the end has tried all.
   pub pass_whole : (i : ℕ) (b : Bool) → b ≡ all i (sound_at l) → i ≤ grant_words → grant_words ≤ i → b ≡ grants_test l

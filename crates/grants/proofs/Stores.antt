@@ -1,9 +1,17 @@
 -- The memory after stores: which words differ, and of which grants it is the memory.
-use Prim.Native.Nat.{ℕ, ◌+◌, ◌*◌, ◌≤◌, ◌<◌}
+use Prim.Native.Nat.{ℕ, ◌+◌, ◌-◌, ◌*◌, ◌≤◌, ◌<◌}
+use mathlib.Core.Bool.{Bool, true, false}
 use mathlib.Core.Path.{◌≡◌, refl, sym, ◌∙◌, ap}
 use mathlib.Core.List.{List}
 use native.Mathlib.Omega.{arith}
-use lib.ListN.{length, set, length-set}
+use lib.Dec.{leb, ltb}
+use lib.ListN.{length, set, length-set, get_or, take, drop, replicate, length-replicate, get_or-replicate}
+use borrow.Author.Rules.{rules}
+use borrow.Author.Tests.{leb-true, leb-false, ltb-true, ltb-false}
+use borrow.Rule.Slice.PartMut.{put_mid}
+use Rattle.std.proofs.lemmas.Grind.{moves}
+use Rattle.std.proofs.lemmas.List.{places}
+use Rattle.std.proofs.lemmas.Slice.{overwrites}
 use Rattle.machine.specs.Lists.{put}
 use Rattle.machine.specs.Grants.{Grants}
 use Rattle.machine.proofs.Lists.{Same, same, other, same?, put_same, put_other}
@@ -38,6 +46,25 @@ module _ (at : ℕ → ℕ) (m : List ℕ) where
           let apart : i ≡ n → ⊥ = λ e. o (ap at e ∙ sym is) in
           word_set_other k a (at i) 0 o ∙ C.zeros i (omega arith)
 
+-- The words of a part written over, and the others.
+module _ (m z : List ℕ) (a k : ℕ) (size : length z ≡ k) (room : a + k ≤ length m) where
+  within : (i : ℕ) → i < k → get_or (put_mid a k m z) (a + i) 0 ≡ get_or z i 0
+  within i h = search (rules, places)
+
+  below : (j : ℕ) → j < a → get_or (put_mid a k m z) j 0 ≡ get_or m j 0
+  below j h = search (rules, places)
+
+  above : (j : ℕ) → a + k ≤ j → get_or (put_mid a k m z) j 0 ≡ get_or m j 0
+  above j h = search (rules, places)
+
+-- A word at or behind a thread's first that is none of the thread's is behind them all.
+apart : (t j : ℕ) → ((i : ℕ) → i < 64 → j ≡ 64 * t + i → ⊥) → 64 * t ≤ j → 64 * t + 64 ≤ j
+apart t j l h = go (leb (64 * t + 64) j) refl
+  where
+    go : (b : Bool) → leb (64 * t + 64) j ≡ b → 64 * t + 64 ≤ j
+    go true e = leb-true (64 * t + 64) j e
+    go false e = let k = leb-false (64 * t + 64) j e in absurd (l (j - 64 * t) (omega arith) (omega arith))
+
 -- The grants of a memory with the word v for thread t at endpoint e.
 abbrev stored : List ℕ → ℕ → ℕ → ℕ → Grants
 stored m t e v = put (grants_of m) t (put (grants_of m t) e v)
@@ -54,6 +81,33 @@ module _ (m k : List ℕ) (size : length m ≡ grant_words) where
       go u e a b (other o _) =
           C.others (64 * u + e) (λ i l z. o (omega arith)) ∙ sym (grants_at m u e a b)
           ∙ sym (ap (λ (r : ℕ → ℕ). r e) (put_other (grants_of m) t u (λ e. 0) o))
+
+  -- The part of the memory that is a thread's, filled with 0.
+  pub row_filled :
+      (t : ℕ) {n : ℕ} {z : List ℕ} → t ≤ 255 → n ≡ 64 → z ≡ replicate (length (take n (drop (64 * t) m))) 0
+      → k ≡ put_mid (64 * t) n m z → k ≡ grant_image (put (grants_of m) t (λ e. 0))
+  unfolding word
+  row_filled t {n} {z} h is filled w =
+      let room : 64 * t + n ≤ length m = omega arith in
+      let part : length (take n (drop (64 * t) m)) ≡ n = search (rules, moves) in
+      let long : length z ≡ n = ap length filled ∙ length-replicate {A = ℕ} _ 0 ∙ part in
+      row_cleared t 64 (omega arith) (omega arith)
+      (record {
+        size = ap length w ∙ search (rules, overwrites);
+        zeros = λ i l.
+            ap (λ (l : List ℕ). get_or l (64 * t + i) 0) w ∙ within m z (64 * t) n long room i (omega arith)
+            ∙ ap (λ (l : List ℕ). get_or l i 0) filled ∙ get_or-replicate _ i 0 0 (omega arith);
+        others = λ j l.
+            ap (λ (l : List ℕ). get_or l j 0) w ∙ go j l long room (ltb j (64 * t)) refl;
+      })
+    where
+      go : (j : ℕ) → ((i : ℕ) → i < 64 → j ≡ 64 * t + i → ⊥) → length z ≡ n → 64 * t + n ≤ length m → (b : Bool)
+          → ltb j (64 * t) ≡ b → get_or (put_mid (64 * t) n m z) j 0 ≡ get_or m j 0
+      go j l long room true b = below m z (64 * t) n long room j (ltb-true j (64 * t) b)
+      go j l long room false b =
+          let low = ltb-false j (64 * t) b in
+          let high = apart t j l low in
+          above m z (64 * t) n long room j (omega arith)
 
   -- All words of an endpoint cleared.
   pub column_cleared :

@@ -25,18 +25,15 @@ const DELETE: u32 = 4;
 
 const ABORT: u32 = 8;
 
-// Whether no word has a badge without a right. The bound is a constant and the tests are joined without a branch, so
-// that several words are tried at a time.
+// Whether no word has a badge without a right. The tests are joined without a branch, so that several words are tried
+// at a time.
 pub fn sound(grants: &[u32]) -> bool
     requires { length grants.now ≡ grant_words }
     ensures { result ≡ grants_test grants.now }
 {
     let mut sound = true;
-    let mut i = 0;
-    while i < GRANT_WORDS {
-        let word = grants[i];
-        sound = ((word == 0) | (word >= BADGES)) & sound;
-        i += 1;
+    for &word in grants {
+        sound &= (word == 0) | (word >= BADGES);
     }
     sound
 }
@@ -58,6 +55,7 @@ fn permits(word: u32, right: u32) -> bool
 }
 
 // Whether the thread that makes the call lacks the right that it needs, or the badge that it sends under.
+#[tactic(auto, unfolding(machine::specs::Grants::lacks))]
 pub fn lacks(grants: &[u32], thread: usize, c: Call) -> bool
     requires { (length grants.now ≡ grant_words) × (thread ≤ 255) × (in_range c ≡ true) }
     ensures { result ≡ lacks (grants_of grants.now thread (endpoint_of c)) c }
@@ -66,21 +64,14 @@ pub fn lacks(grants: &[u32], thread: usize, c: Call) -> bool
         Call::Send {
             endpoint,
             badge,
-            message: _,
+            ..
         } => {
             let word = granted(grants, thread, endpoint);
             !(permits(word, SEND) & (word % BADGES == badge))
         }
         Call::Receive { endpoint } => !permits(granted(grants, thread, endpoint), RECEIVE),
-        Call::Delete {
-            endpoint,
-            allowance: _,
-        } => !permits(granted(grants, thread, endpoint), DELETE),
-        Call::Abort {
-            endpoint,
-            allowance: _,
-            badge: _,
-        } => !permits(granted(grants, thread, endpoint), ABORT),
+        Call::Delete { endpoint, .. } => !permits(granted(grants, thread, endpoint), DELETE),
+        Call::Abort { endpoint, .. } => !permits(granted(grants, thread, endpoint), ABORT),
         _ => false,
     }
 }
@@ -90,11 +81,8 @@ pub fn clear_thread(grants: &mut [u32], thread: usize)
     requires { (length grants.old ≡ grant_words) × (thread ≤ 255) }
     ensures { grants.new ≡ grant_image (put (grants_of grants.old) thread (λ e. 0)) }
 {
-    let mut e = 0;
-    while e < ENDPOINTS {
-        grants[ENDPOINTS * thread + e] = 0;
-        e += 1;
-    }
+    let first = ENDPOINTS * thread;
+    grants[first..first + ENDPOINTS].fill(0);
 }
 
 // No thread has grants at an endpoint.
@@ -102,10 +90,8 @@ pub fn clear_endpoint(grants: &mut [u32], endpoint: usize)
     requires { (length grants.old ≡ grant_words) × (endpoint ≤ 63) }
     ensures { grants.new ≡ grant_image (λ t. put (grants_of grants.old t) endpoint 0) }
 {
-    let mut t = 0;
-    while t < THREADS {
+    for t in 0..THREADS {
         grants[ENDPOINTS * t + endpoint] = 0;
-        t += 1;
     }
 }
 
@@ -131,6 +117,7 @@ fn store(grants: &mut [u32], thread: usize, endpoint: usize, v: u32)
 }
 
 // Call 13's word: the rights and the badge of a thread at an endpoint.
+#[tactic(auto, unfolding(machine::specs::Grants::regranted))]
 pub fn give(grants: &mut [u32], thread: usize, endpoint: usize, rights: u32, badge: u32)
     requires { (length grants.old ≡ grant_words) × (thread ≤ 255) × (endpoint ≤ 63) × (rights ≤ 15)
         × (badge < 2 ^ 28) }

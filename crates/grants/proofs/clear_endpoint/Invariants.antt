@@ -1,10 +1,7 @@
 -- An endpoint's words are cleared. The loop's invariant: those of the threads below t are 0, all others as they were.
-use Prim.Native.Nat.{◌+◌, ◌*◌, ◌≤◌, ◌-◌}
+use Prim.Native.Nat.{◌+◌, ◌*◌}
 use Rattle.grants.proofs.Stores.{Cleared}
 use Rattle.grants.proofs.clear_endpoint.Given as goal
 
 abbrev pub invariant-loop-t : goal.invariant-loop-t
-invariant-loop-t l = (l.t ≤ 256) × Cleared (λ u. 64 * u + l.endpoint) l.t l.initial.grants l.grants
-
-abbrev pub decreases-loop-t : goal.decreases-loop-t
-decreases-loop-t l = 256 - l.t
+invariant-loop-t l = Cleared (λ u. 64 * u + l.endpoint) l.t l.initial.grants l.grants
