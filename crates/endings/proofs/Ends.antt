@@ -1,21 +1,14 @@
 -- The end of a call: refused, accepted, and steps before the end.
 use Prim.Native.Nat.{ℕ}
 use mathlib.Core.Path.{◌≡◌, ◌∙◌, ap, subst}
-use mathlib.Core.List.{List, []}
+use mathlib.Core.List.{List}
 use Rattle.calls.specs.declared.Answer.{Answer}
 use Rattle.machine.specs.State.{State}
-use Rattle.machine.specs.Results.{Result, accept, refuse}
+use Rattle.machine.specs.Results.{Result, refuse}
 use Rattle.calls.specs.Answers.{plain}
 use Rattle.layout.specs.Shows.{Shows}
 use Rattle.store.specs.Steps.{Shown, Does}
-use Rattle.queues.specs.Queues.{Chooses}
-use Rattle.endings.specs.Results.{Performs, Accepts}
-
--- An accepted call that has no looks.
-pub answered :
-    {m n : List ℕ} {a b : Answer} (k : Answer) → a ≡ k → Accepts m a b Chooses n
-    → Performs m n b Chooses (accept k [])
-answered {m} {n} {b = b} k e A = subst (λ (x : Answer). Performs m n b Chooses (accept x [])) e (A.performs [])
+use Rattle.endings.specs.Results.{Performs}
 
 -- A refusal leaves the memory.
 pub refused :
