@@ -1,49 +1,48 @@
 -- Who runs decides whether the call can be made, and its grants whether it may.
-use mathlib.Core.Path.{◌≡◌, sym, ◌∙◌, ap}
-use mathlib.Core.Bool.{false}
-use native.Mathlib.Omega.{arith}
-use Rattle.calls.specs.declared.Answer.{Answer}
-use Rattle.calls.specs.Answers.{thread_of}
-use Rattle.machine.specs.Grants.{barred}
+use mathlib.Core.Path.{◌∙◌, refl, sym, ap}
+use mathlib.Core.Bool.{◌&&◌}
+use Prim.Native.Nat.{ℕ}
+use lib.Dec.{leb}
+use Rattle.std.specs.Prelude.{Err}
+use Rattle.calls.specs.declared.Refusal.TheVariants.{NobodyRuns, NoRight}
 use Rattle.grants.specs.Memory.{grants_of}
-use Rattle.lent_tables.specs.Entries.{runner_of}
 use Rattle.dispatch.proofs.Granting.{refused_grants}
-use Rattle.dispatch.proofs.Cases.{link_within, nobody_calls, lacking, host_unbarred, served_done}
+use Rattle.dispatch.proofs.Cases.{May, own_may, host_may, thread_within, nobody_calls, lacking, served_done}
 use Rattle.kernel.proofs.admit.Goals as goal
-use Rattle.kernel.proofs.admit.Goals.{else-own-via-then-own+else-lacks, else-own-via-else-own}
+use Rattle.kernel.proofs.admit.Goals.{then-is_own+else-link-eq-NOBODY+else-lacks, else-is_own}
 
-pub returns-then-own-link-clause-performs : goal.returns-then-own-link-clause-performs
-returns-then-own-link-clause-performs c =
-    nobody_calls c.args.c c.running-link.ensures c.number-number.ensures _
-    c.if-own-link.true c.plain.ensures
+pub returns-then-link-eq-NOBODY-clause-performs : goal.returns-then-link-eq-NOBODY-clause-performs
+returns-then-link-eq-NOBODY-clause-performs c =
+    nobody_calls c.args.c c.running-link.ensures _
+    (ap (λ (n : ℕ). leb 7 n && leb n 12) (sym c.number.ensures) ∙ sym c.is_own.ensures ∙ c.if-is_own.true)
+    c.if-link-eq-NOBODY.true
 
-pub returns-then-own-link-clause-regrants : goal.returns-then-own-link-clause-regrants
-returns-then-own-link-clause-regrants c =
-    refused_grants _ _ _ c.requires.1 (omega (arith, ap (λ (a : Answer). a.code) c.plain.ensures))
+pub returns-then-link-eq-NOBODY-clause-regrants : goal.returns-then-link-eq-NOBODY-clause-regrants
+returns-then-link-eq-NOBODY-clause-regrants c = refused_grants _ (Err NobodyRuns) _ c.requires.1 refl
 
 pub lacks-requires : goal.lacks-requires
 lacks-requires c = (
   c.requires.1,
-  link_within c.args.c c.running-link.ensures c.number-number.ensures c.requires.0,
+  thread_within c.args.c c.running-link.ensures c.requires.0,
   c.requires.0.holds.numbers,
 )
 
 pub returns-then-lacks-clause-performs : goal.returns-then-lacks-clause-performs
 returns-then-lacks-clause-performs c =
-    lacking c.args.c c.running-link.ensures c.number-number.ensures _
-    (sym c.lacks.ensures ∙ c.if-lacks.true) c.plain-then-lacks.ensures
+    lacking c.args.c c.running-link.ensures _ c.if-link-eq-NOBODY.false (sym c.lacks.ensures ∙ c.if-lacks.true)
 
 pub returns-then-lacks-clause-regrants : goal.returns-then-lacks-clause-regrants
-returns-then-lacks-clause-regrants c =
-    refused_grants _ _ _ c.requires.1 (omega (arith, ap (λ (a : Answer). a.code) c.plain-then-lacks.ensures))
+returns-then-lacks-clause-regrants c = refused_grants _ (Err NoRight) _ c.requires.1 refl
 
--- Where the two tests meet, nobody is barred: the host calls, or the thread has its right.
+-- Where the two tests meet, the host calls, or the thread has its right.
 pub returns-clause-performs : goal.returns-clause-performs
 returns-clause-performs c =
-    let unbarred : barred (thread_of (runner_of c.running-link.result)) (grants_of c.args.grants.now) c.args.c ≡ false =
-    elim c.else-own.branch [
-      | else-own-via-then-own+else-lacks w ↦ sym w.lacks.ensures ∙ w.if-lacks.false
-      | else-own-via-else-own w ↦ host_unbarred c.args.c c.running-link.ensures c.number-number.ensures _ w.if-own.false
+    let may : May c.running-link.result (grants_of c.args.grants.now) c.args.c =
+    elim c.if-is_own.branch [
+      | then-is_own+else-link-eq-NOBODY+else-lacks w ↦
+          own_may _ _ w.if-link-eq-NOBODY.false (sym w.lacks.ensures ∙ w.if-lacks.false)
+      | else-is_own w ↦
+          host_may _ _
+          (ap (λ (n : ℕ). leb 7 n && leb n 12) (sym c.number.ensures) ∙ sym c.is_own.ensures ∙ w.if-is_own.false)
     ] in
-    served_done c.args.c c.running-link.ensures c.number-number.ensures _ c.if-own-link.false unbarred
-    c.carry_out.ensures.performs
+    served_done c.args.c c.running-link.ensures _ may c.carry_out.ensures.performs
