@@ -14,6 +14,7 @@ use layout::codes::{ABORTING, LINK, NO_ABORT, NOBODY};
 use layout::{Field, Part, codes};
 
 // Thread t leaves the set that it is in, or its note goes.
+#[tactic(auto, using(crate::proofs::Joining::leaves))]
 pub fn drop_debt(tables: &mut [u32], t: usize)
     requires { Shown tables.old (IsThread t) }
     ensures { Does tables.old tables.new (IsThread t) (drop_debt t) }
@@ -26,12 +27,8 @@ pub fn under_abort(tables: &[u32], e: usize, badge: u32) -> bool
     requires { Shown tables.now (IsEndpoint e) }
     ensures { Says tables.now (IsEndpoint e) result (under_in e badge) }
 {
-    let here = store::endpoint(tables, Part::Aborting, e);
-    if here == NO_ABORT {
-        return false;
-    }
-    let aborted = store::endpoint(tables, Part::Aborted, e);
-    aborted == badge
+    store::endpoint(tables, Part::Aborting, e) != NO_ABORT
+        && store::endpoint(tables, Part::Aborted, e) == badge
 }
 
 // Whether thread t has the note that the abort of this endpoint and badge ended.
@@ -39,16 +36,12 @@ pub fn has_note(tables: &[u32], t: usize, e: usize, badge: u32) -> bool
     requires { Shown tables.now (InCall t e) }
     ensures { Says tables.now (InCall t e) result (noted_in t e badge) }
 {
-    let owes = store::thread(tables, Field::Owes, t);
-    let code = codes::NOTE + e as u32;
-    if owes != code {
-        return false;
-    }
-    let note = store::thread(tables, Field::Note, t);
-    note == badge
+    store::thread(tables, Field::Owes, t) == codes::NOTE + e as u32
+        && store::thread(tables, Field::Note, t) == badge
 }
 
 // Thread t joins the set at endpoint e.
+#[tactic(auto, using(crate::proofs::Joining::joins))]
 pub fn join(tables: &mut [u32], t: usize, e: usize)
     requires { Shown tables.old (PairInRange t e) }
     ensures { Does tables.old tables.new (PairInRange t e) (join t e) }
@@ -61,12 +54,9 @@ fn note_member(tables: &mut [u32], t: usize, e: usize, badge: u32)
     requires { Shown tables.old (PairInRange t e) }
     ensures { Does tables.old tables.new (PairInRange t e) (note_one t e badge) }
 {
-    let owes = store::thread(tables, Field::Owes, t);
-    let member = codes::MEMBER + e as u32;
-    if owes != member {
-        return;
+    if store::thread(tables, Field::Owes, t) == codes::MEMBER + e as u32 {
+        store::set_owes(tables, t, codes::NOTE + e as u32, badge);
     }
-    store::set_owes(tables, t, codes::NOTE + e as u32, badge);
 }
 
 // Each member of the set at endpoint e gets a note of the badge. The set stands in the threads' words alone, so all are
@@ -75,10 +65,8 @@ fn note_members(tables: &mut [u32], e: usize, badge: u32)
     requires { Shown tables.old (IsEndpoint e) }
     ensures { Does tables.old tables.new (IsEndpoint e) (note_all e badge) }
 {
-    let mut t = 0;
-    while t < THREADS {
+    for t in 0..THREADS {
         note_member(tables, t, e, badge);
-        t += 1;
     }
 }
 
@@ -87,15 +75,14 @@ fn note_set(tables: &mut [u32], e: usize)
     requires { Shown tables.old (IsEndpoint e) }
     ensures { Does tables.old tables.new (IsEndpoint e) (noting e) }
 {
-    let here = store::endpoint(tables, Part::Aborting, e);
-    if here == NO_ABORT {
-        return;
+    if store::endpoint(tables, Part::Aborting, e) != NO_ABORT {
+        let badge = store::endpoint(tables, Part::Aborted, e);
+        note_members(tables, e, badge);
     }
-    let badge = store::endpoint(tables, Part::Aborted, e);
-    note_members(tables, e, badge);
 }
 
 // The abort at endpoint e, if one stands, ends, and the endpoint has the status given.
+// stays: the status is the word's number, which `EndsAbort` speaks of.
 pub fn end_abort(tables: &mut [u32], e: usize, status: u32)
     requires { Shown tables.old (IsEndpoint e) }
     ensures { EndsAbort tables.old e status tables.new }
@@ -107,6 +94,7 @@ pub fn end_abort(tables: &mut [u32], e: usize, status: u32)
 
 // The link to the first waiter at endpoint e if it is at this place, sending or receiving; otherwise 0, and no waiter
 // is, since all are alike.
+// stays: place and link are the words' numbers, of which `FirstAt` and `begin`'s marks speak.
 pub fn first_at(tables: &[u32], e: usize, place: u32) -> u32
     requires { Shown tables.now (Alike e) }
     ensures { FirstAt tables.now e place result }
