@@ -1,73 +1,77 @@
 // What came of a call.
 #![tactic(auto)]
 
-ghost use Rattle.texts.specs.Buffer.{Room, Wrote};
+ghost use Rattle.std.specs.Prelude.{◌≡◌, ◌+◌, ◌≤◌, ◌++◌, length};
 ghost use Rattle.wording.specs.Sentence.{cause, outcome, detail, details};
 
 use calls::{Answer, codes};
+use texts::Line;
 use wording::one;
 
 // Why, for the numbers that have a cause.
-fn cause(out: &mut [u8], at: usize, code: u32) -> usize
-    requires { Room out.old at (cause code) }
-    ensures { Wrote out.old at (cause code) result out.new }
+// stays: a number, no Refusal, since an answer from C has any number for its code (`sentence_in`, `cause`)
+#[tactic(auto, unfolding(wording::specs::Sentence::cause, texts::specs::Text::bytes))]
+fn cause(code: u32) -> &'static [u8]
+    ensures { result.now ≡ cause code }
 {
     match code {
-        16 => texts::say(out, at, b", wrong memory length"),
-        17 => texts::say(out, at, b", memory is not sound"),
-        18 => texts::say(out, at, b", this is no call"),
-        19 => texts::say(out, at, b", number out of range"),
-        20 => texts::say(out, at, b", no thread runs"),
-        21 => texts::say(out, at, b", no such thread"),
-        22 => texts::say(out, at, b", the thread exists"),
-        23 => texts::say(out, at, b", no such endpoint"),
-        24 => texts::say(out, at, b", the endpoint exists"),
-        25 => texts::say(out, at, b", endpoint is closing"),
-        26 => texts::say(out, at, b", badge is under abort"),
-        27 => texts::say(out, at, b", the line has a waiter"),
-        28 => texts::say(out, at, b", buffer too short"),
-        29 => texts::say(out, at, b", lacks right or badge"),
-        30 => texts::say(out, at, b", too much to bill"),
-        _ => at,
+        16 => b", wrong memory length",
+        17 => b", memory is not sound",
+        18 => b", this is no call",
+        19 => b", number out of range",
+        20 => b", no thread runs",
+        21 => b", no such thread",
+        22 => b", the thread exists",
+        23 => b", no such endpoint",
+        24 => b", the endpoint exists",
+        25 => b", endpoint is closing",
+        26 => b", badge is under abort",
+        27 => b", the line has a waiter",
+        28 => b", buffer too short",
+        29 => b", lacks right or badge",
+        30 => b", too much to bill",
+        _ => b"",
     }
 }
 
-// The outcome at a place of the buffer; the next place.
-pub fn outcome(out: &mut [u8], at: usize, code: u32) -> usize
-    requires { Room out.old at (outcome code) }
-    ensures { Wrote out.old at (outcome code) result out.new }
+// The outcome.
+#[tactic(auto, unfolding(wording::specs::Sentence::outcome, texts::specs::Text::bytes))]
+pub fn outcome<const N: usize>(line: &mut Line<N>, code: u32)
+    requires { length line.old + length (outcome code) ≤ N }
+    ensures { line.new ≡ line.old ++ outcome code }
 {
     match code {
-        0 => texts::say(out, at, b"done"),
-        1 => texts::say(out, at, b"blocked"),
-        2 => texts::say(out, at, b"broken off"),
+        codes::DONE => line.say(b"done"),
+        codes::BLOCKED => line.say(b"blocked"),
+        codes::BROKEN_OFF => line.say(b"broken off"),
         _ => {
-            let next = one(out, at, b"refused by ", code);
-            cause(out, next, code)
+            one(line, b"refused by ", code);
+            line.say(cause(code));
         }
     }
 }
 
 // A number behind its name, where it is asked for or is not 0.
-fn detail(out: &mut [u8], at: usize, asked: bool, name: &[u8], n: u32) -> usize
-    requires { Room out.old at (detail asked name.now n) }
-    ensures { Wrote out.old at (detail asked name.now n) result out.new }
+#[tactic(auto, unfolding(wording::specs::Sentence::detail))]
+fn detail<const N: usize>(line: &mut Line<N>, asked: bool, name: &[u8], n: u32)
+    requires { length line.old + length (detail asked name.now n) ≤ N }
+    ensures { line.new ≡ line.old ++ detail asked name.now n }
 {
     if asked | (n != 0) {
-        return one(out, at, name, n);
+        one(line, name, n);
     }
-    at
 }
 
 // Of count, badge and message those that are told; the call by its number.
-pub fn details(out: &mut [u8], at: usize, call: u32, a: Answer) -> usize
-    requires { Room out.old at (details call a) }
-    ensures { Wrote out.old at (details call a) result out.new }
+#[tactic(auto, unfolding(wording::specs::Sentence::details, wording::specs::Sentence::asks_count, wording::specs::Sentence::asks_message, texts::specs::Text::bytes))]
+pub fn details<const N: usize>(line: &mut Line<N>, call: u32, a: Answer)
+    requires { length line.old + length (details call a) ≤ N }
+    ensures { line.new ≡ line.old ++ details call a }
 {
     let ended = a.code == codes::DONE;
     let counts = ((call == 11) | (call == 12)) & (ended | (a.code == codes::BROKEN_OFF));
     let received = (call == 8) & ended;
-    let badge_at = detail(out, at, counts, b", count ", a.count);
-    let message_at = detail(out, badge_at, received, b", badge ", a.badge);
-    detail(out, message_at, received, b", message ", a.message)
+    detail(line, counts, b", count ", a.count);
+    detail(line, received, b", badge ", a.badge);
+    detail(line, received, b", message ", a.message);
 }

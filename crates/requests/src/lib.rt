@@ -1,108 +1,83 @@
 // What was asked.
-#![tactic(auto)]
+#![tactic(auto, unfolding(wording::specs::Sentence::request, texts::specs::Text::bytes))]
 
-ghost use Rattle.calls.specs.declared.Call.TheVariants.{Send, Abort, Grant};
-ghost use Rattle.texts.specs.Buffer.{Room, Wrote};
+ghost use Rattle.std.specs.Prelude.{◌≡◌, ◌+◌, ◌≤◌, ◌++◌, length};
+ghost use Rattle.calls.specs.declared.Call.TheVariants.{Send, Delete, Abort, Grant};
 ghost use Rattle.wording.specs.Sentence.{request};
 
 use calls::Call;
+use texts::Line;
 use wording::{one, two};
 
-fn send(out: &mut [u8], at: usize, endpoint: u32, badge: u32, message: u32) -> usize
-    requires { Room out.old at (request (Send endpoint badge message)) }
-    ensures { Wrote out.old at (request (Send endpoint badge message)) result out.new }
+fn send<const N: usize>(line: &mut Line<N>, endpoint: u32, badge: u32, message: u32)
+    requires { length line.old + length (request (Send endpoint badge message)) ≤ N }
+    ensures { line.new ≡ line.old ++ request (Send endpoint badge message) }
 {
-    let next = one(out, at, b"Send message ", message);
-    two(
-        out,
-        next,
-        b" under badge ",
-        badge,
-        b" to endpoint ",
-        endpoint,
-    )
+    one(line, b"Send message ", message);
+    two(line, b" under badge ", badge, b" to endpoint ", endpoint);
 }
 
-fn abort(out: &mut [u8], at: usize, endpoint: u32, allowance: u32, badge: u32) -> usize
-    requires { Room out.old at (request (Abort endpoint allowance badge)) }
-    ensures { Wrote out.old at (request (Abort endpoint allowance badge)) result out.new }
+fn delete<const N: usize>(line: &mut Line<N>, endpoint: u32, allowance: u32)
+    requires { length line.old + length (request (Delete endpoint allowance)) ≤ N }
+    ensures { line.new ≡ line.old ++ request (Delete endpoint allowance) }
 {
-    let next = one(out, at, b"Abort badge ", badge);
-    two(
-        out,
-        next,
-        b" at endpoint ",
-        endpoint,
-        b" with allowance ",
-        allowance,
-    )
+    two(line, b"Delete endpoint ", endpoint, b" with allowance ", allowance);
 }
 
-fn grant(out: &mut [u8], at: usize, thread: u32, endpoint: u32, rights: u32, badge: u32) -> usize
-    requires { Room out.old at (request (Grant thread endpoint rights badge)) }
-    ensures { Wrote out.old at (request (Grant thread endpoint rights badge)) result out.new }
+fn abort<const N: usize>(line: &mut Line<N>, endpoint: u32, allowance: u32, badge: u32)
+    requires { length line.old + length (request (Abort endpoint allowance badge)) ≤ N }
+    ensures { line.new ≡ line.old ++ request (Abort endpoint allowance badge) }
 {
-    let next = two(out, at, b"Grant thread ", thread, b" rights ", rights);
-    two(
-        out,
-        next,
-        b" at endpoint ",
-        endpoint,
-        b" under badge ",
-        badge,
-    )
+    one(line, b"Abort badge ", badge);
+    two(line, b" at endpoint ", endpoint, b" with allowance ", allowance);
 }
 
-// The request of a call at a place of the buffer; the next place.
-pub fn request(out: &mut [u8], at: usize, call: Call) -> usize
-    requires { Room out.old at (request call) }
-    ensures { Wrote out.old at (request call) result out.new }
+fn grant<const N: usize>(line: &mut Line<N>, thread: u32, endpoint: u32, rights: u32, badge: u32)
+    requires { length line.old + length (request (Grant thread endpoint rights badge)) ≤ N }
+    ensures { line.new ≡ line.old ++ request (Grant thread endpoint rights badge) }
+{
+    two(line, b"Grant thread ", thread, b" rights ", rights);
+    two(line, b" at endpoint ", endpoint, b" under badge ", badge);
+}
+
+// The request of a call.
+pub fn request<const N: usize>(line: &mut Line<N>, call: Call)
+    requires { length line.old + length (request call) ≤ N }
+    ensures { line.new ≡ line.old ++ request call }
 {
     match call {
-        Call::CreateThread { thread, priority } => two(
-            out,
-            at,
-            b"Create thread ",
-            thread,
-            b" with priority ",
-            priority,
-        ),
-        Call::DestroyThread { thread } => one(out, at, b"Destroy thread ", thread),
-        Call::SetPriority { thread, priority } => {
-            two(out, at, b"Set thread ", thread, b" to priority ", priority)
+        Call::CreateThread { thread, priority } => {
+            two(line, b"Create thread ", thread, b" with priority ", priority)
         }
-        Call::CreateEndpoint { endpoint } => one(out, at, b"Create endpoint ", endpoint),
-        Call::Interrupt { line } => one(out, at, b"Interrupt on line ", line),
-        Call::Tick => texts::say(out, at, b"Tick"),
+        Call::DestroyThread { thread } => one(line, b"Destroy thread ", thread),
+        Call::SetPriority { thread, priority } => {
+            two(line, b"Set thread ", thread, b" to priority ", priority)
+        }
+        Call::CreateEndpoint { endpoint } => one(line, b"Create endpoint ", endpoint),
+        Call::Interrupt { line: n } => one(line, b"Interrupt on line ", n),
+        Call::Tick => line.say(b"Tick"),
         Call::Send {
             endpoint,
             badge,
             message,
-        } => send(out, at, endpoint, badge, message),
-        Call::Receive { endpoint } => one(out, at, b"Receive at endpoint ", endpoint),
-        Call::Yield => texts::say(out, at, b"Yield"),
-        Call::Wait { line } => one(out, at, b"Wait on line ", line),
+        } => send(line, endpoint, badge, message),
+        Call::Receive { endpoint } => one(line, b"Receive at endpoint ", endpoint),
+        Call::Yield => line.say(b"Yield"),
+        Call::Wait { line: n } => one(line, b"Wait on line ", n),
         Call::Delete {
             endpoint,
             allowance,
-        } => two(
-            out,
-            at,
-            b"Delete endpoint ",
-            endpoint,
-            b" with allowance ",
-            allowance,
-        ),
+        } => delete(line, endpoint, allowance),
         Call::Abort {
             endpoint,
             allowance,
             badge,
-        } => abort(out, at, endpoint, allowance, badge),
+        } => abort(line, endpoint, allowance, badge),
         Call::Grant {
             thread,
             endpoint,
             rights,
             badge,
-        } => grant(out, at, thread, endpoint, rights, badge),
+        } => grant(line, thread, endpoint, rights, badge),
     }
 }

@@ -2,90 +2,85 @@
 // specs/Sentence.antt; that no two pairs of call and answer have the same line stands there in proofs/Apart.antt.
 #![tactic(auto)]
 
-ghost use Rattle.std.specs.Prelude.{◌≡◌};
-ghost use Rattle.texts.specs.Buffer.{Room, Wrote, Counts};
+ghost use Rattle.std.specs.Prelude.{◌≡◌, ◌+◌, ◌≤◌, ◌++◌, true, length, IfOk};
+ghost use Rattle.calls.specs.Calls.{in_range};
+ghost use Rattle.texts.specs.Buffer.{Counts};
 ghost use Rattle.texts.specs.Filed.{Filed};
 ghost use Rattle.wording.specs.Sentence.{clause, sentence, stop_clause, stop_line};
-ghost use Rattle.wording.specs.Entry.{sentence_for, stop_for};
+ghost use Rattle.wording.specs.Entry.{sentence_room, told, sentence_for, stop_for};
 
-use calls::{Answer, Call, codes};
-use texts::Output;
+use calls::{Answer, Call, Refusal};
+use texts::Line;
 
 // Room for the line of every call in range; the longest has 159 bytes.
 pub const ROOM: usize = 160;
 
-// That the buffer has no room for every line.
-pub const SHORT: u32 = 28;
-
-// What was asked and what came of it, at a place of the buffer; the next place.
-pub fn clause(out: &mut [u8], at: usize, call: Call, answer: Answer) -> usize
-    requires { Room out.old at (clause call answer) }
-    ensures { Wrote out.old at (clause call answer) result out.new }
+// What was asked and what came of it.
+pub fn clause<const N: usize>(line: &mut Line<N>, call: Call, answer: Answer)
+    requires { length line.old + length (clause call answer) ≤ N }
+    ensures { line.new ≡ line.old ++ clause call answer }
 {
-    let colon = requests::request(out, at, call);
-    let outcome_at = texts::say(out, colon, b": ");
-    let details_at = outcomes::outcome(out, outcome_at, answer.code);
-    let number = calls::number(call);
-    outcomes::details(out, details_at, number, answer)
+    requests::request(line, call);
+    line.say(b": ");
+    outcomes::outcome(line, answer.code);
+    outcomes::details(line, calls::number(call), answer);
 }
 
-// The line at the front of the buffer; its length.
-fn line(out: &mut [u8], call: Call, answer: Answer) -> usize
-    requires { Room out.old 0 (sentence call answer) }
-    ensures { Wrote out.old 0 (sentence call answer) result out.new }
+// The sentence of a call in range.
+pub fn say<const N: usize>(line: &mut Line<N>, call: Call, answer: Answer)
+    requires { (length line.old + sentence_room ≤ N) × (in_range call ≡ true) }
+    ensures upper_bound { length line.new ≤ length line.old + sentence_room }
+    ensures said { line.new ≡ line.old ++ sentence call answer }
 {
-    let end = clause(out, 0, call, answer);
-    texts::say(out, end, b".\n")
+    clause(line, call, answer);
+    line.say(b".\n");
 }
 
-// The sentence of a call and its answer at the front of the buffer: 0 and its length; 28 for a buffer under 160 bytes,
-// then 19 for a call out of range, and the buffer stays.
-pub fn sentence(out: &mut [u8], call: Call, answer: Answer) -> Output
-    ensures fact { ◌≡◌ {A = Filed} (record { code = result.code; used = result.used; out = out.new })
-        (sentence_for call answer out.old) }
-    ensures counts { Counts result.used out.new }
+// The sentence of a call and its answer at the front of the buffer: its length; Short for a buffer under 160 bytes,
+// then Range for a call out of range, and the buffer stays.
+pub fn sentence(out: &mut [u8], call: Call, answer: Answer) -> Result<usize, Refusal>
+    ensures fact { ◌≡◌ {A = Filed} (told result out.new) (sentence_for call answer out.old) }
+    ensures counts { IfOk result (λ used. Counts used out.new) }
 {
     if out.len() < ROOM {
-        return texts::refused(SHORT);
+        return Err(Refusal::Short);
     }
     if !calls::in_range(call) {
-        return texts::refused(codes::RANGE);
+        return Err(Refusal::Range);
     }
-    Output {
-        code: codes::DONE,
-        used: line(out, call, answer),
-    }
+    let mut line: Line<ROOM> = Line::new();
+    say(&mut line, call, answer);
+    Ok(line.put(out, 0))
 }
 
-// That the journal does not go on, at a place of the buffer; the next place.
-pub fn stop_clause(out: &mut [u8], at: usize, code: u32) -> usize
-    requires { Room out.old at (stop_clause code) }
-    ensures { Wrote out.old at (stop_clause code) result out.new }
+// That the journal does not go on.
+pub fn stop_clause<const N: usize>(line: &mut Line<N>, code: u32)
+    requires { length line.old + length (stop_clause code) ≤ N }
+    ensures { line.new ≡ line.old ++ stop_clause code }
 {
-    let outcome_at = texts::say(out, at, b"The journal does not go on: ");
-    outcomes::outcome(out, outcome_at, code)
+    line.say(b"The journal does not go on: ");
+    outcomes::outcome(line, code);
 }
 
-// The line of a word that the journal does not go on with, at the front of the buffer; its length.
-fn stop_line(out: &mut [u8], code: u32) -> usize
-    requires { Room out.old 0 (stop_line code) }
-    ensures { Wrote out.old 0 (stop_line code) result out.new }
+// The line of a word that the journal does not go on with.
+pub fn say_stop<const N: usize>(line: &mut Line<N>, code: u32)
+    requires { length line.old + sentence_room ≤ N }
+    ensures upper_bound { length line.new ≤ length line.old + sentence_room }
+    ensures said { line.new ≡ line.old ++ stop_line code }
 {
-    let next = stop_clause(out, 0, code);
-    texts::say(out, next, b".\n")
+    stop_clause(line, code);
+    line.say(b".\n");
 }
 
-// That line as an entry, by the reader's number: 0 and its length, or 28 as above.
-pub fn stop(out: &mut [u8], code: u32) -> Output
-    ensures fact { ◌≡◌ {A = Filed} (record { code = result.code; used = result.used; out = out.new })
-        (stop_for code out.old) }
-    ensures counts { Counts result.used out.new }
+// That line as an entry, by the reader's number: its length, or Short as above.
+pub fn stop(out: &mut [u8], code: u32) -> Result<usize, Refusal>
+    ensures fact { ◌≡◌ {A = Filed} (told result out.new) (stop_for code out.old) }
+    ensures counts { IfOk result (λ used. Counts used out.new) }
 {
     if out.len() < ROOM {
-        return texts::refused(SHORT);
+        return Err(Refusal::Short);
     }
-    Output {
-        code: codes::DONE,
-        used: stop_line(out, code),
-    }
+    let mut line: Line<ROOM> = Line::new();
+    say_stop(&mut line, code);
+    Ok(line.put(out, 0))
 }

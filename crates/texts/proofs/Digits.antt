@@ -79,3 +79,11 @@ length_below (suc k) n h = go (digits? n) (length_below k (n / 10))
 pub length_spaced : (n : ℕ) → length (spaced n) ≡ length (decimal n) + 1
 unfolding spaced
 length_spaced n = rw length-append
+
+-- A word of 64 bits has at most 20 digits.
+pub length_word : (n : ℕ) → n < 2 ^ 64 → length (decimal n) ≤ 20
+length_word n h = length_below 19 n (omega (arith, h))
+
+-- and at most 19 before its last.
+pub length_front : (n : ℕ) → 10 ≤ n → n < 2 ^ 64 → length (decimal (n / 10)) + 1 ≤ 20
+length_front n l h = omega (arith, length_more n l, length_word n h)

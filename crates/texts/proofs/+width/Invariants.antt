@@ -1,0 +1,5 @@
+use Rattle.std.proofs.Common.{ℕ}
+use Rattle.texts.proofs.+width.Given as goal
+
+abbrev pub decreases-width : goal.decreases-width
+decreases-width l = l.n
