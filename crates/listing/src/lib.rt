@@ -2,13 +2,14 @@
 // Which bytes they are stands in specs/Line.antt; that different lines are different bytes stands in proofs/Apart.antt.
 #![tactic(auto)]
 
-ghost use Rattle.std.specs.Prelude.{◌≡◌};
+ghost use Rattle.std.specs.Prelude.{◌≡◌, ◌+◌, ◌≤◌, ◌++◌, length};
 ghost use Rattle.calls.specs.Answers.{thread_of};
-ghost use Rattle.texts.specs.Buffer.{Room, Wrote, Counts};
+ghost use Rattle.texts.specs.Buffer.{Counts};
 ghost use Rattle.listing.specs.Line.{answer_text, runner, line_of, header, row_of};
-ghost use Rattle.listing.specs.Buffer.{line_length, after_line};
+ghost use Rattle.listing.specs.Buffer.{line_room, line_length, after_line};
 
-use calls::{Answer, Runner};
+use calls::Answer;
+use texts::Line;
 
 // What a line lists: index, call number, answer, and who runs.
 #[derive(Clone, Copy)]
@@ -16,35 +17,47 @@ pub struct Listed {
     pub index: u64,
     pub call: u32,
     pub answer: Answer,
-    pub running: Runner,
+    pub running: Option<u32>,
 }
 
 // Room for every line, whatever its numbers; the longest has 87 bytes.
 pub const ROOM: usize = 96;
 
 // The four numbers of an answer.
-fn fields(out: &mut [u8], at: usize, a: Answer) -> usize
-    requires { Room out.old at (answer_text a) }
-    ensures { Wrote out.old at (answer_text a) result out.new }
+#[tactic(auto, unfolding(crate::specs::Line::answer_text))]
+fn fields<const N: usize>(line: &mut Line<N>, a: Answer)
+    requires { length line.old + length (answer_text a) ≤ N }
+    ensures { line.new ≡ line.old ++ answer_text a }
 {
-    let count_at = texts::field(out, at, a.code as u64);
-    let badge_at = texts::field(out, count_at, a.count as u64);
-    let message_at = texts::field(out, badge_at, a.badge as u64);
-    texts::field(out, message_at, a.message as u64)
+    line.field(a.code as u64);
+    line.field(a.count as u64);
+    line.field(a.badge as u64);
+    line.field(a.message as u64);
 }
 
 // Who runs: a thread, or the sign - for nobody.
-fn who(out: &mut [u8], at: usize, running: Runner) -> usize
-    requires { Room out.old at (runner (thread_of running)) }
-    ensures { Wrote out.old at (runner (thread_of running)) result out.new }
+#[tactic(auto, unfolding(crate::specs::Line::runner))]
+fn who<const N: usize>(line: &mut Line<N>, running: Option<u32>)
+    requires { length line.old + length (runner (thread_of running)) ≤ N }
+    ensures { line.new ≡ line.old ++ runner (thread_of running) }
 {
     match running {
-        Runner::Nobody => {
-            out[at] = b'-';
-            at + 1
-        }
-        Runner::Thread(t) => texts::number(out, at, t as u64),
+        None => line.byte(b'-'),
+        Some(t) => line.number(t as u64),
     }
+}
+
+// The line of a row.
+pub fn say<const N: usize>(line: &mut Line<N>, l: Listed)
+    requires { length line.old + line_room ≤ N }
+    ensures upper_bound { length line.new ≤ length line.old + line_room }
+    ensures said { line.new ≡ line.old ++ line_of (row_of l) }
+{
+    line.field(l.index);
+    line.field(l.call as u64);
+    fields(line, l.answer);
+    who(line, l.running);
+    line.byte(b'\n');
 }
 
 // One line at the front of the buffer, if it has room for every line; how many bytes were written.
@@ -56,17 +69,13 @@ pub fn line(out: &mut [u8], l: Listed) -> usize
     if out.len() < ROOM {
         return 0;
     }
-    let call_at = texts::field(out, 0, l.index);
-    let answer_at = texts::field(out, call_at, l.call as u64);
-    let running_at = fields(out, answer_at, l.answer);
-    let running = l.running;
-    let end = who(out, running_at, running);
-    let next = end + 1;
-    out[end] = b'\n';
-    next
+    let mut line: Line<ROOM> = Line::new();
+    say(&mut line, l);
+    line.put(out, 0)
 }
 
 // The header at the front of the buffer, if it has room for every line; how many bytes were written.
+#[tactic(auto, unfolding(texts::specs::Text::bytes))]
 pub fn head(out: &mut [u8]) -> usize
     ensures value { result ≡ line_length header out.old }
     ensures out_after { out.new ≡ after_line header out.old }
@@ -75,5 +84,7 @@ pub fn head(out: &mut [u8]) -> usize
     if out.len() < ROOM {
         return 0;
     }
-    texts::say(out, 0, b"n call code count badge message running\n")
+    let mut line: Line<ROOM> = Line::new();
+    line.say(b"n call code count badge message running\n");
+    line.put(out, 0)
 }

@@ -1,9 +1,10 @@
 // A call and its answer as one English line, made into a lent buffer. Which bytes it is stands in wording,
 // specs/Sentence.antt; that no two pairs of call and answer have the same line stands there in proofs/Apart.antt.
-#![tactic(auto)]
+#![tactic(auto, unfolding(texts::specs::Text::bytes))]
 
 ghost use Rattle.std.specs.Prelude.{◌≡◌, ◌+◌, ◌≤◌, ◌++◌, true, length, IfOk};
 ghost use Rattle.calls.specs.Calls.{in_range};
+ghost use Rattle.texts.specs.Text.{bytes};
 ghost use Rattle.texts.specs.Buffer.{Counts};
 ghost use Rattle.texts.specs.Filed.{Filed};
 ghost use Rattle.wording.specs.Sentence.{clause, sentence, stop_clause, stop_line};
@@ -26,14 +27,23 @@ pub fn clause<const N: usize>(line: &mut Line<N>, call: Call, answer: Answer)
     outcomes::details(line, calls::number(call), answer);
 }
 
+// The end of a line.
+fn finish<const N: usize>(line: &mut Line<N>)
+    requires { length line.old + 2 ≤ N }
+    ensures { line.new ≡ line.old ++ bytes ".\n" }
+{
+    line.say(b".\n");
+}
+
 // The sentence of a call in range.
+#[tactic(auto, unfolding(wording::specs::Sentence::sentence, texts::specs::Text::bytes))]
 pub fn say<const N: usize>(line: &mut Line<N>, call: Call, answer: Answer)
     requires { (length line.old + sentence_room ≤ N) × (in_range call ≡ true) }
     ensures upper_bound { length line.new ≤ length line.old + sentence_room }
     ensures said { line.new ≡ line.old ++ sentence call answer }
 {
     clause(line, call, answer);
-    line.say(b".\n");
+    finish(line);
 }
 
 // The sentence of a call and its answer at the front of the buffer: its length; Short for a buffer under 160 bytes,
@@ -63,13 +73,14 @@ pub fn stop_clause<const N: usize>(line: &mut Line<N>, code: u32)
 }
 
 // The line of a word that the journal does not go on with.
+#[tactic(auto, unfolding(wording::specs::Sentence::stop_line, texts::specs::Text::bytes))]
 pub fn say_stop<const N: usize>(line: &mut Line<N>, code: u32)
     requires { length line.old + sentence_room ≤ N }
     ensures upper_bound { length line.new ≤ length line.old + sentence_room }
     ensures said { line.new ≡ line.old ++ stop_line code }
 {
     stop_clause(line, code);
-    line.say(b".\n");
+    finish(line);
 }
 
 // That line as an entry, by the reader's number: its length, or Short as above.

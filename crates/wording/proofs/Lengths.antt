@@ -19,7 +19,7 @@ use Rattle.texts.specs.Text.{bytes}
 use Rattle.texts.specs.Decimal.{decimal}
 use Rattle.texts.proofs.Digits.{length_below}
 use Rattle.wording.specs.Sentence.{request, cause, outcome, detail, asks_count, asks_message, details}
-use Rattle.wording.specs.Sentence.{sentence, stop_line}
+use Rattle.wording.specs.Sentence.{clause, sentence, stop_clause, stop_line}
 use Rattle.wording.specs.Entry.{sentence_room}
 use Rattle.wording.proofs.Causes.{each_cause, uncaused_above}
 use Rattle.wording.proofs.Parts.{detail_cases}
@@ -131,3 +131,13 @@ sentence_fits c a h w = omega (arith, sentence_short c a h w)
 pub stop_fits : (code : ℕ) → code < 2 ^ 32 → length (stop_line code) ≤ sentence_room
 unfolding bytes stop_line
 stop_fits code h = simp length-append (omega (arith, outcome_short code h))
+
+-- Without its full stop and newline each is two bytes shorter.
+
+pub clause_short : (c : Call) (a : Answer) → in_range c ≡ true → Words a → length (clause c a) ≤ 157
+unfolding sentence bytes
+clause_short c a h w = omega (arith, sentence_short c a h w, length-append (clause c a) (bytes ".\n"))
+
+pub stop_short : (code : ℕ) → code < 2 ^ 32 → length (stop_clause code) ≤ 158
+unfolding stop_line bytes
+stop_short code h = omega (arith, stop_fits code h, length-append (stop_clause code) (bytes ".\n"))

@@ -1,26 +1,19 @@
 -- A buffer too short, and the line.
-use Rattle.std.proofs.Common.{ℕ, List, ◌≤◌, ◌<◌, ◌^◌, length, ◌∙◌, arith}
+use Rattle.std.proofs.Common.{◌≡◌, ◌≤◌, ◌+◌, ℕ, List, length, ◌∙◌, arith}
 use Rattle.texts.specs.Buffer.{Room}
-use Rattle.texts.proofs.Filing.{refused_files, wrote_files, wrote_counts}
+use Rattle.texts.proofs.Writing.{wrote_is}
+use Rattle.texts.proofs.Filing.{wrote_files}
 use Rattle.wording.specs.Sentence.{stop_line}
 use Rattle.wording.proofs.Lengths.{stop_fits}
 use Rattle.wording.proofs.Entry.{stop_short_for, stop_line_for}
 use Rattle.sentences.proofs.stop.Goals as goal
 
-room : (out : List ℕ) (code : ℕ) → 160 ≤ length out → code < 2 ^ 32 → Room out 0 (stop_line code)
-room out code long word = record { fits = omega (arith, stop_fits code word) }
-
 pub returns-then-out-lt-ROOM-clause-fact : goal.returns-then-out-lt-ROOM-clause-fact
-returns-then-out-lt-ROOM-clause-fact c =
-    refused_files _ c.refused.ensures ∙ stop_short_for _ _ c.if-out-lt-ROOM.true
+returns-then-out-lt-ROOM-clause-fact c = stop_short_for _ _ c.if-out-lt-ROOM.true
 
-pub stop_line-requires : goal.stop_line-requires
-stop_line-requires c = room _ _ c.if-out-lt-ROOM.false (omega arith)
-
-pub returns : goal.returns
-returns c =
-    let fits = room c.args.out.now c.args.code c.if-out-lt-ROOM.false (omega arith) in
-    record {
-      fact = wrote_files fits c.stop_line.ensures ∙ stop_line_for _ _ c.if-out-lt-ROOM.false;
-      counts = wrote_counts fits c.stop_line.ensures;
-    }
+pub returns-clause-fact : goal.returns-clause-fact
+returns-clause-fact c =
+    let room : Room c.args.out.now 0 (stop_line c.args.code) =
+    record { fits = omega (arith, stop_fits c.args.code (omega arith), c.if-out-lt-ROOM.false) } in
+    let said : c.say_stop.new.line ≡ stop_line c.args.code = rw c.new-line.ensures at c.say_stop.ensures.said in
+    wrote_files room (wrote_is said c.put.ensures) ∙ stop_line_for _ _ c.if-out-lt-ROOM.false
