@@ -18,18 +18,6 @@ unfolding after_line pasted
 front_after {m} {text = text} h w =
     rw (le-leb line_room (length m) h) (w.bytes ∙ ap (λ (k : ℕ). text ++ drop k m) (zero-add (length text)))
 
--- The same the other way.
-pub front_wrote :
-    {m m' text : List ℕ} {r : ℕ} → line_room ≤ length m → r ≡ line_length text m → m' ≡ after_line text m
-    → Wrote m 0 text r m'
-unfolding line_length after_line pasted
-front_wrote {m} {text = text} h e g =
-    let enough = le-leb line_room (length m) h in
-    record {
-      next = e ∙ rw enough (sym (zero-add (length text)));
-      bytes = g ∙ rw enough (ap (λ (k : ℕ). text ++ drop k m) (sym (zero-add (length text))));
-    }
-
 pub short_length : (m text : List ℕ) → length m < line_room → 0 ≡ line_length text m
 unfolding line_length
 short_length m text h = rw (lt-leb line_room (length m) h)

@@ -31,16 +31,6 @@ pub line_is : (r : Row) → line_of r ≡ spaced r.index ++ from_call r
 unfolding line_of
 line_is r = simp append_assoc
 
-abbrev pub from_badge : Answer → List ℕ
-from_badge a = spaced a.badge ++ spaced a.message
-
-abbrev pub from_count : Answer → List ℕ
-from_count a = spaced a.count ++ from_badge a
-
-pub answer_is : (a : Answer) → answer_text a ≡ spaced a.code ++ from_count a
-unfolding answer_text
-answer_is a = simp append_assoc
-
 -- Lengths
 
 narrow : (n : ℕ) → n < 2 ^ 32 → length (spaced n) ≤ 11

@@ -47,17 +47,26 @@ fn who<const N: usize>(line: &mut Line<N>, running: Option<u32>)
     }
 }
 
-// The line of a row.
-pub fn say<const N: usize>(line: &mut Line<N>, l: Listed)
-    requires { length line.old + line_room ≤ N }
-    ensures upper_bound { length line.new ≤ length line.old + line_room }
-    ensures said { line.new ≡ line.old ++ line_of (row_of l) }
+// The line of a row, whatever its room.
+#[tactic(auto, unfolding(crate::specs::Line::line_of))]
+fn row<const N: usize>(line: &mut Line<N>, l: Listed)
+    requires { length line.old + length (line_of (row_of l)) ≤ N }
+    ensures { line.new ≡ line.old ++ line_of (row_of l) }
 {
     line.field(l.index);
     line.field(l.call as u64);
     fields(line, l.answer);
     who(line, l.running);
     line.byte(b'\n');
+}
+
+// The line of a row, where every line has room.
+pub fn say<const N: usize>(line: &mut Line<N>, l: Listed)
+    requires { length line.old + line_room ≤ N }
+    ensures upper_bound { length line.new ≤ length line.old + line_room }
+    ensures said { line.new ≡ line.old ++ line_of (row_of l) }
+{
+    row(line, l);
 }
 
 // One line at the front of the buffer, if it has room for every line; how many bytes were written.

@@ -62,7 +62,25 @@ fn close<const N: usize>(line: &mut Line<N>, runs: Option<u32>)
     line.say(b" runs.\n");
 }
 
-// The line of a call in range.
+// The line of a call, whatever its room.
+#[tactic(auto, unfolding(crate::specs::Numbered::numbered_sentence))]
+fn told<const N: usize>(
+    line: &mut Line<N>,
+    index: u64,
+    ran: Option<u32>,
+    call: Call,
+    answer: Answer,
+    runs: Option<u32>,
+)
+    requires { length line.old + length (numbered_sentence index (thread_of ran) call answer (thread_of runs)) ≤ N }
+    ensures { line.new ≡ line.old ++ numbered_sentence index (thread_of ran) call answer (thread_of runs) }
+{
+    heading(line, index, calls::number(call), ran);
+    sentences::clause(line, call, answer);
+    close(line, runs);
+}
+
+// The line of a call in range, where every such line has room.
 pub fn sentence<const N: usize>(
     line: &mut Line<N>,
     index: u64,
@@ -75,19 +93,26 @@ pub fn sentence<const N: usize>(
     ensures upper_bound { length line.new ≤ length line.old + numbered_room }
     ensures said { line.new ≡ line.old ++ numbered_sentence index (thread_of ran) call answer (thread_of runs) }
 {
-    heading(line, index, calls::number(call), ran);
-    sentences::clause(line, call, answer);
-    close(line, runs);
+    told(line, index, ran, call, answer, runs);
 }
 
-// The line of a word that the journal does not go on with, likewise.
-pub fn stop<const N: usize>(line: &mut Line<N>, index: u64, code: u32, runs: Option<u32>)
-    requires { length line.old + numbered_room ≤ N }
-    ensures upper_bound { length line.new ≤ length line.old + numbered_room }
-    ensures said { line.new ≡ line.old ++ numbered_stop index code (thread_of runs) }
+// The line of a word that the journal does not go on with, whatever its room.
+#[tactic(auto, unfolding(crate::specs::Numbered::numbered_stop, texts::specs::Text::bytes))]
+fn stopped<const N: usize>(line: &mut Line<N>, index: u64, code: u32, runs: Option<u32>)
+    requires { length line.old + length (numbered_stop index code (thread_of runs)) ≤ N }
+    ensures { line.new ≡ line.old ++ numbered_stop index code (thread_of runs) }
 {
     line.number(index);
     line.say(b": ");
     sentences::stop_clause(line, code);
     close(line, runs);
+}
+
+// The same, where every such line has room.
+pub fn stop<const N: usize>(line: &mut Line<N>, index: u64, code: u32, runs: Option<u32>)
+    requires { length line.old + numbered_room ≤ N }
+    ensures upper_bound { length line.new ≤ length line.old + numbered_room }
+    ensures said { line.new ≡ line.old ++ numbered_stop index code (thread_of runs) }
+{
+    stopped(line, index, code, runs);
 }

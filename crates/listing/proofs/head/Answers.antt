@@ -1,5 +1,8 @@
 -- The header, said at the front of a buffer that has room for it.
+use Rattle.std.proofs.Common.{◌≡◌, refl}
 use Rattle.texts.specs.Text.{bytes}
+use Rattle.texts.proofs.Writing.{wrote_is}
+use Rattle.listing.specs.Line.{header}
 use Rattle.listing.proofs.Fronts.{front_length, front_after, short_length, short_after}
 use Rattle.listing.proofs.head.Goals as goal
 
@@ -12,13 +15,11 @@ returns-then-out-lt-ROOM-clause-out_after c = short_after _ _ c.if-out-lt-ROOM.t
 pub returns-clause-value : goal.returns-clause-value
 unfolding bytes
 returns-clause-value c =
-    let said = c.say.ensures in
-    let enough = c.if-out-lt-ROOM.false in
-    front_length enough said
+    let said : c.say.new.self ≡ header = rw c.new-line.ensures at c.say.ensures in
+    front_length c.if-out-lt-ROOM.false (wrote_is said c.put.ensures)
 
 pub returns-clause-out_after : goal.returns-clause-out_after
 unfolding bytes
 returns-clause-out_after c =
-    let said = c.say.ensures in
-    let enough = c.if-out-lt-ROOM.false in
-    front_after enough said
+    let said : c.say.new.self ≡ header = rw c.new-line.ensures at c.say.ensures in
+    front_after c.if-out-lt-ROOM.false (wrote_is said c.put.ensures)

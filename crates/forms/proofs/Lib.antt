@@ -1,2 +1,0 @@
--- A text behind the bytes used, in each form.
-pub mod Writing
