@@ -12,8 +12,6 @@ use Rattle.machine.specs.Lists.{pick}
 use Rattle.billing.specs.Ticks.{most_words, most_rate}
 use Rattle.billing.specs.Bills.{line_of, lines_from, bill_of, alone}
 use Rattle.texts.specs.Text.{bytes}
-use Rattle.texts.specs.Buffer.{Room, Wrote}
-use Rattle.texts.proofs.Writing.{wrote_is, wrote_then}
 use Rattle.bills.specs.Lines.{entry_of, Few, line_room, bill_room}
 use Rattle.bills.proofs.Parts.{alone_below, line_fits}
 
@@ -64,33 +62,15 @@ lines_short rate t (suc k) (n ∷ ns) r each h =
       lines_short rate (suc t) k ns r (λ (i : ℕ). each (suc i)) (omega (arith, h)),
     )
 
--- Room for the lines of the first threads, and for as much as a line and the idle ticks behind them.
-pub lines_fit :
-    {rate t : ℕ} {counts out : List ℕ} → rate ≤ most_rate → Few counts → bill_room ≤ length out → t ≤ 256
-    → Room out 0 (lines_from rate 0 (take t counts))
-lines_fit {rate} {t} {counts} r few h s =
-    record { fits = omega (arith, h, lines_short rate 0 t counts r few.each (omega (arith, s))) }
-
--- Where the lines of the first t threads end.
-pub lines_end :
-    {rate t at : ℕ} {counts out out₁ : List ℕ} → rate ≤ most_rate → Few counts → t ≤ 256
-    → Wrote out 0 (lines_from rate 0 (take t counts)) at out₁ → at ≤ t * line_room
-lines_end {rate} {t} {at} {counts} r few s w =
-    omega (arith, w.next, lines_short rate 0 t counts r few.each (omega (arith, s)))
-
 -- One thread more.
-pub wrote_more :
-    {rate t at p : ℕ} {counts out out₁ out₂ : List ℕ} → rate ≤ most_rate → Few counts → bill_room ≤ length out → t < 256
-    → Wrote out 0 (lines_from rate 0 (take t counts)) at out₁
-    → Wrote out₁ at (entry_of rate t (get_or counts t 0)) p out₂
-    → Wrote out 0 (lines_from rate 0 (take (t + 1) counts)) p out₂
-wrote_more {rate} {t} {counts = counts} r few h s w v =
+pub lines_next :
+    (rate t : ℕ) (counts : List ℕ) → t < length counts
+    → lines_from rate 0 (take (t + 1) counts)
+    ≡ lines_from rate 0 (take t counts) ++ entry_of rate t (get_or counts t 0)
+lines_next rate t counts h =
     let e : t + 1 ≡ suc t = omega arith in
-    wrote_is
-    (ap (λ (j : ℕ). lines_from rate 0 (take t counts) ++ entry_of rate j (get_or counts t 0)) (sym (zero-add t))
-    ∙ sym (lines_more rate 0 t counts (omega (arith, few.all, s)))
-    ∙ ap (λ (j : ℕ). lines_from rate 0 (take j counts)) (sym e))
-    (wrote_then (lines_fit {t = t} r few h (omega (arith, s))) w v)
+    rw e (lines_more rate 0 t counts h
+    ∙ ap (λ (j : ℕ). lines_from rate 0 (take t counts) ++ entry_of rate j (get_or counts t 0)) (zero-add t))
 
 -- The last line
 
@@ -105,19 +85,12 @@ unfolding bill_of
 bill_is rate counts = simp append_assoc
 
 pub bill_fits :
-    (rate : ℕ) (counts out : List ℕ) → rate ≤ most_rate → Few counts → bill_room ≤ length out
-    → Room out 0 (lines_from rate 0 (take 256 counts) ++ idle_line counts)
-unfolding bytes
-bill_fits rate counts out r few h =
+    (rate : ℕ) (counts : List ℕ) → rate ≤ most_rate → Few counts
+    → length (lines_from rate 0 (take 256 counts)) + 5 + length (alone (get_or counts 256 0)) ≤ bill_room
+bill_fits rate counts r few =
     let n = get_or counts 256 0 in
-    record {
-      fits =
-          omega (
-            arith,
-            h,
-            length-append (lines_from rate 0 (take 256 counts)) (idle_line counts),
-            length-append (bytes "idle ") (alone n),
-            lines_short rate 0 256 counts r few.each (omega arith),
-            alone_below 4 n (omega (arith, few.each 256)),
-          );
-    }
+    omega (
+      arith,
+      lines_short rate 0 256 counts r few.each (omega arith),
+      alone_below 4 n (omega (arith, few.each 256)),
+    )

@@ -1,29 +1,33 @@
 -- The threads' lines, and then the line of idle ticks.
-use Rattle.std.proofs.Common.{sym}
+use Rattle.std.proofs.Common.{◌≡◌, ◌+◌, ◌≤◌, ◌++◌, ℕ, take, get_or, length, length-append, arith, rules}
+use mathlib.Core.List.{append_assoc}
 use Rattle.texts.specs.Text.{bytes}
-use Rattle.texts.proofs.Writing.{wrote_is, front_room, rest_room, in_turn}
+use Rattle.texts.specs.Buffer.{Room}
+use Rattle.texts.proofs.Writing.{wrote_is}
+use Rattle.billing.specs.Bills.{lines_from, bill_of, alone}
 use Rattle.bills.proofs.Entries.{bill_is, bill_fits}
 use Rattle.bills.proofs.write.Goals as goal
 
-pub say-idle-requires : goal.say-idle-requires
-unfolding bytes
-say-idle-requires c =
-    let args = c.args in
-    let room = bill_fits args.rate args.counts.now args.out.now c.requires.0 c.requires.1 c.requires.2 in
-    front_room _ _ (rest_room _ _ room c.lines-end.ensures)
+pub say-requires : goal.say-requires
+say-requires c =
+    let fits = bill_fits c.args.rate c.args.counts.now c.requires.0 c.requires.1 in
+    (search rules, rw (c.lines.ensures, c.new-bill.ensures) (omega (arith, fits)))
 
-pub alone-requires : goal.alone-requires
-unfolding bytes
-alone-requires c =
-    let args = c.args in
-    let room = bill_fits args.rate args.counts.now args.out.now c.requires.0 c.requires.1 c.requires.2 in
-    rest_room _ _ (rest_room _ _ room c.lines-end.ensures) c.say-idle.ensures
+pub say_alone-requires : goal.say_alone-requires
+say_alone-requires c =
+    let fits = bill_fits c.args.rate c.args.counts.now c.requires.0 c.requires.1 in
+    (search rules, rw (c.say.ensures, c.lines.ensures, c.new-bill.ensures) (rw length-append (omega (arith, fits))))
+
+pub put-requires : goal.put-requires
+put-requires c =
+    let fits = bill_fits c.args.rate c.args.counts.now c.requires.0 c.requires.1 in
+    (search rules, record { fits =
+        rw (c.say_alone.ensures, c.say.ensures, c.lines.ensures, c.new-bill.ensures)
+        (rw (length-append, length-append) (omega (arith, fits, c.requires.2))) })
 
 pub returns : goal.returns
-unfolding bytes
+unfolding bytes bill_of
 returns c =
-    let args = c.args in
-    let room = bill_fits args.rate args.counts.now args.out.now c.requires.0 c.requires.1 c.requires.2 in
-    wrote_is (sym (bill_is args.rate args.counts.now))
-    (in_turn room c.lines-end.ensures
-    (in_turn (rest_room _ _ room c.lines-end.ensures) c.say-idle.ensures c.alone.ensures))
+    let said : c.say_alone.new.bill ≡ bill_of c.args.rate c.args.counts.now =
+    rw (c.say_alone.ensures, c.say.ensures, c.lines.ensures, c.new-bill.ensures) (simp append_assoc) in
+    wrote_is said c.put.ensures
