@@ -26,7 +26,13 @@ pub enum Form {
 pub const ROOM: usize = numbered::ROOM;
 
 // A line of numbers.
-fn list<const N: usize>(line: &mut Line<N>, index: u64, call: u32, answer: Answer, running: Option<u32>)
+fn list<const N: usize>(
+    line: &mut Line<N>,
+    index: u64,
+    call: u32,
+    answer: Answer,
+    running: Option<u32>,
+)
     requires { length line.old + line_room ≤ N }
     ensures upper_bound { length line.new ≤ length line.old + line_room }
     ensures said { line.new ≡ line.old
@@ -67,7 +73,14 @@ pub fn call(
 }
 
 // The text of what stops the journal, where this thread runs.
-pub fn stop(form: Form, out: &mut [u8], used: usize, index: u64, code: u32, runs: Option<u32>) -> usize
+pub fn stop(
+    form: Form,
+    out: &mut [u8],
+    used: usize,
+    index: u64,
+    code: u32,
+    runs: Option<u32>,
+) -> usize
     requires { used + text_room ≤ length out.old }
     ensures upper_bound { result ≤ used + text_room }
     ensures wrote { Wrote out.old used (stop_text form index code (thread_of runs)) result

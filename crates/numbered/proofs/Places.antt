@@ -1,9 +1,9 @@
 -- How long the parts of a numbered sentence are.
 use Prim.Native.Nat.{ℕ, ◌^◌, ◌≤◌, ◌<◌}
-use mathlib.Core.Path.{◌≡◌, refl, ◌∙◌}
+use mathlib.Core.Path.{◌≡◌, refl}
 use mathlib.Core.Bool.{Bool, true, false, ◌&&◌}
 use mathlib.Core.Option.{Option, none, some}
-use mathlib.Core.List.{List, ◌++◌, append_assoc}
+use mathlib.Core.List.{List}
 use native.Mathlib.Omega.{arith}
 use lib.Dec.{leb}
 use lib.ListN.{length, length-append}
@@ -21,7 +21,6 @@ use Rattle.calls.proofs.Answers.{Words}
 use Rattle.texts.specs.Text.{bytes}
 use Rattle.texts.specs.Decimal.{decimal}
 use Rattle.texts.proofs.Digits.{length_below}
-use Rattle.wording.specs.Sentence.{clause, sentence, stop_clause, stop_line}
 use Rattle.wording.proofs.Lengths.{clause_short, stop_short}
 use Rattle.numbered.specs.Numbered.{named, caller, heading, closing, numbered_sentence, numbered_stop}
 use Rattle.numbered.specs.Numbered.{numbered_room}

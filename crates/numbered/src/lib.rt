@@ -26,13 +26,13 @@ fn named<const N: usize>(line: &mut Line<N>, who: Option<u32>)
     }
 }
 
-// Who makes the call of this number: from 7 to 12 whoever ran before it, else the host.
+// Who makes the call of this number: its own call whoever ran before it, the others the host.
 #[tactic(auto, unfolding(crate::specs::Numbered::caller, texts::specs::Text::bytes))]
 fn caller<const N: usize>(line: &mut Line<N>, number: u32, ran: Option<u32>)
     requires { length line.old + length (caller number (thread_of ran)) ≤ N }
     ensures { line.new ≡ line.old ++ caller number (thread_of ran) }
 {
-    if (7 <= number) & (number <= 12) {
+    if calls::is_own(number) {
         named(line, ran);
     } else {
         line.say(b"host");

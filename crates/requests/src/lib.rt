@@ -21,7 +21,13 @@ fn delete<const N: usize>(line: &mut Line<N>, endpoint: u32, allowance: u32)
     requires { length line.old + length (request (Delete endpoint allowance)) ≤ N }
     ensures { line.new ≡ line.old ++ request (Delete endpoint allowance) }
 {
-    two(line, b"Delete endpoint ", endpoint, b" with allowance ", allowance);
+    two(
+        line,
+        b"Delete endpoint ",
+        endpoint,
+        b" with allowance ",
+        allowance,
+    );
 }
 
 fn abort<const N: usize>(line: &mut Line<N>, endpoint: u32, allowance: u32, badge: u32)
@@ -29,7 +35,13 @@ fn abort<const N: usize>(line: &mut Line<N>, endpoint: u32, allowance: u32, badg
     ensures { line.new ≡ line.old ++ request (Abort endpoint allowance badge) }
 {
     one(line, b"Abort badge ", badge);
-    two(line, b" at endpoint ", endpoint, b" with allowance ", allowance);
+    two(
+        line,
+        b" at endpoint ",
+        endpoint,
+        b" with allowance ",
+        allowance,
+    );
 }
 
 fn grant<const N: usize>(line: &mut Line<N>, thread: u32, endpoint: u32, rights: u32, badge: u32)
@@ -47,7 +59,13 @@ pub fn request<const N: usize>(line: &mut Line<N>, call: Call)
 {
     match call {
         Call::CreateThread { thread, priority } => {
-            two(line, b"Create thread ", thread, b" with priority ", priority)
+            two(
+                line,
+                b"Create thread ",
+                thread,
+                b" with priority ",
+                priority,
+            )
         }
         Call::DestroyThread { thread } => one(line, b"Destroy thread ", thread),
         Call::SetPriority { thread, priority } => {

@@ -4,38 +4,22 @@
 #![tactic(auto)]
 
 ghost use Rattle.std.specs.Prelude.{◌≡◌};
-ghost use Rattle.journal.specs.Steps.{call_named};
+ghost use Rattle.calls.specs.Answers.{maybe_of};
 ghost use Rattle.texts.specs.Filed.{Filed};
+ghost use Rattle.wording.specs.Entry.{told};
 ghost use Rattle.billing.specs.Ticks.{Counted, count_for};
-ghost use Rattle.tools_c.specs.Entries.{answer_in, sentence_named, sentence_in};
+ghost use Rattle.tools_c.specs.Entries.{sentence_named, sentence_in};
 
-use calls::Answer;
-use journal::types::Named;
-use texts::Output;
-
-// The answer that four numbers are.
-fn answer_in(numbers: [u32; 4]) -> Answer
-    ensures { result ≡ answer_in numbers }
-{
-    Answer {
-        code: numbers[0],
-        count: numbers[1],
-        badge: numbers[2],
-        message: numbers[3],
-    }
-}
+use calls::{Answer, Call, Refusal, codes};
 
 // The sentence of the call that the numbers name, if they name one.
-fn sentence_named(out: &mut [u8], named: Named, answer: Answer) -> Output
-    ensures { ◌≡◌ {A = Filed} (record { code = result.code; used = result.used; out = out.new })
-        (sentence_named (call_named named) answer out.old) }
+fn sentence_named(out: &mut [u8], named: Option<Call>, answer: Answer) -> Result<usize, Refusal>
+    ensures { ◌≡◌ {A = Filed} (told result out.new) (sentence_named (maybe_of named) answer out.old) }
 {
-    let Named::One(call) = named else {
-        if out.len() < sentences::ROOM {
-            return texts::refused(sentences::SHORT);
-        }
-        return texts::refused(calls::codes::NO_CALL);
-    };
+    if out.len() < sentences::ROOM {
+        return Err(Refusal::Short);
+    }
+    let call = named.ok_or(Refusal::NoCall)?;
     sentences::sentence(out, call, answer)
 }
 
@@ -51,9 +35,16 @@ pub extern "C" fn nazsombet_sentence(
         (sentence_in call.now answer.now out.old) }
 {
     let named = numbers::call_in(*call);
-    let told = sentence_named(out, named, answer_in(*answer));
-    *used = told.used;
-    told.code
+    match sentence_named(out, named, Answer::from(*answer)) {
+        Ok(written) => {
+            *used = written;
+            codes::DONE
+        }
+        Err(why) => {
+            *used = 0;
+            why.into()
+        }
+    }
 }
 
 // Counts the ticks of a journal for each thread number and, last, the idle ones.

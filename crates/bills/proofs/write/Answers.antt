@@ -20,10 +20,14 @@ say_alone-requires c =
 
 pub put-requires : goal.put-requires
 put-requires c =
-    let fits = bill_fits c.args.rate c.args.counts.now c.requires.0 c.requires.1 in
-    (search rules, record { fits =
-        rw (c.say_alone.ensures, c.say.ensures, c.lines.ensures, c.new-bill.ensures)
-        (rw (length-append, length-append) (omega (arith, fits, c.requires.2))) })
+    let fits = bill_fits c.args.rate c.args.counts.now c.requires.0 c.requires.1 in (
+      search rules,
+      record {
+        fits =
+            rw (c.say_alone.ensures, c.say.ensures, c.lines.ensures, c.new-bill.ensures)
+            (rw (length-append, length-append) (omega (arith, fits, c.requires.2)));
+      },
+    )
 
 pub returns : goal.returns
 unfolding bytes bill_of

@@ -1,5 +1,5 @@
 -- The header, said at the front of a buffer that has room for it.
-use Rattle.std.proofs.Common.{◌≡◌, refl}
+use Rattle.std.proofs.Common.{◌≡◌}
 use Rattle.texts.specs.Text.{bytes}
 use Rattle.texts.proofs.Writing.{wrote_is}
 use Rattle.listing.specs.Line.{header}

@@ -1,12 +1,12 @@
 -- There is room for every line.
-use Rattle.std.proofs.Common.{◌≡◌, ◌+◌, ◌≤◌, ◌<◌, ◌++◌, ◌^◌, ℕ, List, length, length-append, arith, rules}
+use Rattle.std.proofs.Common.{ℕ, List, length-append, arith, rules}
 use Rattle.std.specs.Prelude.{Option, None, Some}
 use Rattle.std.specs.contracts.option.Option.{the_field}
 use mir.Val.{Val}
 use denote.Shadow.{shadow}
 use denote.Builtin.{u32}
 use Rattle.calls.specs.Answers.{thread_of}
-use Rattle.listing.specs.Line.{line_of, row_of}
+use Rattle.listing.specs.Line.{row_of}
 use Rattle.listing.proofs.Parts.{Word, Sized, line_fits}
 use Rattle.listing.proofs.say.Goals as goal
 

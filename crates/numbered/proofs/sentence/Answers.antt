@@ -1,8 +1,7 @@
 -- There is room for every line.
-use Rattle.std.proofs.Common.{◌≡◌, ◌+◌, ◌≤◌, ◌<◌, ◌++◌, ℕ, length, length-append, true, arith, rules}
+use Rattle.std.proofs.Common.{length-append, arith, rules}
 use Rattle.calls.specs.Answers.{thread_of}
 use Rattle.calls.proofs.Answers.{Words}
-use Rattle.numbered.specs.Numbered.{numbered_sentence, numbered_room}
 use Rattle.numbered.proofs.Places.{word, sentence_fits}
 use Rattle.numbered.proofs.sentence.Goals as goal
 

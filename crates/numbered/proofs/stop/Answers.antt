@@ -1,7 +1,6 @@
 -- There is room for every line.
-use Rattle.std.proofs.Common.{◌≡◌, ◌+◌, ◌≤◌, ◌<◌, ◌++◌, ℕ, length, length-append, arith, rules}
+use Rattle.std.proofs.Common.{length-append, arith, rules}
 use Rattle.calls.specs.Answers.{thread_of}
-use Rattle.numbered.specs.Numbered.{numbered_stop, numbered_room}
 use Rattle.numbered.proofs.Places.{word, stop_fits_in}
 use Rattle.numbered.proofs.stop.Goals as goal
 

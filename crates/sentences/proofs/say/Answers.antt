@@ -1,10 +1,9 @@
 -- The clause, and its full stop behind it.
-use Rattle.std.proofs.Common.{◌≡◌, ◌+◌, ◌≤◌, ◌++◌, ℕ, length, length-append, true, arith, rules}
+use Rattle.std.proofs.Common.{◌≡◌, ◌++◌, length-append, arith, rules}
 use mathlib.Core.List.{append_assoc}
-use Rattle.calls.specs.declared.Answer.{Answer}
 use Rattle.calls.proofs.Answers.{Words}
 use Rattle.texts.specs.Text.{bytes}
-use Rattle.wording.specs.Sentence.{clause, sentence}
+use Rattle.wording.specs.Sentence.{sentence}
 use Rattle.wording.proofs.Lengths.{clause_short, sentence_fits}
 use Rattle.sentences.proofs.say.Goals as goal
 
@@ -17,8 +16,7 @@ clause-requires g c =
 pub finish-requires : goal.finish-requires
 finish-requires g c =
     let words : Words c.args.answer =
-    record { code = omega arith; count = omega arith; badge = omega arith; message = omega arith } in
-    (
+    record { code = omega arith; count = omega arith; badge = omega arith; message = omega arith } in (
       search rules,
       rw (c.clause.ensures, length-append) (omega (arith, c.requires.0, clause_short c.args.call c.args.answer c.requires.1 words)),
     )

@@ -1,8 +1,8 @@
 -- The clause, and its full stop behind it.
-use Rattle.std.proofs.Common.{◌≡◌, ◌+◌, ◌≤◌, ◌++◌, ℕ, length, length-append, arith, rules}
+use Rattle.std.proofs.Common.{◌≡◌, ◌++◌, length-append, arith, rules}
 use mathlib.Core.List.{append_assoc}
 use Rattle.texts.specs.Text.{bytes}
-use Rattle.wording.specs.Sentence.{stop_clause, stop_line}
+use Rattle.wording.specs.Sentence.{stop_line}
 use Rattle.wording.proofs.Lengths.{stop_short, stop_fits}
 use Rattle.sentences.proofs.say_stop.Goals as goal
 
@@ -10,11 +10,10 @@ pub stop_clause-requires : goal.stop_clause-requires
 stop_clause-requires g c = (search rules, omega (arith, c.requires, stop_short c.args.code (omega arith)))
 
 pub finish-requires : goal.finish-requires
-finish-requires g c =
-    (
-      search rules,
-      rw (c.stop_clause.ensures, length-append) (omega (arith, c.requires, stop_short c.args.code (omega arith))),
-    )
+finish-requires g c = (
+  search rules,
+  rw (c.stop_clause.ensures, length-append) (omega (arith, c.requires, stop_short c.args.code (omega arith))),
+)
 
 pub returns : goal.returns
 unfolding stop_line

@@ -1,5 +1,5 @@
 -- A buffer too short, a call out of range, and the line.
-use Rattle.std.proofs.Common.{◌≡◌, ◌≤◌, ◌+◌, ℕ, List, length, true, sym, ◌∙◌, arith}
+use Rattle.std.proofs.Common.{◌≡◌, sym, ◌∙◌, arith}
 use Rattle.calls.proofs.Answers.{Words}
 use Rattle.texts.specs.Buffer.{Room}
 use Rattle.texts.proofs.Writing.{wrote_is}

@@ -1,5 +1,5 @@
 -- A buffer too short, and the line.
-use Rattle.std.proofs.Common.{◌≡◌, ◌≤◌, ◌+◌, ℕ, List, length, ◌∙◌, arith}
+use Rattle.std.proofs.Common.{◌≡◌, ◌∙◌, arith}
 use Rattle.texts.specs.Buffer.{Room}
 use Rattle.texts.proofs.Writing.{wrote_is}
 use Rattle.texts.proofs.Filing.{wrote_files}

@@ -1,4 +1,3 @@
-use Rattle.std.proofs.Common.{ℕ}
 use Rattle.texts.proofs.+width.Given as goal
 
 abbrev pub decreases-width : goal.decreases-width

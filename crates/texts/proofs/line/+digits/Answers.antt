@@ -1,4 +1,4 @@
-use Rattle.std.proofs.Common.{◌+◌, ◌/◌, ◌≤◌, ◌<◌, length, arith}
+use Rattle.std.proofs.Common.{arith}
 use Rattle.texts.proofs.Digits.{length_front}
 use Rattle.texts.proofs.line.+digits.Goals as goal
 

@@ -1,4 +1,3 @@
-use Rattle.std.proofs.Common.{ℕ}
 use Rattle.texts.proofs.line.+digits.Given as goal
 
 abbrev pub decreases-digits : goal.decreases-digits
