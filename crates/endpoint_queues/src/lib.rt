@@ -25,18 +25,11 @@ pub fn pass_marks(tables: &mut [u32], t: usize, e: usize)
     let link = (t + wide::LINK) as u32;
     let cursor = store::endpoint(tables, Part::Cursor, e);
     let end = store::endpoint(tables, Part::End, e);
-    if cursor == link {
-        if end == link {
-            store::set_marks(tables, e, NOBODY, NOBODY);
-            return;
-        }
-        let next = links::next(tables, t);
-        store::set_marks(tables, e, next, end);
-        return;
-    }
-    if end == link {
-        let prev = links::prev(tables, t);
-        store::set_marks(tables, e, cursor, prev);
+    match (cursor == link, end == link) {
+        (true, true) => store::set_marks(tables, e, NOBODY, NOBODY),
+        (true, false) => store::set_marks(tables, e, links::next(tables, t), end),
+        (false, true) => store::set_marks(tables, e, cursor, links::prev(tables, t)),
+        (false, false) => {}
     }
 }
 

@@ -1,23 +1,23 @@
 -- A mark that is the thread passes to its neighbour.
+use borrow.Author.Rules.{rules}
 use Rattle.endpoint_queues.proofs.Marking.{passed_both, passed_cursor, passed_end, passed_neither}
 use Rattle.endpoint_queues.proofs.pass_marks.Goals as goal
 
-pub returns-then-end-link : goal.returns-then-end-link
-returns-then-end-link c =
+pub returns-in-true-true : goal.returns-in-true-true
+returns-in-true-true c =
     passed_both c.endpoint-cursor.ensures c.endpoint-end.ensures c.set_marks.ensures
-    c.if-cursor-link.true c.if-end-link.true
+    (search rules) (search rules)
 
-pub returns-then-cursor-link : goal.returns-then-cursor-link
-returns-then-cursor-link c =
-    passed_cursor c.endpoint-cursor.ensures c.endpoint-end.ensures c.next-next.ensures
-    c.set_marks-then-cursor-link.ensures c.if-cursor-link.true c.if-end-link.false
+pub returns-in-true-false : goal.returns-in-true-false
+returns-in-true-false c =
+    passed_cursor c.endpoint-cursor.ensures c.endpoint-end.ensures c.next.ensures
+    c.set_marks-in-true-false.ensures (search rules) (search rules)
 
-pub returns-then-end-link-2 : goal.returns-then-end-link-2
-returns-then-end-link-2 c =
-    passed_end c.endpoint-cursor.ensures c.endpoint-end.ensures c.prev-prev.ensures
-    c.set_marks-then-end-link-2.ensures c.if-cursor-link.false c.if-end-link-2.true
+pub returns-in-false-true : goal.returns-in-false-true
+returns-in-false-true c =
+    passed_end c.endpoint-cursor.ensures c.endpoint-end.ensures c.prev.ensures
+    c.set_marks-in-false-true.ensures (search rules) (search rules)
 
-pub returns-else-end-link-2 : goal.returns-else-end-link-2
-returns-else-end-link-2 c =
-    passed_neither c.endpoint-cursor.ensures c.endpoint-end.ensures c.if-cursor-link.false
-    c.if-end-link-2.false
+pub returns-in-false-false : goal.returns-in-false-false
+returns-in-false-false c =
+    passed_neither c.endpoint-cursor.ensures c.endpoint-end.ensures (search rules) (search rules)
