@@ -53,10 +53,8 @@ pub fn choose(tables: &mut [u32])
     requires { Shown tables.old Chooses }
     ensures { Does tables.old tables.new Chooses choosing }
 {
-    let link = store::running(tables);
-    if link == NOBODY {
-        dispatch(tables);
-        return;
+    match store::running(tables) {
+        NOBODY => dispatch(tables),
+        link => displace(tables, link as usize - wide::LINK),
     }
-    displace(tables, link as usize - wide::LINK);
 }
