@@ -11,7 +11,10 @@ use layout::codes::NOBODY;
 use layout::{Link, wide};
 use words::Beside;
 
+// stays: a link is a word of the lent, fixed memory, as link_of of specs has it, and goes from word to word as it is.
+
 // Thread t joins the tail of queue q.
+// stays: the two ends differ in each link that is named; a trait of ends would hold these bodies and their laws.
 pub fn push_tail(tables: &mut [u32], q: usize, t: usize)
     requires { Joinable tables.old q t }
     ensures { JoinsLast tables.old q t tables.new }
@@ -61,6 +64,7 @@ pub fn pop_head(tables: &mut [u32], q: usize, t: usize) -> u32
 }
 
 // The link to the first of queue q: thread t is t + 1, and none is 0.
+// stays: the reading is one generic get; each of the four promises another neighbour, and takes a queue or a thread.
 pub fn first(tables: &[u32], q: usize) -> u32
     requires { (length tables.now ≡ table_words) × (q ≤ 319) }
     ensures { First tables.now q result }

@@ -22,6 +22,7 @@ pub fn enqueue(tables: &mut [u32], t: usize)
 }
 
 // Thread t, in no queue, joins the head of its level's.
+// stays: the machine's enqueue and enqueue_first hold the two, and its stand_down and stand_back those that call them.
 fn enqueue_first(tables: &mut [u32], t: usize)
     requires { Shown tables.old (Loose t) }
     ensures { Does tables.old tables.new (Loose t) (enqueue_first t) }

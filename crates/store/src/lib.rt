@@ -25,6 +25,7 @@ fn slot(tables: &[u32], a: Slot) -> u32
 }
 
 // A word of thread t.
+// stays: a thread has a Field, an endpoint a Part, each with its own promise; what they share is slot.
 pub fn thread(tables: &[u32], f: Field, t: usize) -> u32
     requires { Shown tables.now (IsThread t) }
     ensures { Tells tables.now (IsThread t) result (thread_in f t) }
@@ -57,6 +58,7 @@ pub fn running(tables: &[u32]) -> u32
 }
 
 // Thread t is at a place, with the outcome, badge and message that it has there.
+// stays: places, debts, statuses and lines are words of the lent, fixed memory, as place_code of specs and its like.
 pub fn set_place(tables: &mut [u32], t: usize, place: u32, outcome: u32, badge: u32, message: u32)
     requires { Shown tables.old (IsThread t) }
     ensures { SetsPlace tables.old t place outcome badge message tables.new }
@@ -186,6 +188,7 @@ fn store_level(tables: &mut [u32], sm: Summary, p: u32)
 }
 
 // Level p is occupied in the summary.
+// stays: the two differ in the summary's method alone, and a closure for it has a contract longer than either body.
 pub fn set_occupied(tables: &mut [u32], p: u32)
     requires { (length tables.old ≡ table_words) × (p < 256) }
     ensures { SetsLevel tables.old p true tables.new }

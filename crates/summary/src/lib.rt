@@ -40,6 +40,7 @@ impl Summary {
         Summary { words, top }
     }
 
+    // stays: occupied always sets the top word's bit, emptied clears it only where the word is then 0.
     // The summary with level p empty. The word's bit goes with the last level of the word.
     pub fn emptied(self, p: u32) -> Self
         requires { p < 256 }

@@ -144,6 +144,7 @@ pub fn wide<N: Name>(tables: &[u32], name: N) -> usize
 }
 
 // A word of thread t.
+// stays: a thread has a Field, an endpoint a Part, each with its own bound; what they share is wide.
 pub fn thread(tables: &[u32], f: Field, t: usize) -> usize
     requires { (length tables.now ≡ table_words) × (t ≤ 255) }
     ensures { result ≡ word tables.now (at (Slot.Thread f t)) }
