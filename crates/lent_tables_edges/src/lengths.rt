@@ -3,26 +3,14 @@ ghost use Rattle.std.specs.Prelude.{◌≤◌, length};
 
 use crate::{memory, out};
 
-fn fresh_part(tables: &mut [u32], n: usize) -> u32
-    requires { n ≤ length tables.old }
-{
-    memory::fresh(&mut tables[..n])
-}
-
-fn check_part(tables: &[u32], scratch: &mut [u32], n: usize, k: usize) -> u32
-    requires { (n ≤ length tables.now) × (k ≤ length scratch.old) }
-{
-    memory::check(&tables[..n], &mut scratch[..k])
-}
-
 fn fresh(rt: &impl Print, tables: &mut [u32], n: usize)
     requires { n ≤ length tables.old }
 {
     memory::fill(tables);
     let before = memory::sum(tables);
-    let answer = fresh_part(tables, n);
+    let answer = memory::fresh(&mut tables[..n]);
     out::value(rt, b"fresh", n as u64);
-    out::next(rt, b"answer", answer as u64);
+    out::next(rt, b"answer", u64::from(calls::code(answer)));
     out::next(rt, b"sum", before);
     out::next(rt, b"then", memory::sum(tables));
     out::line(rt);
@@ -34,10 +22,10 @@ fn check(rt: &impl Print, tables: &[u32], scratch: &mut [u32], n: usize, k: usiz
     memory::fill(scratch);
     let words = memory::sum(tables);
     let before = memory::sum(scratch);
-    let answer = check_part(tables, scratch, n, k);
+    let answer = memory::check(&tables[..n], &mut scratch[..k]);
     out::value(rt, b"check", n as u64);
     out::next(rt, b"scratch", k as u64);
-    out::next(rt, b"answer", answer as u64);
+    out::next(rt, b"answer", u64::from(calls::code(answer)));
     out::next(rt, b"sum", words);
     out::next(rt, b"then", memory::sum(tables));
     out::next(rt, b"sum", before);

@@ -30,7 +30,9 @@ fn main(rt: HostRuntime) {
     let mut text = [0u8; ROOM];
     let mut kept = [0u32; lent_tables::TABLE_WORDS];
     lengths::show(&rt);
-    let got = files::whole(&mut files::standard(&rt), &mut text);
-    let used = got.used;
+    let used = match files::whole(&mut files::standard(&rt), &mut text) {
+        Ok(used) => used,
+        Err(failed) => failed.after,
+    };
     show_tables(&rt, &text[..used], &mut kept);
 }

@@ -2,86 +2,63 @@
 // semicolon.
 ghost use Rattle.std.specs.Prelude.{◌≤◌, length};
 
-use crate::memory;
-
 // What is known behind a byte: whether it stands in a remark, the number that goes on there, and the address before.
 #[derive(Clone, Copy)]
 struct Scan {
     remark: bool,
-    digits: bool,
-    number: u64,
-    second: bool,
-    address: u64,
+    number: Option<u64>,
+    address: Option<u64>,
 }
 
-fn begin() -> Scan {
-    Scan {
-        remark: true,
-        digits: false,
-        number: 0,
-        second: false,
-        address: 0,
-    }
-}
-
+// A word that fits is stored, where there is room for it.
 fn store(tables: &mut [u32], address: u64, word: u64) {
-    let at = address as usize;
-    if at < tables.len() {
-        if word < 0x1_0000_0000 {
-            tables[at] = word as u32;
-        }
+    if let (Some(place), Ok(word)) = (tables.get_mut(address as usize), u32::try_from(word)) {
+        *place = word;
     }
 }
 
-// Behind a number: behind an address, or behind a whole pair.
-fn behind(s: Scan, second: bool) -> Scan {
-    Scan {
-        remark: s.remark,
-        digits: false,
-        number: 0,
-        second,
-        address: s.number,
-    }
-}
-
-// A number has ended, if one had begun.
+// A number has ended, if one had begun: an address, or the word of the address before.
 fn ended(s: Scan, tables: &mut [u32]) -> Scan {
-    if !s.digits {
+    let Some(number) = s.number else {
         return s;
+    };
+    let Some(address) = s.address else {
+        return Scan {
+            number: None,
+            address: Some(number),
+            ..s
+        };
+    };
+    store(tables, address, number);
+    Scan {
+        number: None,
+        address: None,
+        ..s
     }
-    if !s.second {
-        return behind(s, true);
-    }
-    store(tables, s.address, s.number);
-    behind(s, false)
 }
 
 fn digit(s: Scan, d: u64) -> Scan {
-    let mut t = s;
-    t.digits = true;
-    t.number = s.number % 0x1_0000_0000 * 10 + d % 10;
-    t
+    let number = s.number.unwrap_or(0) % 0x1_0000_0000 * 10 + d % 10;
+    Scan {
+        number: Some(number),
+        ..s
+    }
 }
 
 fn step(s: Scan, tables: &mut [u32], byte: u8) -> Scan {
-    let mut t = s;
     match byte {
-        b'\n' => {
-            t = ended(s, tables);
-            t.remark = false;
-        }
-        b';' => {
-            t = ended(s, tables);
-            t.remark = true;
-        }
-        b'0'..=b'9' => {
-            if !s.remark {
-                t = digit(s, (byte - b'0') as u64);
-            }
-        }
-        _ => t = ended(s, tables),
+        b'\n' => Scan {
+            remark: false,
+            ..ended(s, tables)
+        },
+        b';' => Scan {
+            remark: true,
+            ..ended(s, tables)
+        },
+        b'0'..=b'9' if s.remark => s,
+        b'0'..=b'9' => digit(s, u64::from(byte - b'0')),
+        _ => ended(s, tables),
     }
-    t
 }
 
 // Reads the table that begins at a place, and gives the place of the next.
@@ -89,8 +66,12 @@ pub fn table(text: &[u8], from: usize, tables: &mut [u32]) -> usize
     requires { from ≤ length text.now }
     ensures { result ≤ length text.now }
 {
-    memory::clear(tables);
-    let mut s = begin();
+    tables.fill(0);
+    let mut s = Scan {
+        remark: true,
+        number: None,
+        address: None,
+    };
     for i in from..text.len() {
         let byte = text[i];
         if byte == b'#' {

@@ -3,16 +3,17 @@ ghost use Rattle.std.specs.Prelude.{◌≡◌, ◌<◌, length};
 ghost use Rattle.layout.specs.Addresses.{table_words};
 
 use crate::{memory, out};
+use calls::Refusal;
 use lent_tables::{SCRATCH_WORDS, TABLE_WORDS};
 
 // What came of the changes of one kind. Wrong are words that the check changed, words that it left in the scratch, and
 // answers that it does not give.
-#[derive(Clone, Copy)]
+#[derive(Clone, Copy, Default)]
 pub struct Tally {
-    same: u32,
-    sound: u32,
-    unsound: u32,
-    wrong: u32,
+    same: usize,
+    sound: usize,
+    unsound: usize,
+    wrong: usize,
 }
 
 #[derive(Clone, Copy)]
@@ -30,28 +31,25 @@ fn changed(change: Change, word: u32) -> u32 {
     }
 }
 
-fn more(n: u32) -> u32 {
+fn more(n: usize) -> usize {
     n.wrapping_add(1)
 }
 
-fn same(c: Tally) -> Tally {
-    Tally {
-        same: more(c.same),
-        sound: c.sound,
-        unsound: c.unsound,
-        wrong: c.wrong,
-    }
-}
-
-fn answered(c: Tally, answer: u32, wrong: u32) -> Tally {
-    let mut d = c;
-    d.wrong = c.wrong.wrapping_add(wrong);
+fn answered(c: Tally, answer: Result<(), Refusal>) -> Tally {
     match answer {
-        0 => d.sound = more(c.sound),
-        17 => d.unsound = more(c.unsound),
-        _ => d.wrong = more(d.wrong),
+        Ok(()) => Tally {
+            sound: more(c.sound),
+            ..c
+        },
+        Err(Refusal::Unsound) => Tally {
+            unsound: more(c.unsound),
+            ..c
+        },
+        Err(_) => Tally {
+            wrong: more(c.wrong),
+            ..c
+        },
     }
-    d
 }
 
 // The check of one changed memory, whose word is put back.
@@ -68,12 +66,16 @@ fn turn(
     memory::fill(scratch);
     tables[at] = word;
     let answer = memory::check(tables, scratch);
-    let moved = memory::unlike(tables[at], word);
+    let moved = usize::from(tables[at] != word);
     tables[at] = kept[at];
     let others = memory::differing(tables, kept);
     let left = memory::nonzero(scratch);
-    let wrong = moved.wrapping_add(others).wrapping_add(left);
-    answered(c, answer, wrong)
+    let wrong = c
+        .wrong
+        .wrapping_add(moved)
+        .wrapping_add(others)
+        .wrapping_add(left);
+    answered(Tally { wrong, ..c }, answer)
 }
 
 // One word, where the change makes another of it.
@@ -89,7 +91,10 @@ fn step(
 {
     let word = changed(change, kept[at]);
     if word == kept[at] {
-        return same(c);
+        return Tally {
+            same: more(c.same),
+            ..c
+        };
     }
     turn(c, tables, kept, scratch, at, word)
 }
@@ -97,12 +102,7 @@ fn step(
 fn sweep(change: Change, tables: &mut [u32], kept: &[u32], scratch: &mut [u32]) -> Tally
     requires { length tables.old ≡ length kept.now }
 {
-    let mut c = Tally {
-        same: 0,
-        sound: 0,
-        unsound: 0,
-        wrong: 0,
-    };
+    let mut c = Tally::default();
     for at in 0..kept.len() {
         c = step(c, change, tables, kept, scratch, at);
     }
@@ -143,7 +143,11 @@ fn show_whole(rt: &impl Print, number: u64, tables: &[u32], scratch: &mut [u32])
     memory::fill(scratch);
     out::value(rt, b"table", number);
     out::next(rt, b"sum", memory::sum(tables));
-    out::next(rt, b"answer", memory::check(tables, scratch) as u64);
+    out::next(
+        rt,
+        b"answer",
+        u64::from(calls::code(memory::check(tables, scratch))),
+    );
     out::next(rt, b"wrong", memory::nonzero(scratch) as u64);
     out::line(rt);
 }
@@ -154,7 +158,7 @@ pub fn table(rt: &impl Print, number: u64, kept: &[u32])
 {
     let mut tables = [0u32; TABLE_WORDS];
     let mut scratch = [0u32; SCRATCH_WORDS];
-    memory::copy(&mut tables, kept);
+    tables.copy_from_slice(kept);
     show_whole(rt, number, &tables, &mut scratch);
     show_sweep(rt, Change::Zero, &mut tables, kept, &mut scratch);
     show_sweep(rt, Change::More, &mut tables, kept, &mut scratch);
