@@ -15,6 +15,7 @@ use calls::{Accepted, Outcome};
 use layout::{Part, codes};
 
 // An abort is begun where none stands, joined where it is of this badge, and finished first where it is of another.
+// stays: t, e and badge apart, as abort_open of Aborts takes them; each clause would name a struct's fields.
 fn abort_open(tables: &mut [u32], t: usize, e: usize, allowance: u32, badge: u32) -> Outcome
     requires { Shown tables.old (Open t e) × (allowance ≤ 65535) × (badge < 2 ^ 28) }
     ensures { Performs tables.old tables.new (answer_of result) (Open t e)

@@ -73,7 +73,8 @@ refused_grants g (Ok a) c size h = absurd (clash h refl)
 refused_grants g (Err why) c size h =
     record {
       left =
-          sym (ap grant_image (refused_leave (plain (code_of why)) c (grants_of g) (refusal_code why)) ∙ image_of g size);
+          sym (ap grant_image (refused_leave (plain (code_of why)) c (grants_of g) (refusal_code why))
+              ∙ image_of g size);
     }
 
 -- So does one that leaves the grants, whatever it is answered.

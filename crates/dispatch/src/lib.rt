@@ -87,6 +87,7 @@ fn own_call(tables: &mut [u32], t: usize, c: Call) -> Outcome
 }
 
 // A call by its kind: 7 to 12 are made by the running thread, that of the link.
+// stays: a link, as Served and link_of have it; an Option would only be taken apart again in the last arm.
 pub fn carry_out(tables: &mut [u32], grants: &mut [u32], link: u32, c: Call) -> Outcome
     requires { Shown tables.old (Served link c) × (length grants.old ≡ grant_words) }
     ensures performs { Performs tables.old tables.new (answer_of result) (Served link c) (perform c) }

@@ -13,6 +13,7 @@ use layout::codes::NOBODY;
 use layout::{Part, codes};
 
 // After another badge's abort the call's own begins, if allowance remains.
+// stays: t, e and badge apart, as begin_after of Aborts takes them; each clause would name a struct's fields.
 fn begin_after(
     tables: &mut [u32],
     t: usize,

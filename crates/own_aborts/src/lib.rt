@@ -38,6 +38,7 @@ pub fn work_own(tables: &mut [u32], t: usize, e: usize, allowance: u32, earlier:
 }
 
 // The call's own abort begins, and works.
+// stays: t, e and badge apart, as begin and work_own of Aborts take them; each clause would name a struct's fields.
 pub fn begin_own(
     tables: &mut [u32],
     t: usize,
