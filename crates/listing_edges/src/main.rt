@@ -2,73 +2,51 @@
 // The bytes that they must be stand in stdout.
 #![tactic(auto)]
 
-use calls::{Answer, Runner};
+use calls::Answer;
 use listing::Listed;
 
-fn text(rt: &impl Print, bytes: &[u8]) {
-    let _ = rt.write_all(bytes);
+fn listed(index: u64, call: u32, numbers: [u32; 4], running: Option<u32>) -> Listed {
+    Listed {
+        index,
+        call,
+        answer: Answer::from(numbers),
+        running,
+    }
 }
 
 fn show_head(rt: &impl Print) {
     let mut buffer = [0u8; listing::ROOM];
     let n = listing::head(&mut buffer);
-    text(rt, &buffer[..n]);
+    let _ = rt.write_all(&buffer[..n]);
 }
 
-fn show(rt: &impl Print, index: u64, call: u32, answer: Answer, running: Runner) {
+fn show(rt: &impl Print, l: Listed) {
     let mut buffer = [0u8; listing::ROOM];
-    let listed = Listed {
-        index,
-        call,
-        answer,
-        running,
-    };
-    let n = listing::line(&mut buffer, listed);
-    text(rt, &buffer[..n]);
-}
-
-fn answer(code: u32, count: u32, badge: u32, message: u32) -> Answer {
-    Answer {
-        code,
-        count,
-        badge,
-        message,
-    }
+    let n = listing::line(&mut buffer, l);
+    let _ = rt.write_all(&buffer[..n]);
 }
 
 // A buffer of 95 bytes gets nothing.
 fn no_room() {
     let mut buffer = [0u8; 95];
-    let listed = Listed {
-        index: 1,
-        call: 2,
-        answer: answer(3, 4, 5, 6),
-        running: Runner::Thread(7),
-    };
-    let n = listing::line(&mut buffer, listed);
+    let n = listing::line(&mut buffer, listed(1, 2, [3, 4, 5, 6], Some(7)));
     check::expect(n == 0);
 }
 
 fn main(rt: HostRuntime) {
     no_room();
     show_head(&rt);
-    show(&rt, 0, 1, answer(0, 0, 0, 0), Runner::Thread(1));
-    show(&rt, 8, 8, answer(0, 0, 8, 200), Runner::Thread(3));
-    show(&rt, 9, 10, answer(11, 99, 100, 101), Runner::Thread(0));
-    show(&rt, 10, 9, answer(1, 2, 3, 4), Runner::Thread(255));
-    show(&rt, 100, 0, answer(18, 0, 0, 0), Runner::Nobody);
-    show(
-        &rt,
-        4294967295,
-        12,
-        answer(26, 4294967295, 268435455, 268435456),
-        Runner::Nobody,
-    );
-    show(
-        &rt,
-        18446744073709551615,
-        4294967295,
-        answer(4294967295, 4294967295, 4294967295, 4294967295),
-        Runner::Thread(4294967295),
-    );
+    let last = u32::MAX;
+    let rows = [
+        (0, 1, [0, 0, 0, 0], Some(1)),
+        (8, 8, [0, 0, 8, 200], Some(3)),
+        (9, 10, [11, 99, 100, 101], Some(0)),
+        (10, 9, [1, 2, 3, 4], Some(255)),
+        (100, 0, [18, 0, 0, 0], None),
+        (4294967295, 12, [26, last, 268435455, 268435456], None),
+        (u64::MAX, last, [last; 4], Some(last)),
+    ];
+    for (index, call, numbers, running) in rows {
+        show(&rt, listed(index, call, numbers, running));
+    }
 }
