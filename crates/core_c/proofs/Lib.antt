@@ -1,3 +1,2 @@
--- The lemmas of the entry points for C.
-pub mod Entries
+-- The lemma of who runs.
 pub mod Runner

@@ -4,8 +4,8 @@ use mathlib.Core.Path.{◌≡◌, refl}
 use mathlib.Core.List.{List}
 use mathlib.Core.Option.{some}
 use native.Mathlib.Omega.{arith}
-use Rattle.calls.specs.declared.Runner.{Runner}
-use Rattle.calls.specs.declared.Runner.TheVariants.{Nobody, Thread}
+use Rattle.std.specs.Prelude.{None, Some}
+use Rattle.std.specs.Prelude as code
 use Rattle.calls.specs.Answers.{thread_of}
 use Rattle.lent_tables.specs.Entries.{runner_in}
 use Rattle.lent_tables.proofs.Runner.{running_within}
@@ -15,6 +15,6 @@ use Rattle.core_c.specs.Entries.{runner_number}
 pub within : (m : List ℕ) → runner_number (runner_in m) ≤ 256
 within m = go (runner_in m) (running_within m)
   where
-    go : (r : Runner) → ((t : ℕ) → thread_of r ≡ some t → t ≤ 255) → runner_number r ≤ 256
-    go Nobody h = omega arith
-    go (Thread t) h = omega (arith, h t refl)
+    go : (r : code.Option ℕ) → ((t : ℕ) → thread_of r ≡ some t → t ≤ 255) → runner_number r ≤ 256
+    go None h = omega arith
+    go (Some t) h = omega (arith, h t refl)

@@ -1,11 +1,12 @@
 -- What the entry points for C come to, where they are not those of the libraries below: a call, who runs, and how a
 -- thread was woken.
 use Rattle.std.specs.Prelude.{ℕ, zero, suc, List, [], ◌∷◌}
+use Rattle.std.specs.Prelude as code
 use Rattle.std.proofs.Math.Option.{Option, none, some}
 use Rattle.calls.specs.declared.Answer.{Answer}
 use Rattle.calls.specs.declared.Call.{Call}
-use Rattle.calls.specs.declared.Runner.{Runner}
 use Rattle.calls.specs.Answers.{plain, thread_of, seat}
+use Rattle.calls.specs.Numbers.{four}
 use Rattle.lent_tables.specs.declared.how.Waking.{Waking}
 use Rattle.lent_tables.specs.Entries.{Lent, lent, checked, Called, called}
 use Rattle.numbers.specs.Numbers.{call_in}
@@ -28,10 +29,6 @@ called_for (some c) l = called l c
 called_for none l =
     record { answer = plain (refusal (checked l).code); left = lent l.tables l.grants (checked l).scratch }
 
--- code, count, badge, message
-abbrev pub four : Answer → List ℕ
-four a = a.code ∷ a.count ∷ a.badge ∷ a.message ∷ []
-
 abbrev pub as_answered : Called → Answered
 as_answered r = record { code = r.answer.code; answer = four r.answer; left = r.left }
 
@@ -40,7 +37,7 @@ unfoldable pub answered : Lent → List ℕ → Answered
 answered l numbers = as_answered (called_for (call_in numbers) l)
 
 -- Who runs: the thread's number; 256 where nobody runs.
-abbrev pub runner_number : Runner → ℕ
+abbrev pub runner_number : code.Option ℕ → ℕ
 runner_number r = seat (thread_of r)
 
 -- outcome, badge, message

@@ -8,15 +8,14 @@ ghost use Rattle.std.specs.Prelude.{◌≡◌};
 ghost use Rattle.std.proofs.Math.Option.{none};
 ghost use Rattle.lent_tables.specs.Entries.{lent, Freshened, Checked, Called, freshened, checked, runner_in};
 ghost use Rattle.lent_tables.specs.Entries.{woken_in};
-ghost use Rattle.journal.specs.declared.types.Written.{Written};
-ghost use Rattle.journal.specs.Steps.{call_named};
+ghost use Rattle.calls.specs.Answers.{maybe_of, answer_of};
+ghost use Rattle.journal.specs.Words.{Written};
 ghost use Rattle.numbers.specs.Numbers.{call_in};
 ghost use Rattle.numbers.specs.declared.types.Reading.{Reading};
 ghost use Rattle.numbers.specs.Journal.{reading, written_for};
 ghost use Rattle.core_c.specs.Entries.{Answered, called_for, answered, runner_number, three};
 
-use calls::Answer;
-use journal::types::Named;
+use calls::{Answer, Call, Outcome, Refusal, codes};
 
 // Tables of 4,096 words and grants of 16,384 become fresh.
 #[unsafe(no_mangle)]
@@ -25,7 +24,7 @@ pub extern "C" fn nazsombet_fresh(tables: &mut [u32], grants: &mut [u32]) -> u32
         (record { code = result; tables = tables.new; grants = grants.new })
         (freshened tables.old grants.old) }
 {
-    lent_tables::fresh(tables, grants)
+    calls::code(lent_tables::fresh(tables, grants))
 }
 
 // Whether the tables show a sound state and the grants are sound; neither is changed.
@@ -34,37 +33,35 @@ pub extern "C" fn nazsombet_check(tables: &[u32], grants: &[u32], scratch: &mut 
     ensures { ◌≡◌ {A = Checked} (record { code = result; scratch = scratch.new })
         (checked (lent tables.now grants.now scratch.old)) }
 {
-    lent_tables::check(tables, grants, scratch)
+    calls::code(lent_tables::check(tables, grants, scratch))
 }
 
 // The numbers name no call: 18, if tables and grants are sound.
-fn refuse(tables: &[u32], grants: &[u32], scratch: &mut [u32]) -> Answer
+fn refuse(tables: &[u32], grants: &[u32], scratch: &mut [u32]) -> Outcome
     ensures { ◌≡◌ {A = Called}
-        (record { answer = result; left = lent tables.now grants.now scratch.new })
+        (record { answer = answer_of result; left = lent tables.now grants.now scratch.new })
         (called_for none (lent tables.now grants.now scratch.old)) }
 {
-    let code = lent_tables::check(tables, grants, scratch);
-    if code != 0 {
-        return calls::plain(code);
-    }
-    calls::plain(calls::codes::NO_CALL)
+    lent_tables::check(tables, grants, scratch)?;
+    Err(Refusal::NoCall)
 }
 
 // Takes the call that the numbers name, if they name one.
-fn take(tables: &mut [u32], grants: &mut [u32], scratch: &mut [u32], named: Named) -> Answer
+fn take(tables: &mut [u32], grants: &mut [u32], scratch: &mut [u32], named: Option<Call>) -> Answer
     ensures { ◌≡◌ {A = Called}
         (record { answer = result; left = lent tables.new grants.new scratch.new })
-        (called_for (call_named named)
+        (called_for (maybe_of named)
         (lent tables.old grants.old scratch.old)) }
 {
-    let Named::One(call) = named else {
-        return refuse(tables, grants, scratch);
+    let Some(call) = named else {
+        return refuse(tables, grants, scratch).into();
     };
     kernel::call(tables, grants, scratch, call)
 }
 
 // Takes a call; its code is answered too.
 #[unsafe(no_mangle)]
+#[tactic(auto, unfolding(crate::specs::Entries::answered))]
 pub extern "C" fn nazsombet_call(
     tables: &mut [u32],
     grants: &mut [u32],
@@ -82,7 +79,7 @@ pub extern "C" fn nazsombet_call(
 {
     let named = numbers::call_in(*call);
     let a = take(tables, grants, scratch, named);
-    *answer = [a.code, a.count, a.badge, a.message];
+    *answer = a.into();
     a.code
 }
 
@@ -92,8 +89,7 @@ pub extern "C" fn nazsombet_read(journal: &[u32], at: &mut usize, call: &mut [u3
     ensures { ◌≡◌ {A = Reading} (record { code = result; at = at.new; call = call.new })
         (reading journal.now at.old) }
 {
-    let from = *at;
-    let reading = numbers::read(journal, from);
+    let reading = numbers::read(journal, *at);
     *at = reading.at;
     let numbers = reading.call;
     *call = numbers;
@@ -106,12 +102,19 @@ pub extern "C" fn nazsombet_write(call: &[u32; 6], words: &mut [u32; 3], count: 
     ensures { ◌≡◌ {A = Written} (record { code = result; count = count.new; words = words.new })
         (written_for (call_in call.now)) }
 {
-    let named = numbers::call_in(*call);
-    let written = numbers::write(named);
-    *count = written.count;
-    let three = written.words;
-    *words = three;
-    written.code
+    match numbers::write(numbers::call_in(*call)) {
+        Ok(written) => {
+            *count = written.count;
+            let three = written.words;
+            *words = three;
+            codes::DONE
+        }
+        Err(why) => {
+            *count = 0;
+            *words = [0; 3];
+            why.into()
+        }
+    }
 }
 
 // The thread that runs, 0 to 255, or 256, whatever the words are.
