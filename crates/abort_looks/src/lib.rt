@@ -5,11 +5,12 @@ ghost use Rattle.machine.specs.Aborts.{look};
 ghost use Rattle.store.specs.Steps.{Shown, Does};
 ghost use Rattle.abort_looks.specs.Looks.{Cursor, InMid, LooksOn};
 
+use layout::Tables;
 use layout::codes::{LINK, NOBODY};
 use layout::{Field, Part};
 
 // A look takes the cursor's waiter w: under the abort's badge it is removed, else it is kept and the cursor moves on.
-fn look(tables: &mut [u32], e: usize, w: usize)
+fn look(tables: &mut Tables, e: usize, w: usize)
     requires { Shown tables.old (Cursor e w) }
     ensures { Does tables.old tables.new (Cursor e w) (look e w) }
 {
@@ -23,7 +24,7 @@ fn look(tables: &mut [u32], e: usize, w: usize)
 }
 
 // As many looks as the allowance lets, until nothing is left to look at; how many they were.
-pub fn look_up_to(tables: &mut [u32], e: usize, allowance: u32) -> u32
+pub fn look_up_to(tables: &mut Tables, e: usize, allowance: u32) -> u32
     requires { Shown tables.old (InMid e) }
     ensures { LooksOn tables.old e allowance result tables.new }
 {

@@ -11,12 +11,13 @@ ghost use Rattle.endings.specs.Results.{Calling, Performs};
 ghost use Rattle.own_aborts.specs.Own.{Open};
 ghost use Rattle.aborts.specs.Aborts.{unnoted};
 
+use layout::Tables;
 use calls::{Accepted, Outcome};
 use layout::{Part, codes};
 
 // An abort is begun where none stands, joined where it is of this badge, and finished first where it is of another.
 // stays: t, e and badge apart, as abort_open of Aborts takes them; each clause would name a struct's fields.
-fn abort_open(tables: &mut [u32], t: usize, e: usize, allowance: u32, badge: u32) -> Outcome
+fn abort_open(tables: &mut Tables, t: usize, e: usize, allowance: u32, badge: u32) -> Outcome
     requires { Shown tables.old (Open t e) × (allowance ≤ 65535) × (badge < 2 ^ 28) }
     ensures { Performs tables.old tables.new (answer_of result) (Open t e)
         (abort_open t e allowance badge) }
@@ -33,7 +34,7 @@ fn abort_open(tables: &mut [u32], t: usize, e: usize, allowance: u32, badge: u32
 }
 
 // Refused where the endpoint is missing or closing. Else the caller leaves its set, or loses its note, before the work.
-fn abort_at(tables: &mut [u32], t: usize, e: usize, allowance: u32, badge: u32) -> Outcome
+fn abort_at(tables: &mut Tables, t: usize, e: usize, allowance: u32, badge: u32) -> Outcome
     requires { Shown tables.old (Calling t ((e ≤ 63) × (allowance ≤ 65535) × (badge < 2 ^ 28))) }
     ensures { Performs tables.old tables.new (answer_of result)
         (Calling t ((e ≤ 63) × (allowance ≤ 65535) × (badge < 2 ^ 28))) (unnoted t e allowance badge) }
@@ -44,7 +45,7 @@ fn abort_at(tables: &mut [u32], t: usize, e: usize, allowance: u32, badge: u32) 
 }
 
 // 12: thread t aborts badge at endpoint e, with at most as many looks as the allowance lets.
-pub fn abort(tables: &mut [u32], t: usize, e: usize, allowance: u32, badge: u32) -> Outcome
+pub fn abort(tables: &mut Tables, t: usize, e: usize, allowance: u32, badge: u32) -> Outcome
     requires { Shown tables.old (Calling t ((e ≤ 63) × (allowance ≤ 65535) × (badge < 2 ^ 28))) }
     ensures { Performs tables.old tables.new (answer_of result)
         (Calling t ((e ≤ 63) × (allowance ≤ 65535) × (badge < 2 ^ 28))) (abort t e allowance badge) }

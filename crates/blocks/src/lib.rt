@@ -7,6 +7,7 @@ ghost use Rattle.store.specs.Steps.{Shown};
 ghost use Rattle.store.specs.Store.{IsThread};
 ghost use Rattle.blocks.specs.Blocks.{ticked_block, LoadsBlock, IsBlock, SetsBlock};
 
+use layout::Tables;
 use calls::codes::TICKS;
 use layout::Field;
 
@@ -53,7 +54,7 @@ pub fn lend_to_tick(block: Block) -> Block
 }
 
 // The block of thread t.
-pub fn load(tables: &[u32], t: usize) -> Block
+pub fn load(tables: &Tables, t: usize) -> Block
     requires { Shown tables.now (IsThread t) }
     ensures { LoadsBlock tables.now t result }
 {
@@ -70,7 +71,7 @@ pub fn load(tables: &[u32], t: usize) -> Block
 }
 
 // Thread t has this block.
-pub fn store(tables: &mut [u32], t: usize, b: Block)
+pub fn store(tables: &mut Tables, t: usize, b: Block)
     requires { Shown tables.old (IsThread t) × IsBlock b }
     ensures { SetsBlock tables.old t b tables.new }
 {

@@ -9,13 +9,14 @@ ghost use Rattle.store.specs.Store.{IsThread, IsEndpoint};
 ghost use Rattle.debts.specs.Debts.{Says, PairInRange, InCall, under_in, noted_in, note_one, noting, EndsAbort};
 ghost use Rattle.debts.specs.Debts.{Alike, BeginsAbort, FirstAt, last_sender};
 
+use layout::Tables;
 use calls::sizes::THREADS;
 use layout::codes::{ABORTING, LINK, NO_ABORT, NOBODY};
 use layout::{Field, Part, codes};
 
 // Thread t leaves the set that it is in, or its note goes.
 #[tactic(auto, using(crate::proofs::Joining::leaves))]
-pub fn drop_debt(tables: &mut [u32], t: usize)
+pub fn drop_debt(tables: &mut Tables, t: usize)
     requires { Shown tables.old (IsThread t) }
     ensures { Does tables.old tables.new (IsThread t) (drop_debt t) }
 {
@@ -23,7 +24,7 @@ pub fn drop_debt(tables: &mut [u32], t: usize)
 }
 
 // Whether an abort of this badge stands at endpoint e.
-pub fn under_abort(tables: &[u32], e: usize, badge: u32) -> bool
+pub fn under_abort(tables: &Tables, e: usize, badge: u32) -> bool
     requires { Shown tables.now (IsEndpoint e) }
     ensures { Says tables.now (IsEndpoint e) result (under_in e badge) }
 {
@@ -32,7 +33,7 @@ pub fn under_abort(tables: &[u32], e: usize, badge: u32) -> bool
 }
 
 // Whether thread t has the note that the abort of this endpoint and badge ended.
-pub fn has_note(tables: &[u32], t: usize, e: usize, badge: u32) -> bool
+pub fn has_note(tables: &Tables, t: usize, e: usize, badge: u32) -> bool
     requires { Shown tables.now (InCall t e) }
     ensures { Says tables.now (InCall t e) result (noted_in t e badge) }
 {
@@ -42,7 +43,7 @@ pub fn has_note(tables: &[u32], t: usize, e: usize, badge: u32) -> bool
 
 // Thread t joins the set at endpoint e.
 #[tactic(auto, using(crate::proofs::Joining::joins))]
-pub fn join(tables: &mut [u32], t: usize, e: usize)
+pub fn join(tables: &mut Tables, t: usize, e: usize)
     requires { Shown tables.old (PairInRange t e) }
     ensures { Does tables.old tables.new (PairInRange t e) (join t e) }
 {
@@ -50,7 +51,7 @@ pub fn join(tables: &mut [u32], t: usize, e: usize)
 }
 
 // Thread t gets a note of the badge if it is in the set at endpoint e.
-fn note_member(tables: &mut [u32], t: usize, e: usize, badge: u32)
+fn note_member(tables: &mut Tables, t: usize, e: usize, badge: u32)
     requires { Shown tables.old (PairInRange t e) }
     ensures { Does tables.old tables.new (PairInRange t e) (note_one t e badge) }
 {
@@ -61,7 +62,7 @@ fn note_member(tables: &mut [u32], t: usize, e: usize, badge: u32)
 
 // Each member of the set at endpoint e gets a note of the badge. The set stands in the threads' words alone, so all are
 // gone through.
-fn note_members(tables: &mut [u32], e: usize, badge: u32)
+fn note_members(tables: &mut Tables, e: usize, badge: u32)
     requires { Shown tables.old (IsEndpoint e) }
     ensures { Does tables.old tables.new (IsEndpoint e) (note_all e badge) }
 {
@@ -71,7 +72,7 @@ fn note_members(tables: &mut [u32], e: usize, badge: u32)
 }
 
 // Each member of the set of the abort at endpoint e, if one stands, gets its note.
-fn note_set(tables: &mut [u32], e: usize)
+fn note_set(tables: &mut Tables, e: usize)
     requires { Shown tables.old (IsEndpoint e) }
     ensures { Does tables.old tables.new (IsEndpoint e) (noting e) }
 {
@@ -83,7 +84,7 @@ fn note_set(tables: &mut [u32], e: usize)
 
 // The abort at endpoint e, if one stands, ends, and the endpoint has the status given.
 // stays: the status is the word's number, which `EndsAbort` speaks of.
-pub fn end_abort(tables: &mut [u32], e: usize, status: u32)
+pub fn end_abort(tables: &mut Tables, e: usize, status: u32)
     requires { Shown tables.old (IsEndpoint e) }
     ensures { EndsAbort tables.old e status tables.new }
 {
@@ -95,7 +96,7 @@ pub fn end_abort(tables: &mut [u32], e: usize, status: u32)
 // The link to the first waiter at endpoint e if it is at this place, sending or receiving; otherwise 0, and no waiter
 // is, since all are alike.
 // stays: place and link are the words' numbers, of which `FirstAt` and `begin`'s marks speak.
-pub fn first_at(tables: &[u32], e: usize, place: u32) -> u32
+pub fn first_at(tables: &Tables, e: usize, place: u32) -> u32
     requires { Shown tables.now (Alike e) }
     ensures { FirstAt tables.now e place result }
 {
@@ -111,7 +112,7 @@ pub fn first_at(tables: &[u32], e: usize, place: u32) -> u32
 }
 
 // The link to the last sender at endpoint e; 0 for none.
-fn last_sender(tables: &[u32], e: usize) -> u32
+fn last_sender(tables: &Tables, e: usize) -> u32
     requires { Shown tables.now (Alike e) }
     ensures { Tells tables.now (Alike e) result (last_sender e) }
 {
@@ -123,7 +124,7 @@ fn last_sender(tables: &[u32], e: usize) -> u32
 }
 
 // Thread t begins an abort of this badge at endpoint e, which has its senders to look at.
-pub fn begin(tables: &mut [u32], t: usize, e: usize, badge: u32)
+pub fn begin(tables: &mut Tables, t: usize, e: usize, badge: u32)
     requires { Shown tables.old (BeginsAbort t e) }
     ensures { Does tables.old tables.new (BeginsAbort t e) (begin t e badge) }
 {

@@ -10,6 +10,7 @@ ghost use Rattle.store.specs.Steps.{Shown};
 ghost use Rattle.endings.specs.Results.{Calling, Performs};
 ghost use Rattle.deletes.specs.Deletes.{Closes, Removes};
 
+use layout::Tables;
 use calls::codes::ENDPOINT_GONE;
 use calls::{Accepted, Outcome};
 use layout::codes;
@@ -17,7 +18,7 @@ use layout::codes::{LINK, NOBODY};
 
 // Waiters leave the head of endpoint e's queue with outcome 4, until nobody is left or the allowance is used up; how
 // many went.
-fn remove(tables: &mut [u32], e: usize, allowance: u32) -> u32
+fn remove(tables: &mut Tables, e: usize, allowance: u32) -> u32
     requires { Shown tables.old (Closes e) }
     ensures { Removes tables.old e allowance result tables.new }
 {
@@ -32,7 +33,7 @@ fn remove(tables: &mut [u32], e: usize, allowance: u32) -> u32
 }
 
 // Endpoint e, closing, loses waiters; with nobody left it is missing, and else the delete is broken off.
-fn delete_from(tables: &mut [u32], e: usize, allowance: u32) -> Outcome
+fn delete_from(tables: &mut Tables, e: usize, allowance: u32) -> Outcome
     requires { Shown tables.old (Closes e) }
     ensures { Performs tables.old tables.new (answer_of result) (Closes e) (delete_from e allowance) }
 {
@@ -46,7 +47,7 @@ fn delete_from(tables: &mut [u32], e: usize, allowance: u32) -> Outcome
 }
 
 // 11: thread t deletes endpoint e, removing at most as many waiters as the allowance lets.
-pub fn delete(tables: &mut [u32], t: usize, e: usize, allowance: u32) -> Outcome
+pub fn delete(tables: &mut Tables, t: usize, e: usize, allowance: u32) -> Outcome
     requires { Shown tables.old (Calling t (e ≤ 63)) }
     ensures { Performs tables.old tables.new (answer_of result) (Calling t (e ≤ 63))
         (delete t e allowance) }

@@ -10,12 +10,14 @@ ghost use Rattle.grants.specs.Memory.{grant_words};
 ghost use Rattle.endings.specs.Results.{Asked, Calling, Performs};
 ghost use Rattle.dispatch.specs.Steps.{Own, Served, Grantable, Regrants};
 
+use layout::Tables;
+use grants::Grants;
 use calls::{Accepted, Call, Outcome};
 use layout::codes::LINK;
 
 // 1: a thread that was created has no grants.
-fn create_thread(tables: &mut [u32], grants: &mut [u32], t: usize, p: u32) -> Outcome
-    requires { Shown tables.old (Asked ((t ≤ 255) × (p ≤ 255))) × (length grants.old ≡ grant_words) }
+fn create_thread(tables: &mut Tables, grants: &mut Grants, t: usize, p: u32) -> Outcome
+    requires { Shown tables.old (Asked ((t ≤ 255) × (p ≤ 255))) }
     ensures performs { Performs tables.old tables.new (answer_of result) (Asked ((t ≤ 255) × (p ≤ 255)))
         (create_thread t p) }
     ensures regrants { Regrants grants.old grants.new (answer_of result) (CreateThread t p) }
@@ -26,8 +28,8 @@ fn create_thread(tables: &mut [u32], grants: &mut [u32], t: usize, p: u32) -> Ou
 }
 
 // 4: at an endpoint that was created nobody has.
-fn create_endpoint(tables: &mut [u32], grants: &mut [u32], e: usize) -> Outcome
-    requires { Shown tables.old (Asked (e ≤ 63)) × (length grants.old ≡ grant_words) }
+fn create_endpoint(tables: &mut Tables, grants: &mut Grants, e: usize) -> Outcome
+    requires { Shown tables.old (Asked (e ≤ 63)) }
     ensures performs { Performs tables.old tables.new (answer_of result) (Asked (e ≤ 63)) (create_endpoint e) }
     ensures regrants { Regrants grants.old grants.new (answer_of result) (CreateEndpoint e) }
 {
@@ -37,7 +39,7 @@ fn create_endpoint(tables: &mut [u32], grants: &mut [u32], e: usize) -> Outcome
 }
 
 // Whether thread and endpoint are there, as call 13 asks. Nothing of the tables changes, so whoever runs goes on.
-fn grantable(tables: &[u32], t: usize, e: usize) -> Outcome
+fn grantable(tables: &Tables, t: usize, e: usize) -> Outcome
     requires { Shown tables.now (Asked ((t ≤ 255) × (e ≤ 63))) }
     ensures { Performs tables.now tables.now (answer_of result) (Asked ((t ≤ 255) × (e ≤ 63)))
         (grant t e) }
@@ -48,8 +50,8 @@ fn grantable(tables: &[u32], t: usize, e: usize) -> Outcome
 }
 
 // 13: what is granted stands in the grants.
-fn grant(tables: &[u32], grants: &mut [u32], t: usize, e: usize, rights: u32, badge: u32) -> Outcome
-    requires { Shown tables.now (Asked (Grantable t e rights badge)) × (length grants.old ≡ grant_words) }
+fn grant(tables: &Tables, grants: &mut Grants, t: usize, e: usize, rights: u32, badge: u32) -> Outcome
+    requires { Shown tables.now (Asked (Grantable t e rights badge)) }
     ensures performs { Performs tables.now tables.now (answer_of result) (Asked (Grantable t e rights badge))
         (grant t e) }
     ensures regrants { Regrants grants.old grants.new (answer_of result) (Grant t e rights badge) }
@@ -60,7 +62,7 @@ fn grant(tables: &[u32], grants: &mut [u32], t: usize, e: usize, rights: u32, ba
 }
 
 // A call of the running thread t: 7 to 12.
-fn own_call(tables: &mut [u32], t: usize, c: Call) -> Outcome
+fn own_call(tables: &mut Tables, t: usize, c: Call) -> Outcome
     requires { Shown tables.old (Calling t (Own c)) }
     ensures { Performs tables.old tables.new (answer_of result) (Calling t (Own c)) (perform c) }
 {
@@ -88,8 +90,8 @@ fn own_call(tables: &mut [u32], t: usize, c: Call) -> Outcome
 
 // A call by its kind: 7 to 12 are made by the running thread, that of the link.
 // stays: a link, as Served and link_of have it; an Option would only be taken apart again in the last arm.
-pub fn carry_out(tables: &mut [u32], grants: &mut [u32], link: u32, c: Call) -> Outcome
-    requires { Shown tables.old (Served link c) × (length grants.old ≡ grant_words) }
+pub fn carry_out(tables: &mut Tables, grants: &mut Grants, link: u32, c: Call) -> Outcome
+    requires { Shown tables.old (Served link c) }
     ensures performs { Performs tables.old tables.new (answer_of result) (Served link c) (perform c) }
     ensures regrants { Regrants grants.old grants.new (answer_of result) c }
 {

@@ -10,11 +10,12 @@ ghost use Rattle.queues.specs.Queues.{Chooses};
 ghost use Rattle.endings.specs.Results.{Performs, Accepts};
 ghost use Rattle.endings.specs.Tests.{Tests, thread_there, endpoint_there, endpoint_open};
 
+use layout::Tables;
 use calls::{Accepted, Outcome, Refusal};
 use layout::{Field, Part, codes};
 
 // Thread t is there; otherwise the call is refused by 21.
-pub fn thread_there(tables: &[u32], t: usize) -> Result<(), Refusal>
+pub fn thread_there(tables: &Tables, t: usize) -> Result<(), Refusal>
     requires { Shown tables.now (IsThread t) }
     ensures { Tests tables.now (IsThread t) result (thread_there t) }
 {
@@ -25,7 +26,7 @@ pub fn thread_there(tables: &[u32], t: usize) -> Result<(), Refusal>
 }
 
 // Endpoint e is there, live or closing; otherwise the call is refused by 23.
-pub fn endpoint_there(tables: &[u32], e: usize) -> Result<(), Refusal>
+pub fn endpoint_there(tables: &Tables, e: usize) -> Result<(), Refusal>
     requires { Shown tables.now (IsEndpoint e) }
     ensures { Tests tables.now (IsEndpoint e) result (endpoint_there e) }
 {
@@ -36,7 +37,7 @@ pub fn endpoint_there(tables: &[u32], e: usize) -> Result<(), Refusal>
 }
 
 // Endpoint e is live; otherwise the call is refused by 23 or 25.
-pub fn endpoint_open(tables: &[u32], e: usize) -> Result<(), Refusal>
+pub fn endpoint_open(tables: &Tables, e: usize) -> Result<(), Refusal>
     requires { Shown tables.now (IsEndpoint e) }
     ensures { Tests tables.now (IsEndpoint e) result (endpoint_open e) }
 {
@@ -48,7 +49,7 @@ pub fn endpoint_open(tables: &[u32], e: usize) -> Result<(), Refusal>
 }
 
 // An accepted call is answered after somebody is chosen.
-pub fn accept(tables: &mut [u32], accepted: Accepted) -> Outcome
+pub fn accept(tables: &mut Tables, accepted: Accepted) -> Outcome
     requires { Shown tables.old Chooses }
     ensures { Accepts tables.old (accepted_as accepted) (answer_of result) Chooses tables.new }
 {
@@ -57,7 +58,7 @@ pub fn accept(tables: &mut [u32], accepted: Accepted) -> Outcome
 }
 
 // The call is done: code 0.
-pub fn done(tables: &mut [u32]) -> Outcome
+pub fn done(tables: &mut Tables) -> Outcome
     requires { Shown tables.old Chooses }
     ensures { Performs tables.old tables.new (answer_of result) Chooses done }
 {

@@ -6,11 +6,12 @@ ghost use Rattle.machine.specs.Endpoints.{join_endpoint, leave_endpoint, wake_fr
 ghost use Rattle.store.specs.Steps.{Shown, Does};
 ghost use Rattle.queues.specs.Queues.{ToEndpoint, InEndpoint, passing_at};
 
+use layout::Tables;
 use layout::codes::NOBODY;
 use layout::{Part, codes, wide};
 
 // Thread t, in no queue, joins the tail of endpoint e's.
-pub fn join_endpoint(tables: &mut [u32], t: usize, e: usize)
+pub fn join_endpoint(tables: &mut Tables, t: usize, e: usize)
     requires { Shown tables.old (ToEndpoint t e) }
     ensures { Does tables.old tables.new (ToEndpoint t e) (join_endpoint t e) }
 {
@@ -18,7 +19,7 @@ pub fn join_endpoint(tables: &mut [u32], t: usize, e: usize)
 }
 
 // Thread t goes from those that the abort at endpoint e has to look at: a mark that it is passes to its neighbour.
-pub fn pass_marks(tables: &mut [u32], t: usize, e: usize)
+pub fn pass_marks(tables: &mut Tables, t: usize, e: usize)
     requires { Shown tables.old (InEndpoint t e) }
     ensures { Does tables.old tables.new (InEndpoint t e) (passing_at t e) }
 {
@@ -34,7 +35,7 @@ pub fn pass_marks(tables: &mut [u32], t: usize, e: usize)
 }
 
 // Thread t leaves the queue of endpoint e, and an abort that stands there has not to look at it any more.
-pub fn leave_endpoint(tables: &mut [u32], t: usize, e: usize)
+pub fn leave_endpoint(tables: &mut Tables, t: usize, e: usize)
     requires { Shown tables.old (InEndpoint t e) }
     ensures { Does tables.old tables.new (InEndpoint t e) (leave_endpoint t e) }
 {
@@ -43,7 +44,7 @@ pub fn leave_endpoint(tables: &mut [u32], t: usize, e: usize)
 }
 
 // Thread t leaves the queue of endpoint e and is woken with an outcome.
-pub fn wake_from(tables: &mut [u32], e: usize, t: usize, outcome: u32, badge: u32, message: u32)
+pub fn wake_from(tables: &mut Tables, e: usize, t: usize, outcome: u32, badge: u32, message: u32)
     requires { Shown tables.old (InEndpoint t e) }
     ensures { Does tables.old tables.new (InEndpoint t e)
         (rousing e t outcome badge message) }

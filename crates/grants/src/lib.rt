@@ -16,6 +16,8 @@ use calls::sizes::{ENDPOINTS, THREADS};
 // How many words are lent for the grants: one for each thread at each endpoint, its rights times BADGES and its badge.
 pub const GRANT_WORDS: usize = THREADS * ENDPOINTS;
 
+pub type Grants = [u32; GRANT_WORDS];
+
 // The rights.
 const SEND: u32 = 1;
 
@@ -27,8 +29,7 @@ const ABORT: u32 = 8;
 
 // Whether no word has a badge without a right. The tests are joined without a branch, so that several words are tried
 // at a time.
-pub fn sound(grants: &[u32]) -> bool
-    requires { length grants.now ≡ grant_words }
+pub fn sound(grants: &Grants) -> bool
     ensures { result ≡ grants_test grants.now }
 {
     let mut sound = true;
@@ -39,8 +40,8 @@ pub fn sound(grants: &[u32]) -> bool
 }
 
 // The word of a thread at an endpoint.
-fn granted(grants: &[u32], thread: usize, endpoint: u32) -> u32
-    requires { (length grants.now ≡ grant_words) × (thread ≤ 255) × (endpoint ≤ 63) }
+fn granted(grants: &Grants, thread: usize, endpoint: u32) -> u32
+    requires { (thread ≤ 255) × (endpoint ≤ 63) }
     ensures { result ≡ grants_of grants.now thread endpoint }
 {
     grants[ENDPOINTS * thread + endpoint as usize]
@@ -56,8 +57,8 @@ fn permits(word: u32, right: u32) -> bool
 
 // Whether the thread that makes the call lacks the right that it needs, or the badge that it sends under.
 #[tactic(auto, unfolding(machine::specs::Grants::lacks))]
-pub fn lacks(grants: &[u32], thread: usize, c: Call) -> bool
-    requires { (length grants.now ≡ grant_words) × (thread ≤ 255) × (in_range c ≡ true) }
+pub fn lacks(grants: &Grants, thread: usize, c: Call) -> bool
+    requires { (thread ≤ 255) × (in_range c ≡ true) }
     ensures { result ≡ lacks (grants_of grants.now thread (endpoint_of c)) c }
 {
     match c {
@@ -77,8 +78,8 @@ pub fn lacks(grants: &[u32], thread: usize, c: Call) -> bool
 }
 
 // A thread has no grants at any endpoint.
-pub fn clear_thread(grants: &mut [u32], thread: usize)
-    requires { (length grants.old ≡ grant_words) × (thread ≤ 255) }
+pub fn clear_thread(grants: &mut Grants, thread: usize)
+    requires { thread ≤ 255 }
     ensures { grants.new ≡ grant_image (put (grants_of grants.old) thread (λ e. 0)) }
 {
     let first = ENDPOINTS * thread;
@@ -86,8 +87,8 @@ pub fn clear_thread(grants: &mut [u32], thread: usize)
 }
 
 // No thread has grants at an endpoint.
-pub fn clear_endpoint(grants: &mut [u32], endpoint: usize)
-    requires { (length grants.old ≡ grant_words) × (endpoint ≤ 63) }
+pub fn clear_endpoint(grants: &mut Grants, endpoint: usize)
+    requires { endpoint ≤ 63 }
     ensures { grants.new ≡ grant_image (λ t. put (grants_of grants.old t) endpoint 0) }
 {
     for t in 0..THREADS {
@@ -107,8 +108,8 @@ fn grant_word(rights: u32, badge: u32) -> u32
 }
 
 // The word of a thread at an endpoint becomes v.
-fn store(grants: &mut [u32], thread: usize, endpoint: usize, v: u32)
-    requires { (length grants.old ≡ grant_words) × (thread ≤ 255) × (endpoint ≤ 63) }
+fn store(grants: &mut Grants, thread: usize, endpoint: usize, v: u32)
+    requires { (thread ≤ 255) × (endpoint ≤ 63) }
     ensures { grants.new
         ≡ grant_image (put (grants_of grants.old) thread
         (put (grants_of grants.old thread) endpoint v)) }
@@ -118,8 +119,8 @@ fn store(grants: &mut [u32], thread: usize, endpoint: usize, v: u32)
 
 // Call 13's word: the rights and the badge of a thread at an endpoint.
 #[tactic(auto, unfolding(machine::specs::Grants::regranted))]
-pub fn give(grants: &mut [u32], thread: usize, endpoint: usize, rights: u32, badge: u32)
-    requires { (length grants.old ≡ grant_words) × (thread ≤ 255) × (endpoint ≤ 63) × (rights ≤ 15)
+pub fn give(grants: &mut Grants, thread: usize, endpoint: usize, rights: u32, badge: u32)
+    requires { (thread ≤ 255) × (endpoint ≤ 63) × (rights ≤ 15)
         × (badge < 2 ^ 28) }
     ensures { grants.new
         ≡ grant_image (regranted (Grant thread endpoint rights badge) (grants_of grants.old)) }

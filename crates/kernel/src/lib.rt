@@ -11,12 +11,14 @@ ghost use Rattle.endings.specs.Results.{Asked, Performs};
 ghost use Rattle.dispatch.specs.Steps.{Ranged, admitting, stepping, Regrants};
 
 use calls::{Answer, Call, Outcome, Refusal};
+use grants::Grants;
+use layout::Tables;
 use layout::codes::{LINK, NOBODY};
 
 // A call whose numbers are in range; one that needs a running thread is refused by 20 where none runs, and by 29 where
 // that thread lacks a right.
-fn admit(tables: &mut [u32], grants: &mut [u32], c: Call) -> Outcome
-    requires { Shown tables.old (Asked (Ranged c)) × (length grants.old ≡ grant_words) }
+fn admit(tables: &mut Tables, grants: &mut Grants, c: Call) -> Outcome
+    requires { Shown tables.old (Asked (Ranged c)) }
     ensures performs { Performs tables.old tables.new (answer_of result) (Asked (Ranged c))
         (admitting (grants_of grants.old) c) }
     ensures regrants { Regrants grants.old grants.new (answer_of result) c }
@@ -34,8 +36,8 @@ fn admit(tables: &mut [u32], grants: &mut [u32], c: Call) -> Outcome
 }
 
 // The machine's step on tables that show a sound state.
-fn step(tables: &mut [u32], grants: &mut [u32], c: Call) -> Outcome
-    requires { Shown tables.old Sound × (length grants.old ≡ grant_words) }
+fn step(tables: &mut Tables, grants: &mut Grants, c: Call) -> Outcome
+    requires { Shown tables.old Sound }
     ensures performs { Performs tables.old tables.new (answer_of result) Sound
         (stepping (grants_of grants.old) c) }
     ensures regrants { Regrants grants.old grants.new (answer_of result) c }
@@ -52,7 +54,9 @@ fn checked_step(tables: &mut [u32], grants: &mut [u32], scratch: &mut [u32], c: 
         (record { answer = answer_of result; left = lent tables.new grants.new scratch.new })
         (called (lent tables.old grants.old scratch.old) c) }
 {
-    lent_tables::check(tables, grants, scratch)?;
+    let tables: &mut Tables = tables.as_mut_array().ok_or(Refusal::Length)?;
+    let grants: &mut Grants = grants.as_mut_array().ok_or(Refusal::Length)?;
+    lent_tables::verify(tables, grants, scratch.as_mut_array().ok_or(Refusal::Length)?)?;
     step(tables, grants, c)
 }
 

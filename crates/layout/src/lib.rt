@@ -5,6 +5,16 @@
 pub mod codes;
 pub mod wide;
 
+// How many words are lent for the tables.
+pub const TABLE_WORDS: usize = 4096;
+
+// How many are lent for the scratch beside them; grants::GRANT_WORDS, for the grants.
+pub const SCRATCH_WORDS: usize = 256;
+
+pub type Tables = [u32; TABLE_WORDS];
+
+pub type Scratch = [u32; SCRATCH_WORDS];
+
 // How many words have nothing in them.
 pub const UNUSED_WORDS: usize = 534;
 

@@ -1,13 +1,11 @@
 -- What the entry points on the lent memory come to, for all words lent: make fresh, check, take a call, who runs, and
 -- how a thread was woken.
 use Rattle.std.specs.Prelude.{◌≡◌, ℕ, zero, suc, Bool, true, false, ◌&&◌, List, length, replicate, ◌==◌, nat_le}
-use Rattle.std.specs.Prelude.{Result, Ok, Err, None, Some}
+use Rattle.std.specs.Prelude.{None, Some}
 use Rattle.std.specs.Prelude as code
 use Rattle.std.proofs.Math.Option.{Option, none, some}
 use Rattle.calls.specs.declared.Answer.{Answer}
 use Rattle.calls.specs.declared.Call.{Call}
-use Rattle.calls.specs.declared.Refusal.{Refusal}
-use Rattle.calls.specs.declared.Refusal.TheVariants.{Length}
 use Rattle.machine.specs.Lists.{pick}
 use Rattle.machine.specs.State.{State, fresh_state, message_received}
 use Rattle.calls.specs.Answers.{plain}
@@ -40,10 +38,6 @@ abbrev pub sized : Lent → Bool
 sized l =
     (length l.tables == table_words) && length l.grants == grant_words
     && length l.scratch == scratch_words
-
--- What the code says of tables and grants: whether both have their lengths.
-abbrev pub sized_as : List ℕ → List ℕ → Result (Unit {0}) Refusal
-sized_as m g = pick (length m == table_words && length g == grant_words) (Ok tt) (Err Length)
 
 abbrev pub zeros : List ℕ
 zeros = replicate scratch_words 0

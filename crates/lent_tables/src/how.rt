@@ -2,9 +2,8 @@
 ghost use Rattle.std.specs.Prelude.{◌≡◌};
 ghost use Rattle.lent_tables.specs.Entries.{woken_in};
 
-use crate::TABLE_WORDS;
 use calls::codes::{LAST_THREAD, MESSAGE_RECEIVED};
-use layout::{Field, Slot};
+use layout::{Field, Slot, Tables};
 
 // An outcome, and what was received with it: badge and message with outcome 2, else 0 and 0.
 #[derive(Clone, Copy, Default)]
@@ -19,9 +18,12 @@ pub struct Waking {
 pub fn woken(tables: &[u32], thread: u32) -> Waking
     ensures { result ≡ woken_in tables.now thread }
 {
-    if tables.len() != TABLE_WORDS || thread > LAST_THREAD {
+    if thread > LAST_THREAD {
         return Waking::default();
     }
+    let Ok(tables) = <&Tables>::try_from(tables) else {
+        return Waking::default();
+    };
     let t = thread as usize;
     let outcome = words::get(tables, Slot::Thread(Field::Outcome, t));
     if outcome != MESSAGE_RECEIVED {

@@ -2,9 +2,8 @@
 ghost use Rattle.std.specs.Prelude.{◌≡◌};
 ghost use Rattle.lent_tables.specs.Entries.{runner_in};
 
-use crate::TABLE_WORDS;
 use calls::codes::LAST_THREAD;
-use layout::Slot;
+use layout::{Slot, Tables};
 use layout::codes::LINK;
 
 // Who runs: a thread or nobody, whatever the words are. The link 0 is to nobody.
@@ -12,9 +11,9 @@ use layout::codes::LINK;
 pub fn running(tables: &[u32]) -> Option<u32>
     ensures { result ≡ runner_in tables.now }
 {
-    if tables.len() != TABLE_WORDS {
+    let Ok(tables) = <&Tables>::try_from(tables) else {
         return None;
-    }
+    };
     let thread = words::get(tables, Slot::Running).checked_sub(LINK)?;
     (thread <= LAST_THREAD).then_some(thread)
 }

@@ -9,12 +9,13 @@ ghost use Rattle.store.specs.Steps.{Shown, Does};
 ghost use Rattle.endings.specs.Results.{Asked, Calling, Performs};
 ghost use Rattle.lines.specs.Firing.{firing};
 
+use layout::Tables;
 use calls::codes::LINE_FIRED;
 use calls::{Outcome, Refusal};
 use layout::codes;
 
 // The waiter on line l is woken, or the line is pending.
-fn fire(tables: &mut [u32], l: usize)
+fn fire(tables: &mut Tables, l: usize)
     requires { Shown tables.old (Asked (l ≤ 31)) }
     ensures { Does tables.old tables.new (Asked (l ≤ 31)) (firing l) }
 {
@@ -29,7 +30,7 @@ fn fire(tables: &mut [u32], l: usize)
 }
 
 // 5: an interrupt on line l.
-pub fn interrupt(tables: &mut [u32], l: usize) -> Outcome
+pub fn interrupt(tables: &mut Tables, l: usize) -> Outcome
     requires { Shown tables.old (Asked (l ≤ 31)) }
     ensures { Performs tables.old tables.new (answer_of result) (Asked (l ≤ 31)) (interrupting l) }
 {
@@ -38,7 +39,7 @@ pub fn interrupt(tables: &mut [u32], l: usize) -> Outcome
 }
 
 // 10: the running thread t waits on line l; a pending interrupt is taken at once.
-pub fn wait(tables: &mut [u32], t: usize, l: usize) -> Outcome
+pub fn wait(tables: &mut Tables, t: usize, l: usize) -> Outcome
     requires { Shown tables.old (Calling t (l ≤ 31)) }
     ensures { Performs tables.old tables.new (answer_of result) (Calling t (l ≤ 31)) (waiting t l) }
 {

@@ -7,6 +7,7 @@ ghost use Rattle.layout.specs.Addresses.{table_words};
 ghost use Rattle.links.specs.Links.{Joinable, JoinsFirst, JoinsLast, Leavable, Leads, LeavesQueue};
 ghost use Rattle.links.specs.Links.{PopsFirst, First, Last, Next, Prev};
 
+use layout::Tables;
 use layout::codes::NOBODY;
 use layout::{Link, wide};
 use words::Beside;
@@ -15,7 +16,7 @@ use words::Beside;
 
 // Thread t joins the tail of queue q.
 // stays: the two ends differ in each link that is named; a trait of ends would hold these bodies and their laws.
-pub fn push_tail(tables: &mut [u32], q: usize, t: usize)
+pub fn push_tail(tables: &mut Tables, q: usize, t: usize)
     requires { Joinable tables.old q t }
     ensures { JoinsLast tables.old q t tables.new }
 {
@@ -27,7 +28,7 @@ pub fn push_tail(tables: &mut [u32], q: usize, t: usize)
 }
 
 // Thread t joins the head of queue q.
-pub fn push_head(tables: &mut [u32], q: usize, t: usize)
+pub fn push_head(tables: &mut Tables, q: usize, t: usize)
     requires { Joinable tables.old q t }
     ensures { JoinsFirst tables.old q t tables.new }
 {
@@ -39,7 +40,7 @@ pub fn push_head(tables: &mut [u32], q: usize, t: usize)
 }
 
 // Thread t leaves queue q, in which it stands.
-pub fn unlink(tables: &mut [u32], q: usize, t: usize)
+pub fn unlink(tables: &mut Tables, q: usize, t: usize)
     requires { Leavable tables.old q t }
     ensures { LeavesQueue tables.old q t tables.new }
 {
@@ -52,7 +53,7 @@ pub fn unlink(tables: &mut [u32], q: usize, t: usize)
 }
 
 // Thread t, the first of queue q, leaves it; the link to the first of those that are left.
-pub fn pop_head(tables: &mut [u32], q: usize, t: usize) -> u32
+pub fn pop_head(tables: &mut Tables, q: usize, t: usize) -> u32
     requires { Leads tables.old q t }
     ensures { PopsFirst tables.old q t result tables.new }
 {
@@ -65,32 +66,32 @@ pub fn pop_head(tables: &mut [u32], q: usize, t: usize) -> u32
 
 // The link to the first of queue q: thread t is t + 1, and none is 0.
 // stays: the reading is one generic get; each of the four promises another neighbour, and takes a queue or a thread.
-pub fn first(tables: &[u32], q: usize) -> u32
-    requires { (length tables.now ≡ table_words) × (q ≤ 319) }
+pub fn first(tables: &Tables, q: usize) -> u32
+    requires { q ≤ 319 }
     ensures { First tables.now q result }
 {
     words::get(tables, Link::Head(q))
 }
 
 // The link to the last of queue q, 0 for none.
-pub fn last(tables: &[u32], q: usize) -> u32
-    requires { (length tables.now ≡ table_words) × (q ≤ 319) }
+pub fn last(tables: &Tables, q: usize) -> u32
+    requires { q ≤ 319 }
     ensures { Last tables.now q result }
 {
     words::get(tables, Link::Tail(q))
 }
 
 // The link to the one behind thread t in its queue.
-pub fn next(tables: &[u32], t: usize) -> u32
-    requires { (length tables.now ≡ table_words) × (t ≤ 255) }
+pub fn next(tables: &Tables, t: usize) -> u32
+    requires { t ≤ 255 }
     ensures { Next tables.now t result }
 {
     words::get(tables, Link::Next(t))
 }
 
 // The link to the one before thread t in its queue.
-pub fn prev(tables: &[u32], t: usize) -> u32
-    requires { (length tables.now ≡ table_words) × (t ≤ 255) }
+pub fn prev(tables: &Tables, t: usize) -> u32
+    requires { t ≤ 255 }
     ensures { Prev tables.now t result }
 {
     words::get(tables, Link::Prev(t))

@@ -8,6 +8,7 @@ ghost use Rattle.store.specs.Steps.{Shown};
 ghost use Rattle.endings.specs.Results.{Performs};
 ghost use Rattle.own_aborts.specs.Own.{Open, Continues};
 
+use layout::Tables;
 use calls::{Accepted, Outcome};
 use layout::codes::NOBODY;
 use layout::{Part, codes};
@@ -15,7 +16,7 @@ use layout::{Part, codes};
 // After another badge's abort the call's own begins, if allowance remains.
 // stays: t, e and badge apart, as begin_after of Aborts takes them; each clause would name a struct's fields.
 fn begin_after(
-    tables: &mut [u32],
+    tables: &mut Tables,
     t: usize,
     e: usize,
     left: u32,
@@ -33,7 +34,7 @@ fn begin_after(
 }
 
 // Another badge's abort is finished first, at the expense of the allowance.
-pub fn work_other(tables: &mut [u32], t: usize, e: usize, allowance: u32, badge: u32) -> Outcome
+pub fn work_other(tables: &mut Tables, t: usize, e: usize, allowance: u32, badge: u32) -> Outcome
     requires { Shown tables.old (Open t e) × (allowance ≤ 65535) × (badge < 2 ^ 28) }
     ensures { Performs tables.old tables.new (answer_of result) (Open t e)
         (work_other t e allowance badge) }

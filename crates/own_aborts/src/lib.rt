@@ -8,13 +8,14 @@ ghost use Rattle.store.specs.Steps.{Shown};
 ghost use Rattle.endings.specs.Results.{Performs};
 ghost use Rattle.own_aborts.specs.Own.{Open, Joining, Continues, own_ended, own_begun, joined_on};
 
+use layout::Tables;
 use calls::{Accepted, Outcome};
 use layout::codes::NOBODY;
 use layout::{Part, codes};
 
 // The call's own abort ends where nothing is left: the caller leaves its set, and the other members get notes. Else it
 // is broken off.
-fn end_own(tables: &mut [u32], t: usize, e: usize, count: u32) -> Outcome
+fn end_own(tables: &mut Tables, t: usize, e: usize, count: u32) -> Outcome
     requires { Shown tables.old (Open t e) }
     ensures { Continues tables.old count (answer_of result) (Open t e) (own_ended t e) tables.new }
 {
@@ -28,7 +29,7 @@ fn end_own(tables: &mut [u32], t: usize, e: usize, count: u32) -> Outcome
 }
 
 // The call's own abort works; the call's earlier looks are counted with its own.
-pub fn work_own(tables: &mut [u32], t: usize, e: usize, allowance: u32, earlier: u32) -> Outcome
+pub fn work_own(tables: &mut Tables, t: usize, e: usize, allowance: u32, earlier: u32) -> Outcome
     requires { Shown tables.old (Open t e) × (earlier + allowance ≤ 65535) }
     ensures { Continues tables.old earlier (answer_of result) (Open t e)
         (work_own t e allowance) tables.new }
@@ -40,7 +41,7 @@ pub fn work_own(tables: &mut [u32], t: usize, e: usize, allowance: u32, earlier:
 // The call's own abort begins, and works.
 // stays: t, e and badge apart, as begin and work_own of Aborts take them; each clause would name a struct's fields.
 pub fn begin_own(
-    tables: &mut [u32],
+    tables: &mut Tables,
     t: usize,
     e: usize,
     allowance: u32,
@@ -56,7 +57,7 @@ pub fn begin_own(
 }
 
 // The abort that stands at endpoint e is joined, and works.
-pub fn join_own(tables: &mut [u32], t: usize, e: usize, allowance: u32) -> Outcome
+pub fn join_own(tables: &mut Tables, t: usize, e: usize, allowance: u32) -> Outcome
     requires { Shown tables.old (Joining t e) × (allowance ≤ 65535) }
     ensures { Performs tables.old tables.new (answer_of result) (Joining t e) (joined_on t e allowance) }
 {

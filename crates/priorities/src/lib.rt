@@ -10,11 +10,12 @@ ghost use Rattle.debts.specs.Debts.{Says};
 ghost use Rattle.endings.specs.Results.{Asked, Performs};
 ghost use Rattle.priorities.specs.Priorities.{ready_in, Changes, changing, PriorityInRange};
 
+use layout::Tables;
 use calls::Outcome;
 use layout::{Field, codes, wide};
 
 // Whether thread t is ready: able, and not the one that runs.
-pub fn is_ready(tables: &[u32], t: usize) -> bool
+pub fn is_ready(tables: &Tables, t: usize) -> bool
     requires { Shown tables.now (IsThread t) }
     ensures { Says tables.now (IsThread t) result (ready_in t) }
 {
@@ -23,7 +24,7 @@ pub fn is_ready(tables: &[u32], t: usize) -> bool
 }
 
 // Thread t gets another priority, and goes to the new tail if it is ready.
-fn change(tables: &mut [u32], t: usize, p: u32)
+fn change(tables: &mut Tables, t: usize, p: u32)
     requires { Shown tables.old (Changes t p) }
     ensures { Does tables.old tables.new (Changes t p) (changing t p) }
 {
@@ -38,7 +39,7 @@ fn change(tables: &mut [u32], t: usize, p: u32)
 }
 
 // 3: a changed priority moves a ready thread; the same priority changes nothing.
-pub fn set_priority(tables: &mut [u32], t: usize, p: u32) -> Outcome
+pub fn set_priority(tables: &mut Tables, t: usize, p: u32) -> Outcome
     requires { Shown tables.old (Asked (PriorityInRange t p)) }
     ensures { Performs tables.old tables.new (answer_of result) (Asked (PriorityInRange t p))
         (set_priority t p) }

@@ -8,11 +8,12 @@ ghost use Rattle.store.specs.Steps.{Shown, Does};
 ghost use Rattle.store.specs.Store.{IsThread};
 ghost use Rattle.queues.specs.Queues.{Loose, InLevel, InLevelAt, HeadAt, BlocksAt, leave_level};
 
+use layout::Tables;
 use layout::codes::NOBODY;
 use layout::{Field, codes};
 
 // Thread t, in no queue, joins the tail of its level's.
-pub fn enqueue(tables: &mut [u32], t: usize)
+pub fn enqueue(tables: &mut Tables, t: usize)
     requires { Shown tables.old (Loose t) }
     ensures { Does tables.old tables.new (Loose t) (enqueueing t) }
 {
@@ -23,7 +24,7 @@ pub fn enqueue(tables: &mut [u32], t: usize)
 
 // Thread t, in no queue, joins the head of its level's.
 // stays: the machine's enqueue and enqueue_first hold the two, and its stand_down and stand_back those that call them.
-fn enqueue_first(tables: &mut [u32], t: usize)
+fn enqueue_first(tables: &mut Tables, t: usize)
     requires { Shown tables.old (Loose t) }
     ensures { Does tables.old tables.new (Loose t) (enqueue_first t) }
 {
@@ -33,7 +34,7 @@ fn enqueue_first(tables: &mut [u32], t: usize)
 }
 
 // Thread t leaves the queue of level p, which is empty in the summary if nobody is left there.
-fn leave_level(tables: &mut [u32], p: u32, t: usize)
+fn leave_level(tables: &mut Tables, p: u32, t: usize)
     requires { Shown tables.old (InLevelAt p t) }
     ensures { Does tables.old tables.new (InLevelAt p t) (leave_level p t) }
 {
@@ -45,7 +46,7 @@ fn leave_level(tables: &mut [u32], p: u32, t: usize)
 }
 
 // Thread t, the first of level p, leaves its queue, which is empty in the summary if nobody is left there.
-pub fn leave_head(tables: &mut [u32], p: u32, t: usize)
+pub fn leave_head(tables: &mut Tables, p: u32, t: usize)
     requires { Shown tables.old (HeadAt p t) }
     ensures { Does tables.old tables.new (InLevelAt p t) (leave_level p t) }
 {
@@ -56,7 +57,7 @@ pub fn leave_head(tables: &mut [u32], p: u32, t: usize)
 }
 
 // Thread t leaves its level's queue.
-pub fn unqueue(tables: &mut [u32], t: usize)
+pub fn unqueue(tables: &mut Tables, t: usize)
     requires { Shown tables.old (InLevel t) }
     ensures { Does tables.old tables.new (InLevel t) (unqueueing t) }
 {
@@ -65,7 +66,7 @@ pub fn unqueue(tables: &mut [u32], t: usize)
 }
 
 // The running thread t goes to its level's tail, and nobody runs.
-pub fn stand_down(tables: &mut [u32], t: usize)
+pub fn stand_down(tables: &mut Tables, t: usize)
     requires { Shown tables.old (Loose t) }
     ensures { Does tables.old tables.new (Loose t) (stand_down t) }
 {
@@ -74,7 +75,7 @@ pub fn stand_down(tables: &mut [u32], t: usize)
 }
 
 // The running thread t is displaced: it goes to its level's head, and nobody runs.
-pub fn stand_back(tables: &mut [u32], t: usize)
+pub fn stand_back(tables: &mut Tables, t: usize)
     requires { Shown tables.old (Loose t) }
     ensures { Does tables.old tables.new (Loose t) (stand_back t) }
 {
@@ -83,7 +84,7 @@ pub fn stand_back(tables: &mut [u32], t: usize)
 }
 
 // Thread t, in no queue, is woken with an outcome, and joins its level's tail.
-pub fn wake(tables: &mut [u32], t: usize, outcome: u32, badge: u32, message: u32)
+pub fn wake(tables: &mut Tables, t: usize, outcome: u32, badge: u32, message: u32)
     requires { Shown tables.old (Loose t) }
     ensures { Does tables.old tables.new (Loose t) (waking t outcome badge message) }
 {
@@ -92,7 +93,7 @@ pub fn wake(tables: &mut [u32], t: usize, outcome: u32, badge: u32, message: u32
 }
 
 // The running thread t blocks at a place, and nobody runs.
-pub fn block(tables: &mut [u32], t: usize, place: u32, badge: u32, message: u32)
+pub fn block(tables: &mut Tables, t: usize, place: u32, badge: u32, message: u32)
     requires { Shown tables.old (IsThread t) }
     ensures { BlocksAt tables.old t place badge message tables.new }
 {

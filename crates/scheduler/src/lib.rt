@@ -8,11 +8,12 @@ ghost use Rattle.store.specs.Steps.{Shown, Does};
 ghost use Rattle.store.specs.Store.{Any};
 ghost use Rattle.queues.specs.Queues.{Loose, Chooses, FindsLevel};
 
+use layout::Tables;
 use layout::codes::NOBODY;
 use layout::{Field, wide};
 
 // The highest occupied level, if there is one.
-fn highest_level(tables: &[u32]) -> Option<u32>
+fn highest_level(tables: &Tables) -> Option<u32>
     requires { Shown tables.now Any }
     ensures { FindsLevel tables.now result }
 {
@@ -21,7 +22,7 @@ fn highest_level(tables: &[u32]) -> Option<u32>
 }
 
 // The head of the highest queue, if anybody is ready, runs.
-pub fn dispatch(tables: &mut [u32])
+pub fn dispatch(tables: &mut Tables)
     requires { Shown tables.old Any }
     ensures { Does tables.old tables.new Any dispatching }
 {
@@ -34,7 +35,7 @@ pub fn dispatch(tables: &mut [u32])
 }
 
 // The running thread t is displaced if a level above its own is occupied.
-fn displace(tables: &mut [u32], t: usize)
+fn displace(tables: &mut Tables, t: usize)
     requires { Shown tables.old (Loose t) }
     ensures { Does tables.old tables.new (Loose t) (choose_for (some t)) }
 {
@@ -49,7 +50,7 @@ fn displace(tables: &mut [u32], t: usize)
 }
 
 // If nobody runs, or a level above the running thread's is occupied, the head of the highest queue runs.
-pub fn choose(tables: &mut [u32])
+pub fn choose(tables: &mut Tables)
     requires { Shown tables.old Chooses }
     ensures { Does tables.old tables.new Chooses choosing }
 {

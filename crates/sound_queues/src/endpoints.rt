@@ -9,14 +9,15 @@ ghost use Rattle.soundness.specs.Checks.{status_test, endpoint_test, met, met_be
 ghost use Rattle.sound_queues.specs.Steps.{stands_behind, waiters_as, kind_fits};
 ghost use Rattle.sound_queues.specs.Met.{met_in, Follows, FollowsAll};
 
+use layout::{Tables, Scratch};
 use calls::sizes::{ENDPOINTS, THREADS};
 use layout::codes::ENDPOINT_QUEUES;
 use layout::{Field, Link, Part, wide};
 use soundness::Phase;
 
 // An absent endpoint is empty; an absent or closing one has no abort.
-fn status(tables: &[u32], e: usize) -> bool
-    requires { (length tables.now ≡ table_words) × (e ≤ 63) }
+fn status(tables: &Tables, e: usize) -> bool
+    requires { e ≤ 63 }
     ensures { result ≡ status_test (endpoint_at tables.now Part.Status e) tables.now e }
 {
     let status = words::endpoint(tables, Part::Status, e);
@@ -32,8 +33,8 @@ fn status(tables: &[u32], e: usize) -> bool
 }
 
 // No abort, or one of a badge in range.
-fn abort(tables: &[u32], e: usize) -> bool
-    requires { (length tables.now ≡ table_words) × (e ≤ 63) }
+fn abort(tables: &Tables, e: usize) -> bool
+    requires { e ≤ 63 }
     ensures { result ≡ abort_test (endpoint_at tables.now Part.Aborting e) tables.now e }
 {
     let aborting = words::endpoint(tables, Part::Aborting, e);
@@ -50,8 +51,8 @@ fn abort(tables: &[u32], e: usize) -> bool
 }
 
 // The place that all in the queue must have: that of its first.
-fn kind(tables: &[u32], e: usize) -> usize
-    requires { (length tables.now ≡ table_words) × (e ≤ 63) }
+fn kind(tables: &Tables, e: usize) -> usize
+    requires { e ≤ 63 }
     ensures { result ≡ kind_in tables.now e }
 {
     let q = ENDPOINT_QUEUES + e;
@@ -66,8 +67,8 @@ fn kind(tables: &[u32], e: usize) -> usize
 }
 
 // The badge that may not stand outside the marks, if there is one.
-fn banned(tables: &[u32], e: usize, k: usize) -> usize
-    requires { (length tables.now ≡ table_words) × (e ≤ 63) }
+fn banned(tables: &Tables, e: usize, k: usize) -> usize
+    requires { e ≤ 63 }
     ensures { result ≡ banned_of tables.now e k }
 {
     let aborting = words::endpoint(tables, Part::Aborting, e) == wide::ABORTING;
@@ -78,8 +79,8 @@ fn banned(tables: &[u32], e: usize, k: usize) -> usize
 }
 
 // Thread t, met behind link x in a queue of place k: it is linked back, has the place, and may stand where it does.
-fn stands(tables: &[u32], k: usize, b: usize, x: usize, t: usize, f: Phase) -> bool
-    requires { (length tables.now ≡ table_words) × (t ≤ 255) }
+fn stands(tables: &Tables, k: usize, b: usize, x: usize, t: usize, f: Phase) -> bool
+    requires { t ≤ 255 }
     ensures { result ≡ stands_behind tables.now k b f x t }
 {
     let prev = words::wide(tables, Link::Prev(t));
@@ -88,8 +89,8 @@ fn stands(tables: &[u32], k: usize, b: usize, x: usize, t: usize, f: Phase) -> b
     (prev == x) & (place == k) & crate::phases::allowed(f, b, badge)
 }
 
-fn waiters(tables: &[u32], scratch: &mut [u32], e: usize, k: usize) -> bool
-    requires { (length tables.now ≡ table_words) × (length scratch.old ≡ scratch_words) × (e ≤ 63) }
+fn waiters(tables: &Tables, scratch: &mut Scratch, e: usize, k: usize) -> bool
+    requires { e ≤ 63 }
     ensures { Follows scratch.old scratch.new (met tables.now (endpoint_queue e))
         (waiters_as tables.now e k) result }
 {
@@ -121,16 +122,16 @@ fn waiters(tables: &[u32], scratch: &mut [u32], e: usize, k: usize) -> bool
 }
 
 // All send, or all receive and there are no marks.
-fn fits(tables: &[u32], e: usize, k: usize) -> bool
-    requires { (length tables.now ≡ table_words) × (e ≤ 63) }
+fn fits(tables: &Tables, e: usize, k: usize) -> bool
+    requires { e ≤ 63 }
     ensures { result ≡ kind_fits tables.now e k }
 {
     (k == wide::SENDING + e)
         | ((k == wide::RECEIVING + e) & (words::endpoint(tables, Part::Cursor, e) == wide::NOBODY))
 }
 
-fn endpoint(tables: &[u32], scratch: &mut [u32], e: usize) -> bool
-    requires { (length tables.now ≡ table_words) × (length scratch.old ≡ scratch_words) × (e ≤ 63) }
+fn endpoint(tables: &Tables, scratch: &mut Scratch, e: usize) -> bool
+    requires { e ≤ 63 }
     ensures { Follows scratch.old scratch.new (met tables.now (endpoint_queue e))
         (endpoint_test tables.now e) result }
 {
@@ -141,9 +142,8 @@ fn endpoint(tables: &[u32], scratch: &mut [u32], e: usize) -> bool
     waiters(tables, scratch, e, k)
 }
 
-pub fn endpoints(tables: &[u32], scratch: &mut [u32]) -> bool
-    requires { (length tables.now ≡ table_words) × (length scratch.old ≡ scratch_words)
-        × (scratch.old ≡ met_in (met_below 256 tables.now)) }
+pub fn endpoints(tables: &Tables, scratch: &mut Scratch) -> bool
+    requires { scratch.old ≡ met_in (met_below 256 tables.now) }
     ensures { FollowsAll scratch.new (met_below 320 tables.now)
         (all 64 (endpoint_test tables.now)) result }
 {

@@ -7,12 +7,13 @@ ghost use Rattle.soundness.specs.Checks.{level_test, met, met_below};
 ghost use Rattle.sound_queues.specs.Steps.{ready_behind};
 ghost use Rattle.sound_queues.specs.Met.{met_in, Follows, FollowsAll};
 
+use layout::{Tables, Scratch};
 use calls::sizes::{LEVELS, THREADS};
 use layout::{Field, Link, Slot, wide};
 
 // Thread t, met behind link x in the queue of level p: it is linked back, and ready at p.
-fn ready(tables: &[u32], p: usize, x: usize, t: usize) -> bool
-    requires { (length tables.now ≡ table_words) × (t ≤ 255) }
+fn ready(tables: &Tables, p: usize, x: usize, t: usize) -> bool
+    requires { t ≤ 255 }
     ensures { result ≡ ready_behind tables.now p x t }
 {
     let prev = words::wide(tables, Link::Prev(t));
@@ -22,8 +23,8 @@ fn ready(tables: &[u32], p: usize, x: usize, t: usize) -> bool
     (prev == x) & ((place == wide::ABLE) & (priority == p) & (running != t + wide::LINK))
 }
 
-fn level(tables: &[u32], scratch: &mut [u32], p: usize) -> bool
-    requires { (length tables.now ≡ table_words) × (length scratch.old ≡ scratch_words) × (p ≤ 255) }
+fn level(tables: &Tables, scratch: &mut Scratch, p: usize) -> bool
+    requires { p ≤ 255 }
     ensures { Follows scratch.old scratch.new (met tables.now p)
         (level_test tables.now p) result }
 {
@@ -47,9 +48,8 @@ fn level(tables: &[u32], scratch: &mut [u32], p: usize) -> bool
     false
 }
 
-pub fn levels(tables: &[u32], scratch: &mut [u32]) -> bool
-    requires { (length tables.now ≡ table_words) × (length scratch.old ≡ scratch_words)
-        × (scratch.old ≡ met_in (met_below 0 tables.now)) }
+pub fn levels(tables: &Tables, scratch: &mut Scratch) -> bool
+    requires { scratch.old ≡ met_in (met_below 0 tables.now) }
     ensures { FollowsAll scratch.new (met_below 256 tables.now)
         (all 256 (level_test tables.now)) result }
 {

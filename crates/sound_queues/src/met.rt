@@ -3,17 +3,19 @@ ghost use Rattle.std.specs.Prelude.{◌≡◌, ◌≤◌, length};
 ghost use Rattle.layout.specs.Addresses.{scratch_words};
 ghost use Rattle.sound_queues.specs.Met.{Meets, HasMet};
 
+use layout::Scratch;
+
 // Thread t is met.
-pub fn meet(scratch: &mut [u32], t: usize)
-    requires { (length scratch.old ≡ scratch_words) × (t ≤ 255) }
+pub fn meet(scratch: &mut Scratch, t: usize)
+    requires { t ≤ 255 }
     ensures { Meets scratch.old scratch.new t }
 {
     scratch[t] = 1;
 }
 
 // Whether thread t was met.
-pub fn has_met(scratch: &[u32], t: usize) -> bool
-    requires { (length scratch.now ≡ scratch_words) × (t ≤ 255) }
+pub fn has_met(scratch: &Scratch, t: usize) -> bool
+    requires { t ≤ 255 }
     ensures { HasMet scratch.now t result }
 {
     scratch[t] == 1

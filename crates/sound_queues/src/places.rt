@@ -6,12 +6,12 @@ ghost use Rattle.layout.specs.Tests.{all};
 ghost use Rattle.soundness.specs.Checks.{placed_test, met_below};
 ghost use Rattle.sound_queues.specs.Met.{met_in};
 
+use layout::{Tables, Scratch};
 use calls::sizes::THREADS;
 use layout::{Field, Link, Slot, wide};
 
-fn place(tables: &[u32], scratch: &[u32], t: usize) -> bool
-    requires { (length tables.now ≡ table_words) × (length scratch.now ≡ scratch_words)
-        × (scratch.now ≡ met_in (met_below 320 tables.now)) × (t ≤ 255) }
+fn place(tables: &Tables, scratch: &Scratch, t: usize) -> bool
+    requires { (scratch.now ≡ met_in (met_below 320 tables.now)) × (t ≤ 255) }
     ensures { result ≡ placed_test tables.now t }
 {
     let met = crate::met::has_met(scratch, t);
@@ -24,9 +24,8 @@ fn place(tables: &[u32], scratch: &[u32], t: usize) -> bool
     (met == queued) & (met | bare)
 }
 
-pub fn places(tables: &[u32], scratch: &[u32]) -> bool
-    requires { (length tables.now ≡ table_words) × (length scratch.now ≡ scratch_words)
-        × (scratch.now ≡ met_in (met_below 320 tables.now)) }
+pub fn places(tables: &Tables, scratch: &Scratch) -> bool
+    requires { scratch.now ≡ met_in (met_below 320 tables.now) }
     ensures { result ≡ all 256 (placed_test tables.now) }
 {
     (0..THREADS).all(|t| place(tables, scratch, t))

@@ -7,6 +7,7 @@ ghost use Rattle.layout.specs.Addresses.{table_words};
 ghost use Rattle.layout.specs.Tests.{all};
 ghost use Rattle.soundness.specs.Checks.{occupied_at, summary_test, running_test};
 
+use layout::Tables;
 use layout::{Field, Link, Slot, wide};
 use summary::{LEVELS_IN_WORD, WORDS};
 
@@ -21,8 +22,8 @@ fn share(word: usize, bit: usize) -> usize
 }
 
 // Word w of the summary, as the queues have it.
-fn word(tables: &[u32], w: usize) -> usize
-    requires { (length tables.now ≡ table_words) × (w ≤ 7) }
+fn word(tables: &Tables, w: usize) -> usize
+    requires { w ≤ 7 }
     ensures { result ≡ word_of (occupied_at tables.now) w }
 {
     let mut bit: usize = 1;
@@ -35,8 +36,7 @@ fn word(tables: &[u32], w: usize) -> usize
     sum
 }
 
-pub fn summary(tables: &[u32]) -> bool
-    requires { length tables.now ≡ table_words }
+pub fn summary(tables: &Tables) -> bool
     ensures { result ≡ summary_test tables.now }
 {
     let mut bit: usize = 1;
@@ -53,15 +53,13 @@ pub fn summary(tables: &[u32]) -> bool
 }
 
 // No level above p is occupied.
-fn above(tables: &[u32], p: usize) -> bool
-    requires { length tables.now ≡ table_words }
+fn above(tables: &Tables, p: usize) -> bool
     ensures { result ≡ all 256 (λ i. leb i p || not (occupied_at tables.now i)) }
 {
     (p..wide::LAST_PRIORITY).all(|i| words::wide(tables, Link::Head(i + 1)) == wide::NOBODY)
 }
 
-pub fn running(tables: &[u32]) -> bool
-    requires { length tables.now ≡ table_words }
+pub fn running(tables: &Tables) -> bool
     ensures { result ≡ running_test tables.now }
 {
     let running = words::wide(tables, Slot::Running);

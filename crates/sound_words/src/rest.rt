@@ -4,12 +4,13 @@ ghost use Rattle.layout.specs.Addresses.{table_words};
 ghost use Rattle.layout.specs.Tests.{all};
 ghost use Rattle.soundness.specs.Checks.{line_test, unused_test};
 
+use layout::Tables;
 use calls::sizes::LINES;
 use layout::{Field, Slot, UNUSED_WORDS, wide};
 
 // A line's waiter waits on it.
-fn line(tables: &[u32], l: usize) -> bool
-    requires { (length tables.now ≡ table_words) × (l ≤ 31) }
+fn line(tables: &Tables, l: usize) -> bool
+    requires { l ≤ 31 }
     ensures { result ≡ line_test tables.now l }
 {
     let line = words::wide(tables, Slot::Line(l));
@@ -22,16 +23,14 @@ fn line(tables: &[u32], l: usize) -> bool
     words::thread(tables, Field::Place, line - wide::AWAITED) == wide::WAITING + l
 }
 
-pub fn lines(tables: &[u32]) -> bool
-    requires { length tables.now ≡ table_words }
+pub fn lines(tables: &Tables) -> bool
     ensures { result ≡ all 32 (line_test tables.now) }
 {
     (0..LINES).all(|l| line(tables, l))
 }
 
 // The unused words are 0.
-pub fn unused(tables: &[u32]) -> bool
-    requires { length tables.now ≡ table_words }
+pub fn unused(tables: &Tables) -> bool
     ensures { result ≡ all 534 (unused_test tables.now) }
 {
     (0..UNUSED_WORDS).all(|i| words::wide(tables, Slot::Unused(i)) == 0)

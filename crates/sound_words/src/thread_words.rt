@@ -7,13 +7,14 @@ ghost use Rattle.layout.specs.Tests.{all};
 ghost use Rattle.soundness.specs.Checks.{thread_at, absent_test, numbers_test, stored_test, waits_test, owes_test};
 ghost use Rattle.soundness.specs.Checks.{present_test, block_test};
 
+use layout::Tables;
 use calls::sizes::THREADS;
 use layout::{Field, Part, Slot, wide};
 
 // An absent thread's words are 0.
 #[tactic(auto, unfolding(soundness::specs::Checks::absent_test))]
-fn absent(tables: &[u32], t: usize) -> bool
-    requires { (length tables.now ≡ table_words) × (t ≤ 255) }
+fn absent(tables: &Tables, t: usize) -> bool
+    requires { t ≤ 255 }
     ensures { result ≡ absent_test tables.now t }
 {
     (words::thread(tables, Field::Priority, t) == 0)
@@ -27,8 +28,8 @@ fn absent(tables: &[u32], t: usize) -> bool
 
 // A present thread's numbers are in range.
 #[tactic(auto, unfolding(soundness::specs::Checks::numbers_test))]
-fn numbers(tables: &[u32], t: usize) -> bool
-    requires { (length tables.now ≡ table_words) × (t ≤ 255) }
+fn numbers(tables: &Tables, t: usize) -> bool
+    requires { t ≤ 255 }
     ensures { result ≡ numbers_test tables.now t }
 {
     let ticks = words::thread(tables, Field::Ticks, t);
@@ -42,8 +43,8 @@ fn numbers(tables: &[u32], t: usize) -> bool
 
 // Outcome, badge and message stand only where a thread stores them.
 #[tactic(auto, unfolding(soundness::specs::Checks::stored_test))]
-fn stored(tables: &[u32], t: usize) -> bool
-    requires { (length tables.now ≡ table_words) × (t ≤ 255) }
+fn stored(tables: &Tables, t: usize) -> bool
+    requires { t ≤ 255 }
     ensures { result ≡ stored_test tables.now t }
 {
     let place = words::thread(tables, Field::Place, t);
@@ -58,8 +59,8 @@ fn stored(tables: &[u32], t: usize) -> bool
 
 // A thread on a line is the line's waiter.
 #[tactic(auto, unfolding(soundness::specs::Checks::waits_test))]
-fn waits(tables: &[u32], t: usize) -> bool
-    requires { (length tables.now ≡ table_words) × (t ≤ 255) × (thread_at tables.now Field.Place t ≤ 161) }
+fn waits(tables: &Tables, t: usize) -> bool
+    requires { (t ≤ 255) × (thread_at tables.now Field.Place t ≤ 161) }
     ensures { result ≡ waits_test tables.now t }
 {
     let place = words::thread(tables, Field::Place, t);
@@ -71,8 +72,8 @@ fn waits(tables: &[u32], t: usize) -> bool
 }
 
 // What a thread owes: nothing, work on an abort that stands, or a note.
-fn owing(tables: &[u32], t: usize) -> bool
-    requires { (length tables.now ≡ table_words) × (t ≤ 255) }
+fn owing(tables: &Tables, t: usize) -> bool
+    requires { t ≤ 255 }
     ensures { result ≡ owes_test (thread_at tables.now Field.Owes t) tables.now t }
 {
     let owes = words::thread(tables, Field::Owes, t);
@@ -89,8 +90,8 @@ fn owing(tables: &[u32], t: usize) -> bool
 
 // A present thread. Where its numbers are in range, its line exists.
 #[tactic(auto, using(crate::proofs::Numbers::place_small), unfolding(soundness::specs::Checks::present_test))]
-fn present(tables: &[u32], t: usize) -> bool
-    requires { (length tables.now ≡ table_words) × (t ≤ 255) }
+fn present(tables: &Tables, t: usize) -> bool
+    requires { t ≤ 255 }
     ensures { result ≡ present_test tables.now t }
 {
     if !numbers(tables, t) {
@@ -100,8 +101,8 @@ fn present(tables: &[u32], t: usize) -> bool
 }
 
 #[tactic(auto, unfolding(soundness::specs::Checks::block_test))]
-fn block(tables: &[u32], t: usize) -> bool
-    requires { (length tables.now ≡ table_words) × (t ≤ 255) }
+fn block(tables: &Tables, t: usize) -> bool
+    requires { t ≤ 255 }
     ensures { result ≡ block_test tables.now t }
 {
     if words::thread(tables, Field::Place, t) == wide::ABSENT {
@@ -110,8 +111,7 @@ fn block(tables: &[u32], t: usize) -> bool
     present(tables, t)
 }
 
-pub fn threads(tables: &[u32]) -> bool
-    requires { length tables.now ≡ table_words }
+pub fn threads(tables: &Tables) -> bool
     ensures { result ≡ all 256 (block_test tables.now) }
 {
     (0..THREADS).all(|t| block(tables, t))

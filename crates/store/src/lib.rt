@@ -12,12 +12,13 @@ ghost use Rattle.store.specs.Store.{Remakes, SetsPending};
 ghost use Rattle.store.specs.Readings.{slot_in, thread_in, endpoint_in, line_in, running_in};
 ghost use Rattle.store.specs.Levels.{LoadsSummary, SetsLevel, WritesLevel};
 
+use layout::Tables;
 use layout::{Field, Part, Slot, codes};
 use std::array;
 use summary::Summary;
 
 // A word that is no link.
-fn slot(tables: &[u32], a: Slot) -> u32
+fn slot(tables: &Tables, a: Slot) -> u32
     requires { Shown tables.now (IsSlot a) }
     ensures { Tells tables.now (IsSlot a) result (slot_in a) }
 {
@@ -26,7 +27,7 @@ fn slot(tables: &[u32], a: Slot) -> u32
 
 // A word of thread t.
 // stays: a thread has a Field, an endpoint a Part, each with its own promise; what they share is slot.
-pub fn thread(tables: &[u32], f: Field, t: usize) -> u32
+pub fn thread(tables: &Tables, f: Field, t: usize) -> u32
     requires { Shown tables.now (IsThread t) }
     ensures { Tells tables.now (IsThread t) result (thread_in f t) }
 {
@@ -34,7 +35,7 @@ pub fn thread(tables: &[u32], f: Field, t: usize) -> u32
 }
 
 // A word of endpoint e.
-pub fn endpoint(tables: &[u32], p: Part, e: usize) -> u32
+pub fn endpoint(tables: &Tables, p: Part, e: usize) -> u32
     requires { Shown tables.now (IsEndpoint e) }
     ensures { Tells tables.now (IsEndpoint e) result (endpoint_in p e) }
 {
@@ -42,7 +43,7 @@ pub fn endpoint(tables: &[u32], p: Part, e: usize) -> u32
 }
 
 // What line l holds, as a number.
-pub fn line(tables: &[u32], l: usize) -> u32
+pub fn line(tables: &Tables, l: usize) -> u32
     requires { Shown tables.now (IsLine l) }
     ensures { Tells tables.now (IsLine l) result (line_in l) }
 {
@@ -50,7 +51,7 @@ pub fn line(tables: &[u32], l: usize) -> u32
 }
 
 // The link to the running thread.
-pub fn running(tables: &[u32]) -> u32
+pub fn running(tables: &Tables) -> u32
     requires { Shown tables.now Any }
     ensures { Tells tables.now Any result running_in }
 {
@@ -59,7 +60,7 @@ pub fn running(tables: &[u32]) -> u32
 
 // Thread t is at a place, with the outcome, badge and message that it has there.
 // stays: places, debts, statuses and lines are words of the lent, fixed memory, as place_code of specs and its like.
-pub fn set_place(tables: &mut [u32], t: usize, place: u32, outcome: u32, badge: u32, message: u32)
+pub fn set_place(tables: &mut Tables, t: usize, place: u32, outcome: u32, badge: u32, message: u32)
     requires { Shown tables.old (IsThread t) }
     ensures { SetsPlace tables.old t place outcome badge message tables.new }
 {
@@ -70,7 +71,7 @@ pub fn set_place(tables: &mut [u32], t: usize, place: u32, outcome: u32, badge: 
 }
 
 // Thread t has priority p.
-pub fn set_priority(tables: &mut [u32], t: usize, p: u32)
+pub fn set_priority(tables: &mut Tables, t: usize, p: u32)
     requires { Shown tables.old (IsThread t) }
     ensures { Does tables.old tables.new (IsThread t) (prioritising t p) }
 {
@@ -78,7 +79,7 @@ pub fn set_priority(tables: &mut [u32], t: usize, p: u32)
 }
 
 // Thread t has n ticks left.
-pub fn set_ticks(tables: &mut [u32], t: usize, n: u32)
+pub fn set_ticks(tables: &mut Tables, t: usize, n: u32)
     requires { Shown tables.old (IsThread t) }
     ensures { Does tables.old tables.new (IsThread t) (ticking t n) }
 {
@@ -86,7 +87,7 @@ pub fn set_ticks(tables: &mut [u32], t: usize, n: u32)
 }
 
 // What thread t has to do with aborts, and the badge of its note.
-pub fn set_owes(tables: &mut [u32], t: usize, code: u32, badge: u32)
+pub fn set_owes(tables: &mut Tables, t: usize, code: u32, badge: u32)
     requires { Shown tables.old (IsThread t) }
     ensures { SetsDebt tables.old t code badge tables.new }
 {
@@ -95,7 +96,7 @@ pub fn set_owes(tables: &mut [u32], t: usize, code: u32, badge: u32)
 }
 
 // Thread t has this place, priority and ticks, and nothing else.
-fn remake(tables: &mut [u32], t: usize, place: u32, p: u32, ticks: u32)
+fn remake(tables: &mut Tables, t: usize, place: u32, p: u32, ticks: u32)
     requires { Shown tables.old (IsThread t) }
     ensures { Remakes tables.old t place p ticks tables.new }
 {
@@ -106,7 +107,7 @@ fn remake(tables: &mut [u32], t: usize, place: u32, p: u32, ticks: u32)
 }
 
 // Thread t is new: able, of priority p, with all its ticks.
-pub fn new_thread(tables: &mut [u32], t: usize, p: u32)
+pub fn new_thread(tables: &mut Tables, t: usize, p: u32)
     requires { Shown tables.old (IsThread t) }
     ensures { Does tables.old tables.new (IsThread t) (creating t p) }
 {
@@ -114,7 +115,7 @@ pub fn new_thread(tables: &mut [u32], t: usize, p: u32)
 }
 
 // Thread t is absent.
-pub fn clear_thread(tables: &mut [u32], t: usize)
+pub fn clear_thread(tables: &mut Tables, t: usize)
     requires { Shown tables.old (IsThread t) }
     ensures { Does tables.old tables.new (IsThread t) (clearing t) }
 {
@@ -122,7 +123,7 @@ pub fn clear_thread(tables: &mut [u32], t: usize)
 }
 
 // The thread of a link runs, none for 0.
-pub fn set_running(tables: &mut [u32], link: u32)
+pub fn set_running(tables: &mut Tables, link: u32)
     requires { Shown tables.old Any }
     ensures { SetsRunning tables.old link tables.new }
 {
@@ -130,7 +131,7 @@ pub fn set_running(tables: &mut [u32], link: u32)
 }
 
 // Line l is quiet, pending or awaited.
-pub fn set_line(tables: &mut [u32], l: usize, code: u32)
+pub fn set_line(tables: &mut Tables, l: usize, code: u32)
     requires { Shown tables.old (IsLine l) }
     ensures { SetsLine tables.old l code tables.new }
 {
@@ -138,7 +139,7 @@ pub fn set_line(tables: &mut [u32], l: usize, code: u32)
 }
 
 // Endpoint e is missing, live or closing.
-pub fn set_status(tables: &mut [u32], e: usize, code: u32)
+pub fn set_status(tables: &mut Tables, e: usize, code: u32)
     requires { Shown tables.old (IsEndpoint e) }
     ensures { SetsStatus tables.old e code tables.new }
 {
@@ -146,7 +147,7 @@ pub fn set_status(tables: &mut [u32], e: usize, code: u32)
 }
 
 // The abort at endpoint e: whether one stands, its badge, and the first and the last waiter to look at.
-pub fn set_abort(tables: &mut [u32], e: usize, here: u32, badge: u32, cursor: u32, end: u32)
+pub fn set_abort(tables: &mut Tables, e: usize, here: u32, badge: u32, cursor: u32, end: u32)
     requires { Shown tables.old (IsEndpoint e) }
     ensures { SetsAbort tables.old e here badge cursor end tables.new }
 {
@@ -157,7 +158,7 @@ pub fn set_abort(tables: &mut [u32], e: usize, here: u32, badge: u32, cursor: u3
 }
 
 // The abort at endpoint e looks at the waiters from a cursor to an end mark, both 0 for none.
-pub fn set_marks(tables: &mut [u32], e: usize, cursor: u32, end: u32)
+pub fn set_marks(tables: &mut Tables, e: usize, cursor: u32, end: u32)
     requires { Shown tables.old (IsEndpoint e) }
     ensures { SetsPending tables.old e cursor end tables.new }
 {
@@ -166,8 +167,7 @@ pub fn set_marks(tables: &mut [u32], e: usize, cursor: u32, end: u32)
 }
 
 // The summary that stands in the tables.
-pub fn load_summary(tables: &[u32]) -> Summary
-    requires { length tables.now ≡ table_words }
+pub fn load_summary(tables: &Tables) -> Summary
     ensures { LoadsSummary tables.now result }
 {
     Summary {
@@ -177,8 +177,8 @@ pub fn load_summary(tables: &[u32]) -> Summary
 }
 
 // The word of level p and the top word become those of the summary.
-fn store_level(tables: &mut [u32], sm: Summary, p: u32)
-    requires { (length tables.old ≡ table_words) × (p < 256) }
+fn store_level(tables: &mut Tables, sm: Summary, p: u32)
+    requires { p < 256 }
     ensures { WritesLevel tables.old sm p tables.new }
 {
     let w = (p / 32) as usize;
@@ -189,8 +189,8 @@ fn store_level(tables: &mut [u32], sm: Summary, p: u32)
 
 // Level p is occupied in the summary.
 // stays: the two differ in the summary's method alone, and a closure for it has a contract longer than either body.
-pub fn set_occupied(tables: &mut [u32], p: u32)
-    requires { (length tables.old ≡ table_words) × (p < 256) }
+pub fn set_occupied(tables: &mut Tables, p: u32)
+    requires { p < 256 }
     ensures { SetsLevel tables.old p true tables.new }
 {
     let sm = load_summary(tables);
@@ -198,8 +198,8 @@ pub fn set_occupied(tables: &mut [u32], p: u32)
 }
 
 // Level p is empty in the summary.
-pub fn set_empty(tables: &mut [u32], p: u32)
-    requires { (length tables.old ≡ table_words) × (p < 256) }
+pub fn set_empty(tables: &mut Tables, p: u32)
+    requires { p < 256 }
     ensures { SetsLevel tables.old p false tables.new }
 {
     let sm = load_summary(tables);

@@ -10,12 +10,13 @@ ghost use Rattle.endings.specs.Results.{Asked, Performs};
 ghost use Rattle.threads.specs.Threads.{Able, leaving_ready, Goes, leaving};
 ghost use Rattle.priorities.specs.Priorities.{PriorityInRange};
 
+use layout::Tables;
 use calls::{Outcome, Refusal};
 use layout::codes::NOBODY;
 use layout::{Field, codes};
 
 // 1: a new thread joins its level's tail.
-pub fn create_thread(tables: &mut [u32], t: usize, p: u32) -> Outcome
+pub fn create_thread(tables: &mut Tables, t: usize, p: u32) -> Outcome
     requires { Shown tables.old (Asked (PriorityInRange t p)) }
     ensures { Performs tables.old tables.new (answer_of result) (Asked (PriorityInRange t p))
         (create_thread t p) }
@@ -30,7 +31,7 @@ pub fn create_thread(tables: &mut [u32], t: usize, p: u32) -> Outcome
 }
 
 // An able thread t stops running, or leaves its level's queue.
-fn leave_ready(tables: &mut [u32], t: usize)
+fn leave_ready(tables: &mut Tables, t: usize)
     requires { Shown tables.old (Able t) }
     ensures { Does tables.old tables.new (Able t) (leaving_ready t) }
 {
@@ -43,7 +44,7 @@ fn leave_ready(tables: &mut [u32], t: usize)
 }
 
 // A destroyed thread leaves any queue or line: t is at the place of this number.
-fn leave(tables: &mut [u32], t: usize, place: u32)
+fn leave(tables: &mut Tables, t: usize, place: u32)
     requires { Shown tables.old (Goes t place) }
     ensures { Does tables.old tables.new (Goes t place) (leaving t) }
 {
@@ -60,7 +61,7 @@ fn leave(tables: &mut [u32], t: usize, place: u32)
 }
 
 // 2: a thread goes, with its note or its place in a set, from wherever it is.
-pub fn destroy_thread(tables: &mut [u32], t: usize) -> Outcome
+pub fn destroy_thread(tables: &mut Tables, t: usize) -> Outcome
     requires { Shown tables.old (Asked (t ≤ 255)) }
     ensures { Performs tables.old tables.new (answer_of result) (Asked (t ≤ 255)) (destroy_thread t) }
 {

@@ -9,12 +9,13 @@ ghost use Rattle.store.specs.Steps.{Shown, Does};
 ghost use Rattle.endings.specs.Results.{Asked, Calling, Performs};
 ghost use Rattle.time_slices.specs.Ticks.{ticking_for};
 
+use layout::Tables;
 use calls::Outcome;
 use layout::codes::{LINK, NOBODY};
 
 // The running thread u has a tick less; at the last it has 5 again and goes to its tail. The tick changes the thread's
 // block where it is lent.
-fn take_tick(tables: &mut [u32], u: usize)
+fn take_tick(tables: &mut Tables, u: usize)
     requires { Shown tables.old (Calling u (Unit {0})) }
     ensures { Does tables.old tables.new (Calling u (Unit {0})) (tick_for (some u)) }
 {
@@ -28,7 +29,7 @@ fn take_tick(tables: &mut [u32], u: usize)
 }
 
 // The thread that runs, if one does, has a tick less.
-fn tick_running(tables: &mut [u32])
+fn tick_running(tables: &mut Tables)
     requires { Shown tables.old (Asked (Unit {0})) }
     ensures { Does tables.old tables.new (Asked (Unit {0})) ticking_for }
 {
@@ -39,7 +40,7 @@ fn tick_running(tables: &mut [u32])
 }
 
 // 6: a tick takes one from the running thread.
-pub fn tick(tables: &mut [u32]) -> Outcome
+pub fn tick(tables: &mut Tables) -> Outcome
     requires { Shown tables.old (Asked (Unit {0})) }
     ensures { Performs tables.old tables.new (answer_of result) (Asked (Unit {0})) ticking }
 {
@@ -48,7 +49,7 @@ pub fn tick(tables: &mut [u32]) -> Outcome
 }
 
 // 9: the running thread t goes to its level's tail.
-pub fn yield_running(tables: &mut [u32], t: usize) -> Outcome
+pub fn yield_running(tables: &mut Tables, t: usize) -> Outcome
     requires { Shown tables.old (Calling t (Unit {0})) }
     ensures { Performs tables.old tables.new (answer_of result) (Calling t (Unit {0})) (yield t) }
 {

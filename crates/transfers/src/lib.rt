@@ -12,13 +12,14 @@ ghost use Rattle.endings.specs.Results.{Asked, Calling, Performs};
 ghost use Rattle.waiting.specs.Waiting.{Dropped};
 ghost use Rattle.transfers.specs.Transfers.{TakesFrom, handing, taking, taking_from};
 
+use layout::Tables;
 use calls::codes::{MESSAGE_RECEIVED, MESSAGE_TAKEN};
 use calls::{Accepted, Outcome, Refusal};
 use layout::codes::{LINK, NOBODY};
 use layout::{Field, Part, codes};
 
 // 4: endpoint e, which is absent, is made. An absent one has no waiter and no abort, so only the status changes.
-pub fn create_endpoint(tables: &mut [u32], e: usize) -> Outcome
+pub fn create_endpoint(tables: &mut Tables, e: usize) -> Outcome
     requires { Shown tables.old (Asked (e ≤ 63)) }
     ensures { Performs tables.old tables.new (answer_of result) (Asked (e ≤ 63)) (create_endpoint e) }
 {
@@ -31,7 +32,7 @@ pub fn create_endpoint(tables: &mut [u32], e: usize) -> Outcome
 }
 
 // The first waiter at endpoint e if it is at this place, sending or receiving; otherwise no waiter is.
-fn first_waiter(tables: &[u32], e: usize, place: u32) -> Option<usize>
+fn first_waiter(tables: &Tables, e: usize, place: u32) -> Option<usize>
     requires { Shown tables.now (Alike e) }
     ensures { FirstAt tables.now e place (link_of (maybe_of result)) }
 {
@@ -42,7 +43,7 @@ fn first_waiter(tables: &[u32], e: usize, place: u32) -> Option<usize>
 }
 
 // The message goes to the first receiver at endpoint e; without one the caller t waits there to send it.
-fn hand(tables: &mut [u32], t: usize, e: usize, badge: u32, message: u32) -> Outcome
+fn hand(tables: &mut Tables, t: usize, e: usize, badge: u32, message: u32) -> Outcome
     requires { Shown tables.old (Dropped t ((e ≤ 63) × (badge < 2 ^ 28) × (message < 2 ^ 28))) }
     ensures { Performs tables.old tables.new (answer_of result)
         (Dropped t ((e ≤ 63) × (badge < 2 ^ 28) × (message < 2 ^ 28))) (handing t e badge message) }
@@ -56,7 +57,7 @@ fn hand(tables: &mut [u32], t: usize, e: usize, badge: u32, message: u32) -> Out
 }
 
 // 7: the running thread t sends to endpoint e.
-pub fn send(tables: &mut [u32], t: usize, e: usize, badge: u32, message: u32) -> Outcome
+pub fn send(tables: &mut Tables, t: usize, e: usize, badge: u32, message: u32) -> Outcome
     requires { Shown tables.old (Calling t ((e ≤ 63) × (badge < 2 ^ 28) × (message < 2 ^ 28))) }
     ensures { Performs tables.old tables.new (answer_of result)
         (Calling t ((e ≤ 63) × (badge < 2 ^ 28) × (message < 2 ^ 28))) (sending t e badge message) }
@@ -71,7 +72,7 @@ pub fn send(tables: &mut [u32], t: usize, e: usize, badge: u32, message: u32) ->
 }
 
 // The message of sender u, who waits at endpoint e, is taken; its badge and message are read before it is woken.
-fn take_from(tables: &mut [u32], e: usize, u: usize) -> Outcome
+fn take_from(tables: &mut Tables, e: usize, u: usize) -> Outcome
     requires { Shown tables.old (TakesFrom u e) }
     ensures { Performs tables.old tables.new (answer_of result) (TakesFrom u e) (taking_from e u) }
 {
@@ -82,7 +83,7 @@ fn take_from(tables: &mut [u32], e: usize, u: usize) -> Outcome
 }
 
 // The message of the first sender at endpoint e is taken; without one the caller t waits there to receive.
-fn take(tables: &mut [u32], t: usize, e: usize) -> Outcome
+fn take(tables: &mut Tables, t: usize, e: usize) -> Outcome
     requires { Shown tables.old (Dropped t (e ≤ 63)) }
     ensures { Performs tables.old tables.new (answer_of result) (Dropped t (e ≤ 63)) (taking t e) }
 {
@@ -94,7 +95,7 @@ fn take(tables: &mut [u32], t: usize, e: usize) -> Outcome
 }
 
 // 8: the running thread t receives from endpoint e.
-pub fn receive(tables: &mut [u32], t: usize, e: usize) -> Outcome
+pub fn receive(tables: &mut Tables, t: usize, e: usize) -> Outcome
     requires { Shown tables.old (Calling t (e ≤ 63)) }
     ensures { Performs tables.old tables.new (answer_of result) (Calling t (e ≤ 63)) (receiving t e) }
 {

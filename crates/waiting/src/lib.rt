@@ -6,10 +6,11 @@ ghost use Rattle.store.specs.Steps.{Shown};
 ghost use Rattle.store.specs.Store.{IsThread};
 ghost use Rattle.waiting.specs.Waiting.{Suspends};
 
+use layout::Tables;
 use calls::{Accepted, Outcome};
 
 // The running thread t blocks at a place: code 1.
-pub fn suspend(tables: &mut [u32], t: usize, place: u32, badge: u32, message: u32) -> Outcome
+pub fn suspend(tables: &mut Tables, t: usize, place: u32, badge: u32, message: u32) -> Outcome
     requires { Shown tables.old (IsThread t) }
     ensures { Suspends tables.old t place badge message (answer_of result) tables.new }
 {

@@ -7,6 +7,7 @@ ghost use Rattle.layout.specs.declared.Slot.{Slot};
 ghost use Rattle.layout.specs.Addresses.{column, offset, at, link_at, word, ValidSlot, ValidLink, table_words};
 ghost use Rattle.words.specs.Access.{Address, Pair, beside_at, ValidBeside};
 
+use layout::Tables;
 use layout::{Field, Link, Part, Slot, wide};
 
 // The name of a lent word. What reads and writes the words below knows of a name its address alone.
@@ -120,24 +121,24 @@ impl Name for Beside {
 
 // The word of a name.
 #[tactic(auto, unfolding(layout::specs::Addresses::word))]
-pub fn get<N: Name>(tables: &[u32], name: N) -> u32
-    requires { (length tables.now ≡ table_words) × N.valid name }
+pub fn get<N: Name>(tables: &Tables, name: N) -> u32
+    requires { N.valid name }
     ensures { result ≡ word tables.now (N.at name) }
 {
     tables[name.address()]
 }
 
 // The word of a name becomes v.
-pub fn put<N: Name>(tables: &mut [u32], name: N, v: u32)
-    requires { (length tables.old ≡ table_words) × N.valid name }
+pub fn put<N: Name>(tables: &mut Tables, name: N, v: u32)
+    requires { N.valid name }
     ensures { tables.new ≡ set tables.old (N.at name) v }
 {
     tables[name.address()] = v;
 }
 
 // The word of a name at the width at which the check reads, so that code above has no cast.
-pub fn wide<N: Name>(tables: &[u32], name: N) -> usize
-    requires { (length tables.now ≡ table_words) × N.valid name }
+pub fn wide<N: Name>(tables: &Tables, name: N) -> usize
+    requires { N.valid name }
     ensures { result ≡ word tables.now (N.at name) }
 {
     get(tables, name) as usize
@@ -145,16 +146,16 @@ pub fn wide<N: Name>(tables: &[u32], name: N) -> usize
 
 // A word of thread t.
 // stays: a thread has a Field, an endpoint a Part, each with its own bound; what they share is wide.
-pub fn thread(tables: &[u32], f: Field, t: usize) -> usize
-    requires { (length tables.now ≡ table_words) × (t ≤ 255) }
+pub fn thread(tables: &Tables, f: Field, t: usize) -> usize
+    requires { t ≤ 255 }
     ensures { result ≡ word tables.now (at (Slot.Thread f t)) }
 {
     wide(tables, Slot::Thread(f, t))
 }
 
 // A word of endpoint e.
-pub fn endpoint(tables: &[u32], p: Part, e: usize) -> usize
-    requires { (length tables.now ≡ table_words) × (e ≤ 63) }
+pub fn endpoint(tables: &Tables, p: Part, e: usize) -> usize
+    requires { e ≤ 63 }
     ensures { result ≡ word tables.now (at (Slot.Endpoint p e)) }
 {
     wide(tables, Slot::Endpoint(p, e))

@@ -8,4 +8,4 @@ loop-t-preserved c = cleared_more _ _ _ _ _ (omega arith) (search rules) c.loop-
 
 pub returns : goal.returns
 returns c =
-    column_cleared _ _ c.requires.0 _ _ (omega arith) (omega arith) c.loop-t.invariant
+    column_cleared _ _ (search rules) _ _ (omega arith) (omega arith) c.loop-t.invariant

@@ -1,9 +1,10 @@
 -- The thread's words are a part of the memory, which is filled.
 use mathlib.Core.Path.{refl}
 use native.Mathlib.Omega.{arith}
+use borrow.Author.Rules.{rules}
 use Rattle.grants.proofs.Stores.{row_filled}
 use Rattle.grants.proofs.clear_thread.Goals as goal
 
 pub returns : goal.returns
 returns c =
-    row_filled _ _ c.requires.0 c.args.thread c.requires.1 (omega arith) (c.fill.ensures.after (λ y e. e)) refl
+    row_filled _ _ (search rules) c.args.thread c.requires (omega arith) (c.fill.ensures.after (λ y e. e)) refl

@@ -7,4 +7,4 @@ use Rattle.grants.proofs.granted.Goals as goal
 
 pub returns : goal.returns
 unfolding word
-returns c = word_read _ _ _ _ _ c.requires.1 c.requires.2 (omega arith) refl
+returns c = word_read _ _ _ _ _ c.requires.0 c.requires.1 (omega arith) refl

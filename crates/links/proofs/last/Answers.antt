@@ -4,4 +4,4 @@ use Rattle.links.proofs.last.Goals as goal
 
 pub returns : goal.returns
 returns c =
-    reads_last c.requires.1 c.get.ensures
+    reads_last c.requires c.get.ensures

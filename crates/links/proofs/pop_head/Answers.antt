@@ -5,17 +5,15 @@ use Rattle.links.proofs.pop_head.Goals as goal
 
 pub get-next-requires : goal.get-next-requires
 get-next-requires c =
-    (c.requires.leavable.size, leaver_small c.requires.leavable)
+    leaver_small c.requires.leavable
 
 pub put-requires : goal.put-requires
-put-requires c = (
-  c.requires.leavable.size,
-  (c.requires.leavable.queue, (first_neighbours c.requires c.get-next.ensures).after_small),
-)
+put-requires c = 
+    (c.requires.leavable.queue, (first_neighbours c.requires c.get-next.ensures).after_small)
 
 pub put-requires-3 : goal.put-requires-3
 put-requires-3 c =
-    (search rules, leaver_small c.requires.leavable)
+    leaver_small c.requires.leavable
 
 pub returns : goal.returns
 returns c =

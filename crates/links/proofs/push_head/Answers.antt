@@ -4,7 +4,7 @@ use Rattle.links.proofs.push_head.Goals as goal
 
 pub put-requires : goal.put-requires
 put-requires c =
-    (c.requires.size, (c.requires.queue, head_small c.requires c.get-first.ensures))
+    (c.requires.queue, head_small c.requires c.get-first.ensures)
 
 pub returns : goal.returns
 returns c =

@@ -4,7 +4,7 @@ use Rattle.links.proofs.push_tail.Goals as goal
 
 pub put-requires : goal.put-requires
 put-requires c =
-    (c.requires.size, (c.requires.queue, tail_small c.requires c.get-last.ensures))
+    (c.requires.queue, tail_small c.requires c.get-last.ensures)
 
 pub returns : goal.returns
 returns c =

@@ -5,29 +5,29 @@ use Rattle.links.proofs.unlink.Goals as goal
 
 pub get-next-requires : goal.get-next-requires
 get-next-requires c =
-    (c.requires.size, leaver_small c.requires)
+    leaver_small c.requires
 
 pub get-prev-requires : goal.get-prev-requires
 get-prev-requires c =
-    (c.requires.size, leaver_small c.requires)
+    leaver_small c.requires
 
 pub put-requires : goal.put-requires
 put-requires c =
     let around = neighbours c.requires c.get-next.ensures c.get-prev.ensures in
-    (c.requires.size, (c.requires.queue, around.before_small))
+    (c.requires.queue, around.before_small)
 
 pub put-requires-2 : goal.put-requires-2
 put-requires-2 c =
     let around = neighbours c.requires c.get-next.ensures c.get-prev.ensures in
-    (search rules, (c.requires.queue, around.after_small))
+    (c.requires.queue, around.after_small)
 
 pub put-requires-3 : goal.put-requires-3
 put-requires-3 c =
-    (search rules, leaver_small c.requires)
+    leaver_small c.requires
 
 pub put-requires-4 : goal.put-requires-4
 put-requires-4 c =
-    (search rules, leaver_small c.requires)
+    leaver_small c.requires
 
 pub returns : goal.returns
 returns c =

@@ -13,14 +13,13 @@ returns-then-not-endpoint c =
 
 pub loop-e-preserved : goal.loop-e-preserved
 loop-e-preserved c = (
-  c.endpoint.auto.scratch ∙ c.loop-e.invariant.0,
   endpoint_more _ _
-      c.endpoint.ensures c.if-not-endpoint.false c.loop-e.invariant.1,
+      c.endpoint.ensures c.if-not-endpoint.false c.loop-e.invariant.0,
   below_more _ _
-      c.loop-e.invariant.2 (sym c.endpoint.ensures.is ∙ c.if-not-endpoint.false),
+      c.loop-e.invariant.1 (sym c.endpoint.ensures.is ∙ c.if-not-endpoint.false),
 )
 
 pub returns : goal.returns
 returns c =
-    walks_all _ _ 320 c.loop-e.invariant.1 (omega arith)
-    (all_hold (endpoint_test _) 64 (λ k l. c.loop-e.invariant.2 k (omega arith)))
+    walks_all _ _ 320 c.loop-e.invariant.0 (omega arith)
+    (all_hold (endpoint_test _) 64 (λ k l. c.loop-e.invariant.1 k (omega arith)))

@@ -2,7 +2,6 @@
 use Prim.Native.Nat.{ℕ, ◌<◌}
 use mathlib.Core.Bool.{true}
 use mathlib.Core.Path.{◌≡◌}
-use lib.ListN.{length}
 use Rattle.layout.specs.Addresses.{endpoint_queue}
 use Rattle.soundness.specs.Checks.{endpoint_test, met_below}
 use Rattle.sound_queues.specs.Met.{met_in}
@@ -10,5 +9,5 @@ use Rattle.sound_queues.proofs.endpoints.endpoints.Given as goal
 
 abbrev pub invariant-loop-e : goal.invariant-loop-e
 invariant-loop-e l =
-    (length l.scratch ≡ 256) × (l.scratch ≡ met_in (met_below (endpoint_queue l.e) l.tables))
+    (l.scratch ≡ met_in (met_below (endpoint_queue l.e) l.tables))
     × ((k : ℕ) → k < l.e → endpoint_test l.tables k ≡ true)

@@ -1,3 +1,4 @@
+use borrow.Author.Rules.{rules}
 use Prim.Native.Nat.{◌+◌, ◌-◌}
 use mathlib.Core.Path.{◌≡◌}
 use native.Mathlib.Omega.{arith}
@@ -26,7 +27,7 @@ loop-preserved c =
     rw turn at
     (waiters_again _ _ _ c.loop.invariant (omega arith) c.if-y-eq-NOBODY.false c.if-y-gt-LAST_LINK.false
     c.enter-here.ensures c.stands.ensures c.if-not-stands.false
-    c.leave-f.ensures c.meet.ensures c.meet.auto.scratch c.wide-y-in-loop.ensures)
+    c.leave-f.ensures c.meet.ensures (search rules) c.wide-y-in-loop.ensures)
 
 pub returns : goal.returns
 returns c = walk_failed (waiters_long _ _ _ c.loop.invariant (omega arith))

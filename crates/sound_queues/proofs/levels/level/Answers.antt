@@ -28,7 +28,7 @@ loop-preserved c =
     let turn : 257 - c.loop.counter - 1 ≡ 257 - (c.loop.counter + 1) = omega arith in
     rw turn at
     (level_again _ _ c.loop.invariant (omega arith) c.if-y-eq-NOBODY.false c.if-y-gt-LAST_LINK.false
-    c.ready.ensures c.if-not-ready.false c.meet.ensures c.meet.auto.scratch
+    c.ready.ensures c.if-not-ready.false c.meet.ensures (search rules)
     c.wide-y-in-loop.ensures)
 
 pub returns : goal.returns

@@ -13,14 +13,13 @@ returns-then-not-level c =
 
 pub loop-p-preserved : goal.loop-p-preserved
 loop-p-preserved c = (
-  c.level.auto.scratch ∙ c.loop-p.invariant.0,
   walked_more _ _ c.level.ensures
-      c.if-not-level.false c.loop-p.invariant.1,
-  below_more _ _ c.loop-p.invariant.2
+      c.if-not-level.false c.loop-p.invariant.0,
+  below_more _ _ c.loop-p.invariant.1
       (sym c.level.ensures.is ∙ c.if-not-level.false),
 )
 
 pub returns : goal.returns
 returns c =
-    walks_all _ _ 256 c.loop-p.invariant.1 (omega arith)
-    (all_hold (level_test _) 256 (λ k l. c.loop-p.invariant.2 k (omega arith)))
+    walks_all _ _ 256 c.loop-p.invariant.0 (omega arith)
+    (all_hold (level_test _) 256 (λ k l. c.loop-p.invariant.1 k (omega arith)))

@@ -2,12 +2,11 @@
 use Prim.Native.Nat.{ℕ, ◌<◌}
 use mathlib.Core.Bool.{true}
 use mathlib.Core.Path.{◌≡◌}
-use lib.ListN.{length}
 use Rattle.soundness.specs.Checks.{level_test, met_below}
 use Rattle.sound_queues.specs.Met.{met_in}
 use Rattle.sound_queues.proofs.levels.levels.Given as goal
 
 abbrev pub invariant-loop-p : goal.invariant-loop-p
 invariant-loop-p l =
-    (length l.scratch ≡ 256) × (l.scratch ≡ met_in (met_below l.p l.tables))
+    (l.scratch ≡ met_in (met_below l.p l.tables))
     × ((k : ℕ) → k < l.p → level_test l.tables k ≡ true)
