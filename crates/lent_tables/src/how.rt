@@ -1,5 +1,5 @@
 // How a thread was woken, read from the tables: what a host tells the thread when it runs again.
-ghost use Rattle.std.specs.Prelude.{◌≡◌};
+ghost use Rattle.std.specs.Prelude.{◌≡◌, ◌≤◌};
 ghost use Rattle.lent_tables.specs.Entries.{woken_in};
 
 use calls::codes::{LAST_THREAD, MESSAGE_RECEIVED};
@@ -13,18 +13,12 @@ pub struct Waking {
     pub message: u32,
 }
 
-// How the last waiting of a thread ended, whatever the words are.
+// The same in tables of their length, of a thread.
 #[tactic(auto, unfolding(crate::specs::Entries::woken_in))]
-pub fn woken(tables: &[u32], thread: u32) -> Waking
-    ensures { result ≡ woken_in tables.now thread }
+fn told(tables: &Tables, t: usize) -> Waking
+    requires { t ≤ 255 }
+    ensures { result ≡ woken_in tables.now t }
 {
-    if thread > LAST_THREAD {
-        return Waking::default();
-    }
-    let Ok(tables) = <&Tables>::try_from(tables) else {
-        return Waking::default();
-    };
-    let t = thread as usize;
     let outcome = words::get(tables, Slot::Thread(Field::Outcome, t));
     if outcome != MESSAGE_RECEIVED {
         return Waking {
@@ -38,5 +32,19 @@ pub fn woken(tables: &[u32], thread: u32) -> Waking
         outcome,
         badge,
         message,
+    }
+}
+
+// How the last waiting of a thread ended, whatever the words are.
+#[tactic(auto, unfolding(crate::specs::Entries::woken_in))]
+pub fn woken(tables: &[u32], thread: u32) -> Waking
+    ensures { result ≡ woken_in tables.now thread }
+{
+    if thread > LAST_THREAD {
+        return Waking::default();
+    }
+    match tables.as_array() {
+        Some(tables) => told(tables, thread as usize),
+        None => Waking::default(),
     }
 }

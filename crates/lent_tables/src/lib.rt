@@ -67,8 +67,8 @@ pub fn check(tables: &[u32], grants: &[u32], scratch: &mut [u32]) -> Result<(), 
     ensures { ◌≡◌ {A = Checked} (record { code = code_in result; scratch = scratch.new })
         (checked (lent tables.now grants.now scratch.old)) }
 {
-    let (Ok(tables), Ok(grants)) = (<&Tables>::try_from(tables), <&Grants>::try_from(grants)) else {
-        return Err(Refusal::Length);
-    };
-    verify(tables, grants, scratch.as_mut_array().ok_or(Refusal::Length)?)
+    let tables: &Tables = tables.as_array().ok_or(Refusal::Length)?;
+    let grants: &Grants = grants.as_array().ok_or(Refusal::Length)?;
+    let scratch: &mut Scratch = scratch.as_mut_array().ok_or(Refusal::Length)?;
+    verify(tables, grants, scratch)
 }

@@ -6,14 +6,19 @@ use calls::codes::LAST_THREAD;
 use layout::{Slot, Tables};
 use layout::codes::LINK;
 
-// Who runs: a thread or nobody, whatever the words are. The link 0 is to nobody.
+// The same in tables of their length. The link 0 is to nobody.
+#[tactic(auto, unfolding(crate::specs::Entries::runner_in))]
+fn runner(tables: &Tables) -> Option<u32>
+    ensures { result ≡ runner_in tables.now }
+{
+    let thread = words::get(tables, Slot::Running).checked_sub(LINK)?;
+    (thread <= LAST_THREAD).then_some(thread)
+}
+
+// Who runs: a thread or nobody, whatever the words are.
 #[tactic(auto, unfolding(crate::specs::Entries::runner_in))]
 pub fn running(tables: &[u32]) -> Option<u32>
     ensures { result ≡ runner_in tables.now }
 {
-    let Ok(tables) = <&Tables>::try_from(tables) else {
-        return None;
-    };
-    let thread = words::get(tables, Slot::Running).checked_sub(LINK)?;
-    (thread <= LAST_THREAD).then_some(thread)
+    runner(tables.as_array()?)
 }
