@@ -17,9 +17,39 @@ use Rattle.billing.specs.Ticks.{count_for}
 use Rattle.billing.specs.Bills.{bill_of, alone, unless_odd, bill_unless, printed}
 use Rattle.billing.proofs.Few.{ticks_few}
 use Rattle.bills.specs.Lines.{Few}
+use Rattle.calls.specs.declared.Refusal.{Refusal}
+use Rattle.calls.specs.declared.Refusal.TheVariants.{Length, Unsound, NoCall, Range, NobodyRuns, ThreadAbsent}
+use Rattle.calls.specs.declared.Refusal.TheVariants.{ThreadPresent, EndpointAbsent, EndpointPresent}
+use Rattle.calls.specs.declared.Refusal.TheVariants.{EndpointClosing, BadgeAborted, LineTaken, Short, NoRight, Limits}
+use Rattle.calls.specs.Answers.{code_of}
 
 abbrev pub counted : ℕ → List ℕ → Counted
 counted code counts = record { code = code; counts = counts }
+
+-- Counting begins with counts of 0.
+pub begun_with :
+    (journal : List ℕ) (rate : ℕ) {own : List ℕ} → own ≡ replicate count_words 0 → (code : ℕ) (counts : List ℕ)
+    → counted code counts ≡ count_for journal rate own
+    → counted code counts ≡ count_for journal rate (replicate count_words 0)
+begun_with journal rate z code counts e = e ∙ ap (λ (l : List ℕ). count_for journal rate l) z
+
+-- A refusal's number is not 0.
+some_code : (why : Refusal) → 1 ≤ code_of why
+some_code Length = omega arith
+some_code Unsound = omega arith
+some_code NoCall = omega arith
+some_code Range = omega arith
+some_code NobodyRuns = omega arith
+some_code ThreadAbsent = omega arith
+some_code ThreadPresent = omega arith
+some_code EndpointAbsent = omega arith
+some_code EndpointPresent = omega arith
+some_code EndpointClosing = omega arith
+some_code BadgeAborted = omega arith
+some_code LineTaken = omega arith
+some_code Short = omega arith
+some_code NoRight = omega arith
+some_code Limits = omega arith
 
 -- By the number that counting answers
 
@@ -30,35 +60,36 @@ short_printed input h = rw (lt-leb 4 (length input) h)
 module _
     (input : List ℕ)
     (enough : 4 ≤ length input)
-    (rate code : ℕ)
+    (rate : ℕ)
     (counts : List ℕ)
     (is : rate ≡ little_endian input 0)
-    (e : counted code counts ≡ count_for (words_in (drop 4 input)) rate (replicate count_words 0))
   where
-    by_counting : printed input ≡ bill_unless code counts rate (length input % 4)
-    unfolding printed
-    by_counting =
-        rw (le-leb 4 (length input) enough, ← is, ← e)
+    abbrev Answers : ℕ → Type 0
+    Answers code = counted code counts ≡ count_for (words_in (drop 4 input)) rate (replicate count_words 0)
 
-    pub refused_printed : 1 ≤ code → printed input ≡ alone code
-    refused_printed h = by_counting ∙ go code h
+    by_counting : (code : ℕ) → Answers code → printed input ≡ bill_unless code counts rate (length input % 4)
+    unfolding printed
+    by_counting code e = rw (le-leb 4 (length input) enough, ← is, ← e)
+
+    pub refused_printed : (why : Refusal) → Answers (code_of why) → printed input ≡ alone (code_of why)
+    refused_printed why e = by_counting (code_of why) e ∙ go (code_of why) (some_code why)
       where
         go : (n : ℕ) → 1 ≤ n → bill_unless n counts rate (length input % 4) ≡ alone n
         go zero g = absurd (omega (arith, g))
         go (suc n) g = refl
 
-    accepted_printed : code ≡ 0 → printed input ≡ unless_odd (length input % 4) (bill_of rate counts)
-    accepted_printed z = by_counting ∙ ap (λ (n : ℕ). bill_unless n counts rate (length input % 4)) z
+    accepted_printed : Answers 0 → printed input ≡ unless_odd (length input % 4) (bill_of rate counts)
+    accepted_printed e = by_counting 0 e
 
-    pub odd_printed : code ≡ 0 → 1 ≤ length input % 4 → printed input ≡ alone 18
-    odd_printed z h = accepted_printed z ∙ go (length input % 4) h
+    pub odd_printed : Answers 0 → 1 ≤ length input % 4 → printed input ≡ alone 18
+    odd_printed e h = accepted_printed e ∙ go (length input % 4) h
       where
         go : (n : ℕ) → 1 ≤ n → unless_odd n (bill_of rate counts) ≡ alone 18
         go zero g = absurd (omega (arith, g))
         go (suc n) g = refl
 
-    pub bill_printed : code ≡ 0 → length input % 4 ≡ 0 → printed input ≡ bill_of rate counts
-    bill_printed z h = accepted_printed z ∙ ap (λ (n : ℕ). unless_odd n (bill_of rate counts)) h
+    pub bill_printed : Answers 0 → length input % 4 ≡ 0 → printed input ≡ bill_of rate counts
+    bill_printed e h = accepted_printed e ∙ ap (λ (n : ℕ). unless_odd n (bill_of rate counts)) h
 
 -- Counts that were not refused
 

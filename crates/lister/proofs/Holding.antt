@@ -13,10 +13,8 @@ use Rattle.rows.specs.declared.Turn.TheVariants.{Took, Stopped, Over}
 use Rattle.rows.specs.Taking.{Turned, turned}
 use Rattle.forms.specs.declared.Form.{Form}
 use Rattle.lister.specs.declared.Lister.{Lister}
-use Rattle.lister.specs.declared.Fed.{Fed}
 use Rattle.lister.specs.Feeding.{Progress, Told, ready, holding, told_of, told_by, offered, byte_to, fed}
-use Rattle.lister.specs.Buffers.{progress_of, with_byte, takes_call, Feeds}
-use Rattle.lister.proofs.Taking.{fed_to}
+use Rattle.lister.specs.Buffers.{progress_of, Feeds}
 
 -- Twelve bytes are ready: no call has more.
 all_ready : (bytes : List ℕ) → 12 ≤ length bytes → ready bytes ≡ true
@@ -32,94 +30,58 @@ few bytes e = go (leb 12 (length bytes)) refl
     go true t = absurd (true≢false (sym (all_ready bytes (leb-true 12 (length bytes) t)) ∙ e))
     go false f = leb-false 12 (length bytes) f
 
--- A turn's text and what follows it do not depend on the bytes held before.
-
-abbrev stand : List ℕ → Lister → Lent → Progress
-stand bytes l m = record { held = bytes; index = l.index; going = l.going; lent = m }
-
-any_held :
-    (f : Form) (t : Turn) (n : Lent) (bytes bytes' : List ℕ) (l : Lister) (m : Lent)
-    → told_of f t n (stand bytes l m) ≡ told_of f t n (stand bytes' l m)
-any_held f (Took c a who next) n bytes bytes' l m = refl
-any_held f (Stopped code who) n bytes bytes' l m = refl
-any_held f Over n bytes bytes' l m = refl
+pub still_few : (bytes : List ℕ) (held : ℕ) → held ≤ length bytes → ready (take held bytes) ≡ false → held < 12
+still_few bytes held h e = omega (arith, few (take held bytes) e, length-take-le held bytes h)
 
 -- One byte.
 
--- The journal has stopped.
-pub stays :
-    (f : Form) (l : Lister) (b : ℕ) (m : Lent) (out : List ℕ) (used : ℕ) → l.going ≡ false
-    → Feeds (byte_to f b (progress_of l m)) out used (fed_to l used) m out
-unfolding byte_to
-stays f l b m out used g =
-    subst (λ (o : Told). Feeds o out used (fed_to l used) m out)
-    (sym
-    (ap (λ (k : Bool). pick k (offered f (take l.held l.bytes ++ (b ∷ [])) (progress_of l m))
-    (holding (take l.held l.bytes) (progress_of l m))) g))
-    (record { after = refl; text = wrote_nothing out used })
+pub one_more_held :
+    (bytes : List ℕ) (held b : ℕ) → held < length bytes
+    → take (held + 1) (set bytes held b) ≡ take held bytes ++ (b ∷ [])
+one_more_held bytes held b h =
+    let one : held + 1 ≡ suc held = omega arith in
+    ap (λ (n : ℕ). take n (set bytes held b)) one ∙ take-suc-set bytes held b h
 
-module _ (l : Lister) (b : ℕ) (h : l.held < 12) (long : length l.bytes ≡ 12) (k : Lister) (is : k ≡ with_byte l b)
-  where
-    one_held : k.held ≡ l.held + 1
-    one_held = ap (λ (j : Lister). j.held) is
+module _ (f : Form) (b : ℕ) (l : Lister) (m : Lent) (out : List ℕ) (used : ℕ) where
+  -- The journal has stopped.
+  pub stays : l.going ≡ false → Feeds (byte_to f b (progress_of l m)) out used l used m out
+  unfolding byte_to
+  stays g =
+      subst (λ (o : Told). Feeds o out used l used m out)
+      (sym
+      (ap (λ (k : Bool). pick k (offered f (take l.held l.bytes ++ (b ∷ [])) (progress_of l m))
+      (holding (take l.held l.bytes) (progress_of l m))) g))
+      (record { after = refl; text = wrote_nothing out used })
 
-    pub as_long : length k.bytes ≡ 12
-    as_long = ap (λ (j : Lister). length j.bytes) is ∙ length-set l.bytes l.held b ∙ long
+  module _ (more : List ℕ) (is : more ≡ take l.held l.bytes ++ (b ∷ [])) (g : l.going ≡ true) where
+    bytes_offered :
+        (r : Bool) → ready more ≡ r
+        → byte_to f b (progress_of l m)
+        ≡ pick r (told_by f (turned (read_at (words_in more) 0) m) (progress_of l m))
+        (holding more (progress_of l m))
+    unfolding byte_to
+    bytes_offered r e =
+        ap (λ (h : Bool). pick h (offered f (take l.held l.bytes ++ (b ∷ [])) (progress_of l m))
+        (holding (take l.held l.bytes) (progress_of l m))) g
+        ∙ ap (λ (bytes : List ℕ). offered f bytes (progress_of l m)) (sym is)
+        ∙ ap (λ (h : Bool). pick h (told_by f (turned (read_at (words_in more) 0) m) (progress_of l m))
+        (holding more (progress_of l m))) e
 
-    bytes_held : take k.held k.bytes ≡ take l.held l.bytes ++ (b ∷ [])
-    bytes_held =
-        let one : l.held + 1 ≡ suc l.held = omega arith in
-        ap (λ (j : Lister). take j.held j.bytes) is
-        ∙ ap (λ (n : ℕ). take n (set l.bytes l.held b)) one
-        ∙ take-suc-set l.bytes l.held b (omega (arith, h, long))
+    -- The byte is held.
+    pub not_yet :
+        ready more ≡ false → (k : Lister) → progress_of k m ≡ (holding more (progress_of l m)).after
+        → Feeds (byte_to f b (progress_of l m)) out used k used m out
+    not_yet e k stands =
+        subst (λ (o : Told). Feeds o out used k used m out) (sym (bytes_offered false e))
+        (record { after = stands; text = wrote_nothing out used })
 
-    many : length (take k.held k.bytes) ≡ k.held
-    many = length-take-le k.held k.bytes (omega (arith, one_held, h, as_long))
-
-    pub still_few : ready (take k.held k.bytes) ≡ false → k.held < 12
-    still_few e = omega (arith, few (take k.held k.bytes) e, many)
-
-    module _ (f : Form) (m : Lent) (out : List ℕ) (used : ℕ) where
-      bytes_offered :
-          (r : Bool) → l.going ≡ true → ready (take k.held k.bytes) ≡ r
-          → byte_to f b (progress_of l m)
-          ≡ pick r
-          (told_by f (turned (read_at (words_in (take k.held k.bytes)) 0) m) (progress_of l m))
-          (holding (take k.held k.bytes) (progress_of l m))
-      unfolding byte_to
-      bytes_offered r g e =
-          ap (λ (h : Bool). pick h (offered f (take l.held l.bytes ++ (b ∷ [])) (progress_of l m))
-          (holding (take l.held l.bytes) (progress_of l m))) g
-          ∙ ap (λ (bytes : List ℕ). offered f bytes (progress_of l m)) (sym bytes_held)
-          ∙ ap (λ (h : Bool). pick h
-          (told_by f (turned (read_at (words_in (take k.held k.bytes)) 0) m) (progress_of l m))
-          (holding (take k.held k.bytes) (progress_of l m))) e
-
-      -- The byte is held.
-      pub not_yet :
-          l.going ≡ true → ready (take k.held k.bytes) ≡ false
-          → Feeds (byte_to f b (progress_of l m)) out used (fed_to k used) m out
-      not_yet g e =
-          subst (λ (o : Told). Feeds o out used (fed_to k used) m out) (sym (bytes_offered false g e))
-          (record {
-            after = ap (λ (j : Lister). stand (take k.held k.bytes) j m) is;
-            text = wrote_nothing out used;
-          })
-
-      -- The byte was a call's last.
-      pub now_taken :
-          l.going ≡ true → ready (take k.held k.bytes) ≡ true
-          → (r : Fed) (m' : Lent) (out' : List ℕ) → Feeds (takes_call f (progress_of k m)) out used r m' out'
-          → Feeds (byte_to f b (progress_of l m)) out used r m' out'
-      now_taken g e r m' out' t =
-          subst (λ (o : Told). Feeds o out used r m' out')
-          (ap (λ (j : Lister). told_by f did (stand (take k.held k.bytes) j m)) is
-          ∙ any_held f did.turn did.left _ (take l.held l.bytes) l m
-          ∙ sym (bytes_offered true g e))
-          t
-        where
-          did : Turned
-          did = turned (read_at (words_in (take k.held k.bytes)) 0) m
+    -- The byte was a call's last.
+    pub now_taken :
+        ready more ≡ true → (k : Lister) (n : ℕ) (m' : Lent) (out' : List ℕ)
+        → Feeds (told_by f (turned (read_at (words_in more) 0) m) (progress_of l m)) out used k n m' out'
+        → Feeds (byte_to f b (progress_of l m)) out used k n m' out'
+    now_taken e k n m' out' told =
+        subst (λ (o : Told). Feeds o out used k n m' out') (sym (bytes_offered true e)) told
 
 -- A part.
 
@@ -144,21 +106,21 @@ one_byte_more f (a ∷ bytes) b s =
     told a t = record { after = a; text = t }
 
 module _ (f : Form) (l : Lister) (m : Lent) (out : List ℕ) where
-  pub none_fed : Feeds (fed f [] (progress_of l m)) out 0 (fed_to l 0) m out
+  pub none_fed : Feeds (fed f [] (progress_of l m)) out 0 l 0 m out
   unfolding fed
   none_fed = record { after = refl; text = wrote_nothing out 0 }
 
   -- One byte more of the part.
   pub one_fed :
       (part : List ℕ) (i : ℕ) → i < length part
-      → (a : Fed) (m₁ : Lent) (out₁ : List ℕ) → Feeds (fed f (take i part) (progress_of l m)) out 0 a m₁ out₁
-      → a.used ≤ length out
-      → (r : Fed) (m₂ : Lent) (out₂ : List ℕ)
-      → Feeds (byte_to f (get_or part i 0) (progress_of a.lister m₁)) out₁ a.used r m₂ out₂
-      → Feeds (fed f (take (i + 1) part) (progress_of l m)) out 0 r m₂ out₂
+      → (a : Lister) (used : ℕ) (m₁ : Lent) (out₁ : List ℕ)
+      → Feeds (fed f (take i part) (progress_of l m)) out 0 a used m₁ out₁ → used ≤ length out
+      → (r : Lister) (n : ℕ) (m₂ : Lent) (out₂ : List ℕ)
+      → Feeds (byte_to f (get_or part i 0) (progress_of a m₁)) out₁ used r n m₂ out₂
+      → Feeds (fed f (take (i + 1) part) (progress_of l m)) out 0 r n m₂ out₂
   unfolding then
-  one_fed part i h a m₁ out₁ so_far room r m₂ out₂ new =
-      subst (λ (o : Told). Feeds o out 0 r m₂ out₂)
+  one_fed part i h a used m₁ out₁ so_far room r n m₂ out₂ new =
+      subst (λ (o : Told). Feeds o out 0 r n m₂ out₂)
       (sym
       (ap (λ (bytes : List ℕ). fed f bytes (progress_of l m)) one
       ∙ one_byte_more f (take i part) (get_or part i 0) (progress_of l m)))
@@ -171,6 +133,6 @@ module _ (f : Form) (l : Lister) (m : Lent) (out : List ℕ) where
       one = let e : i + 1 ≡ suc i = omega arith in ap (λ (n : ℕ). take n part) e ∙ take-suc part i 0 h
 
       new' :
-          Feeds (byte_to f (get_or part i 0) (fed f (take i part) (progress_of l m)).after) out₁ a.used r m₂ out₂
+          Feeds (byte_to f (get_or part i 0) (fed f (take i part) (progress_of l m)).after) out₁ used r n m₂ out₂
       new' =
-          subst (λ (s : Progress). Feeds (byte_to f (get_or part i 0) s) out₁ a.used r m₂ out₂) so_far.after new
+          subst (λ (s : Progress). Feeds (byte_to f (get_or part i 0) s) out₁ used r n m₂ out₂) so_far.after new

@@ -2,11 +2,9 @@
 -- nothing; and the end.
 use Rattle.std.proofs.Common.{◌≡◌, ℕ, zero, suc, Bool, true, false, List, [], ◌∷◌, length, take, sym, refl, ap, ◌∙◌}
 use Rattle.std.proofs.Common.{subst, inl, inr, arith}
-use denote.Enum.Declared.{tag_of}
-use types.Run.{OneOf}
 use Rattle.calls.specs.declared.Answer.{Answer}
 use Rattle.calls.specs.declared.Call.{Call}
-use Rattle.calls.specs.declared.Runner.{Runner}
+use Rattle.std.specs.Prelude as source
 use Rattle.calls.specs.Calls.{in_range}
 use Rattle.machine.specs.Lists.{pick}
 use Rattle.calls.specs.Answers.{thread_of}
@@ -21,32 +19,11 @@ use Rattle.input.specs.Words.{words_in}
 use Rattle.rows.specs.declared.Turn.{Turn}
 use Rattle.rows.specs.declared.Turn.TheVariants.{Took, Stopped, Over}
 use Rattle.rows.specs.Taking.{Turned, turned}
-use Rattle.rows.specs.contracts.Turn.{the_type}
 use Rattle.forms.specs.declared.Form.{Form}
 use Rattle.lister.specs.declared.Lister.{Lister}
-use Rattle.lister.specs.declared.Fed.{Fed}
 use Rattle.forms.specs.Forms.{stop_text}
 use Rattle.lister.specs.Feeding.{Progress, Told, told_of, told_by, ending_with, ending}
-use Rattle.lister.specs.Buffers.{progress_of, emptied, takes_call, stopping, Feeds}
-
--- The lister and the bytes used that are given back.
-abbrev pub fed_to : Lister → ℕ → Fed
-fed_to l used = record { lister = l; used = used }
-
-not_stopped : OneOf (0 ∷ 2 ∷ []) 1 → ⊥
-not_stopped (inl e) = omega (arith, e)
-not_stopped (inr e) = omega (arith, e)
-
-not_took : OneOf (1 ∷ 2 ∷ []) 0 → ⊥
-not_took (inl e) = omega (arith, e)
-not_took (inr e) = omega (arith, e)
-
--- A turn that did not stop.
-pub unstopped :
-    (t : Turn) → ((code : ℕ) (w : Runner) → t ≡ Stopped code w → ⊥) → OneOf (0 ∷ 2 ∷ []) (tag_of the_type t)
-unstopped (Took c a w next) h = inl refl
-unstopped (Stopped code w) h = absurd (h code w refl)
-unstopped Over h = inr refl
+use Rattle.lister.specs.Buffers.{progress_of, Feeds}
 
 -- A call that was taken was read, so it is in range.
 
@@ -61,49 +38,22 @@ read_ranged words m (Refused code at) e = tt
 read_ranged words m Ended e = tt
 
 pub taken_ranged :
-    (words : List ℕ) (m m' : Lent) (turn : Turn) (c : Call) (a : Answer) (who : Runner) (next : ℕ)
+    (words : List ℕ) (m m' : Lent) (turn : Turn) (c : Call) (a : Answer) (who : source.Option ℕ) (next : ℕ)
     → ◌≡◌ {A = Turned} (record { turn = turn; left = m' }) (turned (read_at words 0) m) → turn ≡ Took c a who next
     → in_range c ≡ true
 taken_ranged words m m' turn c a who next e found =
     subst Ranged (sym (ap (λ (t : Turned). t.turn) e) ∙ found) (read_ranged words m (read_at words 0) refl)
 
-module _ (f : Form) (l : Lister) (out : List ℕ) (used : ℕ) where
-  -- A turn that did not stop.
-  pub over_told :
-      (turn : Turn) → OneOf (0 ∷ 2 ∷ []) (tag_of the_type turn) → (e : Lister) → e ≡ emptied l l.index l.going
-      → (m : Lent) → Feeds (stopping f turn (progress_of l m)) out used (fed_to e used) m out
-  over_told (Took c a who next) t e is m =
-      record { after = ap (λ (k : Lister). progress_of k m) is; text = wrote_nothing out used }
-  over_told (Stopped code who) t e is m = absurd (not_stopped t)
-  over_told Over t e is m =
-      record { after = ap (λ (k : Lister). progress_of k m) is; text = wrote_nothing out used }
-
-  module _ (m m' : Lent) (out' : List ℕ) where
-    -- What the bytes held come to is what the turn of their words does.
-    turn_told :
-        (turn : Turn)
-        → ◌≡◌ {A = Turned} (record { turn = turn; left = m' })
-        (turned (read_at (words_in (take l.held l.bytes)) 0) m)
-        → told_of f turn m' (progress_of l m) ≡ takes_call f (progress_of l m)
-    turn_told turn e = ap (λ (t : Turned). told_by f t (progress_of l m)) e
-
-    left_told :
-        (turn : Turn) → OneOf (1 ∷ 2 ∷ []) (tag_of the_type turn)
-        → stopping f turn (progress_of l m') ≡ told_of f turn m' (progress_of l m)
-    left_told (Took c a who next) t = absurd (not_took t)
-    left_told (Stopped code who) t = refl
-    left_told Over t = refl
-
-    -- No call was taken.
-    pub left_answered :
-        (turn : Turn)
-        → ◌≡◌ {A = Turned} (record { turn = turn; left = m' })
-        (turned (read_at (words_in (take l.held l.bytes)) 0) m)
-        → OneOf (1 ∷ 2 ∷ []) (tag_of the_type turn)
-        → (r : Fed) → ((n : Lent) → Feeds (stopping f turn (progress_of l n)) out used r n out')
-        → Feeds (takes_call f (progress_of l m)) out used r m' out'
-    left_answered turn e t r all =
-        subst (λ (o : Told). Feeds o out used r m' out') (left_told turn t ∙ turn_told turn e) (all m')
+-- What the bytes come to is what the turn of their words does.
+pub answered :
+    (f : Form) (s : Progress) (t : Turned) (m' : Lent) (came turn : Turn)
+    → ◌≡◌ {A = Turned} (record { turn = came; left = m' }) t → came ≡ turn
+    → (out : List ℕ) (used : ℕ) (l : Lister) (n : ℕ) (out' : List ℕ)
+    → Feeds (told_of f turn m' s) out used l n m' out' → Feeds (told_by f t s) out used l n m' out'
+answered f s t m' came turn e is out used l n out' told =
+    subst (λ (o : Told). Feeds o out used l n m' out')
+    (ap (λ (k : Turn). told_of f k m' s) (sym is) ∙ ap (λ (k : Turned). told_by f k s) e)
+    told
 
 -- The end.
 
@@ -128,18 +78,22 @@ module _ (f : Form) (l : Lister) (m : Lent) (out : List ℕ) where
   stopped_ends g =
       subst (λ (t : List ℕ). Wrote out 0 t 0 out) (sym (ended f (progress_of l m) false g)) (wrote_nothing out 0)
 
-  pub nothing_ends : l.going ≡ true → l.held ≡ 0 → Wrote out 0 (ending f (progress_of l m)) 0 out
-  nothing_ends g z =
-      subst (λ (t : List ℕ). Wrote out 0 t 0 out)
-      (sym (ended f (progress_of l m) true g ∙ ap (λ (n : ℕ). ending_with f (take n l.bytes) (progress_of l m)) z))
-      (wrote_nothing out 0)
+  pub nothing_ends : l.held ≡ 0 → Wrote out 0 (ending f (progress_of l m)) 0 out
+  nothing_ends z = go l.going refl
+    where
+      go : (g : Bool) → l.going ≡ g → Wrote out 0 (ending f (progress_of l m)) 0 out
+      go true g =
+          subst (λ (t : List ℕ). Wrote out 0 t 0 out)
+          (sym (ended f (progress_of l m) true g ∙ ap (λ (n : ℕ). ending_with f (take n l.bytes) (progress_of l m)) z))
+          (wrote_nothing out 0)
+      go false g = stopped_ends g
 
   pub held_ends :
-      l.going ≡ true → (l.held ≡ 0 → ⊥) → length l.bytes ≡ 12 → (who : Runner) → who ≡ runner_in m.tables
+      l.going ≡ true → (l.held ≡ 0 → ⊥) → length l.bytes ≡ 12 → (who : source.Option ℕ) → who ≡ runner_in m.tables
       → (r : ℕ) (out' : List ℕ) → Wrote out 0 (stop_text f l.index 18 (thread_of who)) r out'
       → Wrote out 0 (ending f (progress_of l m)) r out'
   held_ends g some long who runs r out' w =
       subst (λ (t : List ℕ). Wrote out 0 t r out')
-      (ap (λ (o : Runner). stop_text f l.index 18 (thread_of o)) runs
+      (ap (λ (o : source.Option ℕ). stop_text f l.index 18 (thread_of o)) runs
       ∙ sym (ended f (progress_of l m) true g ∙ some_held f (progress_of l m) l.held l.bytes long some))
       w

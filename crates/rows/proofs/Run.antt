@@ -10,7 +10,7 @@ use types.Run.{OneOf}
 use lib.ListN.{length}
 use Rattle.calls.specs.declared.Answer.{Answer}
 use Rattle.calls.specs.declared.Call.{Call}
-use Rattle.calls.specs.declared.Runner.{Runner}
+use Rattle.std.specs.Prelude as source
 use Rattle.calls.specs.Answers.{thread_of, seat}
 use Rattle.machine.specs.State.{State, fresh_state}
 use Rattle.machine.specs.Grants.{Grants, fresh_grants}
@@ -127,11 +127,11 @@ seat_small {who = who} r = go who r.runs
     go (some t) e = omega (arith, (sound_neat r.state r.sound).runs_small t (sym e))
 
 -- A call that was made, by what a turn tells of it.
-abbrev pub made_by : ℕ → Option ℕ → Call → Answer → Runner → Made
+abbrev pub made_by : ℕ → Option ℕ → Call → Answer → source.Option ℕ → Made
 made_by i who c a w = record { index = i; ran = who; call = c; answer = a; runs = thread_of w }
 
 -- A call was taken: the course is that call and the others, and the memory holds what it left.
-pub record Next (journal : List ℕ) (at i : ℕ) (who : Option ℕ) (c : Call) (a : Answer) (w : Runner) (next : ℕ)
+pub record Next (journal : List ℕ) (at i : ℕ) (who : Option ℕ) (c : Call) (a : Answer) (w : source.Option ℕ) (next : ℕ)
     (m : Lent) (rest : Course) : Type 0 where
   pub others : Course
   pub first : rest ≡ onward (made_by i who c a w) others
@@ -151,7 +151,7 @@ not_took (inr e) = omega (arith, e)
 
 -- A turn that is not one that took a call.
 pub other_turn :
-    (t : Turn) → ((c : Call) (a : Answer) (w : Runner) (next : ℕ) → t ≡ Took c a w next → ⊥)
+    (t : Turn) → ((c : Call) (a : Answer) (w : source.Option ℕ) (next : ℕ) → t ≡ Took c a w next → ⊥)
     → OneOf (1 ∷ 2 ∷ []) (tag_of the_type t)
 other_turn (Took c a w next) h = absurd (h c a w next refl)
 other_turn (Stopped code w) h = inl refl
@@ -233,7 +233,7 @@ module _ {journal : List ℕ} {at i : ℕ} {who : Option ℕ} {m : Lent} {rest :
     -- A turn that took a call,
     pub run_took :
         (t : Turn) (left : Lent) → ◌≡◌ {A = Turned} (record { turn = t; left = left }) (turned (read_at journal at) m)
-        → (c : Call) (a : Answer) (w : Runner) (next : ℕ) → t ≡ Took c a w next
+        → (c : Call) (a : Answer) (w : source.Option ℕ) (next : ℕ) → t ≡ Took c a w next
         → Next journal at i who c a w next left rest
     run_took t left e c a w next f =
         subst (λ (t : Turn). Came (record { turn = t; left = left })) f (known _ e)

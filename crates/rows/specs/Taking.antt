@@ -1,17 +1,10 @@
 -- The next row of a journal's listing: what the reader's answer comes to on the lent memory.
 use Rattle.std.specs.Prelude.{ℕ}
-use Rattle.calls.specs.declared.Runner.{Runner}
 use Rattle.journal.specs.declared.types.Read.{Read}
 use Rattle.journal.specs.declared.types.Read.TheVariants.{Found, Refused, Ended}
 use Rattle.lent_tables.specs.Entries.{Lent, called, runner_in}
 use Rattle.rows.specs.declared.Turn.{Turn}
 use Rattle.rows.specs.declared.Turn.TheVariants.{Took, Stopped, Over}
-
--- The turn of a reading that is no call, by who runs.
-abbrev pub untaken : Read → Runner → Turn
-untaken (Found c next) who = Over
-untaken (Refused code at) who = Stopped code who
-untaken Ended who = Over
 
 -- The turn, and the memory left.
 pub record Turned : Type 0 where

@@ -3,63 +3,69 @@
 
 ghost use Rattle.std.specs.Prelude.{◌≡◌};
 ghost use Rattle.journal.specs.Words.{read_at};
-ghost use Rattle.lent_tables.specs.Entries.{lent};
-ghost use Rattle.rows.specs.Taking.{untaken, Turned, turned, code_of};
+ghost use Rattle.rows.specs.Taking.{Turned, turned, code_of};
+ghost use Rattle.lent_tables.specs.Entries.{runner_in};
+ghost use Rattle.rows.specs.Memory.{within, SameSlices};
 
-use calls::{Answer, Call, Runner};
+use calls::{Answer, Call};
 use journal::types::Read;
+
+// The memory that a caller lends.
+#[derive(Drop)]
+pub struct Memory<'a> {
+    pub tables: &'a mut [u32],
+    pub grants: &'a mut [u32],
+    pub scratch: &'a mut [u32],
+}
 
 // A call was taken: its answer, who runs after it, and the word behind it; or no call was read, with the reader's
 // number and who runs; or the journal is over.
+// stays: (a) `turned` and the lister's `told_of` are over it, its code a number as `read_at` has it.
 #[derive(Clone, Copy)]
 pub enum Turn {
     Took {
         call: Call,
         answer: Answer,
-        who: Runner,
+        who: Option<u32>,
         next: usize,
     },
     Stopped {
         code: u32,
-        who: Runner,
+        who: Option<u32>,
     },
     Over,
 }
 
-// The turn where no call was read.
-fn stop(reading: Read, who: Runner) -> Turn
-    ensures { result ≡ untaken reading who }
-{
-    match reading {
-        Read::Refused { code, at: _ } => Turn::Stopped { code, who },
-        Read::Ended => Turn::Over,
-        Read::Found { call: _, next: _ } => Turn::Over,
+impl Memory<'_> {
+    // Who runs.
+    pub fn running(&self) -> Option<u32>
+        ensures { result ≡ runner_in self.now.tables.now }
+    {
+        lent_tables::who::running(self.tables)
     }
-}
 
-// Reads the call at a word of the journal and takes it on the lent memory.
-pub fn next(
-    words: &[u32],
-    at: usize,
-    tables: &mut [u32],
-    grants: &mut [u32],
-    scratch: &mut [u32],
-) -> Turn
-    ensures { ◌≡◌ {A = Turned}
-        (record { turn = result; left = lent tables.new grants.new scratch.new })
-        (turned (read_at words.now at)
-        (lent tables.old grants.old scratch.old)) }
-{
-    let reading = reader::read(words, at);
-    let Read::Found { call, next } = reading else {
-        return stop(reading, lent_tables::who::running(tables));
-    };
-    let answer = kernel::call(tables, grants, scratch, call);
-    Turn::Took {
-        call,
-        answer,
-        who: lent_tables::who::running(tables),
-        next,
+    // Reads the call at a word of the journal and takes it.
+    pub fn next(&mut self, words: &[u32], at: usize) -> Turn
+        ensures taken { ◌≡◌ {A = Turned} (record { turn = result; left = within self.new })
+            (turned (read_at words.now at) (within self.old)) }
+        ensures same { SameSlices self.old self.new }
+    {
+        match reader::read(words, at) {
+            Read::Found { call, next } => {
+                let answer = kernel::call(self.tables, self.grants, self.scratch, call);
+                Turn::Took {
+                    call,
+                    answer,
+                    who: self.running(),
+                    next,
+                }
+            }
+            Read::Refused { code, .. } => Turn::Stopped {
+                code,
+                who: self.running(),
+            },
+            Read::Ended => Turn::Over,
+        }
     }
 }
 
@@ -68,13 +74,7 @@ pub fn code(turn: Turn) -> u32
     ensures { result ≡ code_of turn }
 {
     match turn {
-        Turn::Stopped { code, who: _ } => code,
-        Turn::Over => calls::codes::DONE,
-        Turn::Took {
-            call: _,
-            answer: _,
-            who: _,
-            next: _,
-        } => calls::codes::DONE,
+        Turn::Stopped { code, .. } => code,
+        Turn::Over | Turn::Took { .. } => calls::codes::DONE,
     }
 }

@@ -8,33 +8,31 @@ use std::env::{Env, FillError};
 // Whether there is an argument of this number; the program's name has 0.
 fn has(rt: &HostRuntime, i: usize) -> bool {
     let mut word = [0u8; 2];
-    match rt.arg(i, &mut word) {
-        Err(FillError::NotPresent) => false,
-        _ => true,
-    }
+    !matches!(rt.arg(i, &mut word), Err(FillError::NotPresent))
 }
 
 // Whether the program has the one argument -n.
 fn numbered(rt: &HostRuntime) -> bool {
     let mut word = [0u8; 2];
-    match rt.arg(1, &mut word) {
-        Ok(n) => (n == 2) & (word[0] == b'-') & (word[1] == b'n') & !has(rt, 2),
-        Err(_) => false,
+    matches!(rt.arg(1, &mut word), Ok(2)) && word == *b"-n" && !has(rt, 2)
+}
+
+// The form that the arguments ask for, if they ask for one.
+fn form(rt: &HostRuntime) -> Option<Form> {
+    if !has(rt, 1) {
+        return Some(Form::Sentences);
     }
+    numbered(rt).then_some(Form::Numbered)
 }
 
 fn main(rt: HostRuntime) {
     let mut streams = files::standard(&rt);
-    if !has(&rt, 1) {
-        stream::run(&mut streams, Form::Sentences);
+    let Some(form) = form(&rt) else {
+        let _ = files::complain(
+            &mut streams,
+            b"nazsombet: tell takes the argument -n or none\n",
+        );
         return;
-    }
-    if numbered(&rt) {
-        stream::run(&mut streams, Form::Numbered);
-        return;
-    }
-    files::complain(
-        &mut streams,
-        b"nazsombet: tell takes the argument -n or none\n",
-    );
+    };
+    stream::run(&mut streams, form);
 }

@@ -2,7 +2,10 @@
 use Prim.Native.Nat.{ℕ, suc, ◌+◌, ◌-◌, ◌≤◌, ◌<◌}
 use mathlib.Core.Path.{◌≡◌, refl, sym, ap, subst, ◌∙◌}
 use mathlib.Core.Bool.{Bool, true, false, true≢false}
+use mathlib.Core.Logic.{◌⊎◌, inl, inr}
 use mathlib.Core.Option.{Option, none}
+use Rattle.std.specs.Prelude.{Result, Ok, Err, None, Some}
+use Rattle.std.specs.Prelude as source
 use mathlib.Core.List.{List}
 use native.Mathlib.Omega.{arith}
 use borrow.Author.Tests.{eq-eqb, eqb-true, eqb-false}
@@ -11,35 +14,32 @@ use lib.ListN.{length, get_or, set, replicate, length-set, length-replicate, get
 use lib.Seq.{get_or-set_same, get_or-set_other, ext_get_or}
 use Rattle.calls.specs.declared.Answer.{Answer}
 use Rattle.calls.specs.declared.Call.{Call}
-use Rattle.calls.specs.declared.Runner.{Runner}
+use Rattle.calls.specs.declared.Refusal.{Refusal}
 use Rattle.calls.specs.Answers.{thread_of, seat}
 use Rattle.machine.specs.Lists.{pick}
 use Rattle.journal.specs.Course.{Made, Course, course_of, stop_code}
 use Rattle.layout.specs.Words.{tabulate}
 use Rattle.layout.proofs.Image.{length_tabulate, get_d_tabulate}
+use Rattle.journal.specs.declared.types.Read.{Read}
+use Rattle.journal.specs.declared.types.Read.TheVariants.{Found, Refused, Ended}
+use Rattle.journal.specs.Words.{read_at}
+use Rattle.journal.proofs.Refusals.{refused_at}
 use Rattle.lent_tables.specs.Entries.{Lent}
+use Rattle.rows.specs.declared.Turn.{Turn}
+use Rattle.rows.specs.Taking.{Turned, turned, code_of}
 use Rattle.rows.specs.Run.{Ran}
 use Rattle.rows.proofs.Run.{made_by, Next, Last, seat_small}
 use Rattle.billing.specs.Ticks.{ticked, ticks_of, count_words, counts_of}
 use Rattle.billing.proofs.Few.{ticks_few}
 use Rattle.ticks.specs.declared.Place.{Place}
-use Rattle.ticks.specs.Counting.{call_alone, Counting}
+use Rattle.ticks.specs.Counting.{call_alone, Counting, CountedAll, After, OverBy}
 
-abbrev pub place : ℕ → ℕ → ℕ → Bool → Place
-place at who code going = record { at = at; who = who; code = code; going = going }
-
--- The code's test.
-pub tick_is : (b : Bool) → b ≡ true → ◌≡◌ {A = ℕ} 1 (pick b 1 0)
-tick_is true e = refl
-tick_is false e = absurd (true≢false (sym e))
-
-pub tick_not : (b : Bool) → b ≡ false → ◌≡◌ {A = ℕ} 0 (pick b 1 0)
-tick_not false e = refl
-tick_not true e = absurd (true≢false e)
+abbrev pub place : ℕ → ℕ → Place
+place at who = record { at = at; who = who }
 
 -- A call is a tick by itself and its answer alone.
 same_tick :
-    (i : ℕ) (who : Option ℕ) (c : Call) (a : Answer) (w : Runner)
+    (i : ℕ) (who : Option ℕ) (c : Call) (a : Answer) (w : source.Option ℕ)
     → ticked (call_alone c a) ≡ ticked (made_by i who c a w)
 unfolding ticked
 same_tick i who c a w = refl
@@ -48,7 +48,7 @@ module _ {journal : List ℕ} {m : Lent} where
   -- Nothing is counted yet.
   pub begun :
       {counts : List ℕ} → counts ≡ replicate count_words 0 → Ran journal 0 0 none m (course_of journal)
-      → Counting journal (place 0 256 0 true) m counts
+      → Counting journal (place 0 256) m counts
   begun {counts} e r =
       record {
         index = 0;
@@ -64,13 +64,12 @@ module _ {journal : List ℕ} {m : Lent} where
             ap (λ (l : List ℕ). get_or l k 0) e ∙ get_or-replicate {A = ℕ} count_words k 0 0 h in
             omega (arith, z);
         stops = refl;
-        ran = λ g. r;
-        ends = λ g. absurd (true≢false g);
+        ran = r;
       }
 
   module _ {p : Place} {counts : List ℕ} (z : Counting journal p m counts) where
     -- A call was taken.
-    module _ {c : Call} {a : Answer} {w : Runner} {next : ℕ} {m' : Lent}
+    module _ {c : Call} {a : Answer} {w : source.Option ℕ} {next : ℕ} {m' : Lent}
         (n : Next journal p.at z.index z.who c a w next m' z.rest) where
       abbrev now_made : Made
       now_made = made_by z.index z.who c a w
@@ -119,10 +118,10 @@ module _ {journal : List ℕ} {m : Lent} where
       pub one_more :
           {p' : Place} {counts' : List ℕ} {t who : ℕ}
           → counts' ≡ set counts p.who (get_or counts p.who 0 + t) → t ≡ ticked (call_alone c a)
-          → who ≡ seat (thread_of w) → p' ≡ place next who 0 true → Counting journal p' m' counts'
+          → who ≡ seat (thread_of w) → p' ≡ place next who → Counting journal p' m' counts'
       one_more {counts' = counts'} {t} {who} e is s f =
           subst (λ (q : Place). Counting journal q m' counts') (sym f)
-          (subst (λ (l : List ℕ). Counting journal (place next who 0 true) m' l) (sym e)
+          (subst (λ (l : List ℕ). Counting journal (place next who) m' l) (sym e)
           (record {
             index = suc z.index;
             who = thread_of w;
@@ -133,60 +132,44 @@ module _ {journal : List ℕ} {m : Lent} where
             long = length-set counts p.who (get_or counts p.who 0 + t) ∙ z.long;
             each = added t (is ∙ same_tick z.index z.who c a w);
             stops = sym (ap (λ (l : Course). stop_code l.stop) n.first) ∙ z.stops;
-            ran = λ g. n.ran;
-            ends = λ g. absurd (true≢false g);
+            ran = n.ran;
           }))
 
-    -- No call was taken.
-    pub no_more :
-        {p' : Place} {code code' : ℕ} {m' : Lent} → Last z.index z.who z.rest code → code' ≡ code
-        → p' ≡ place p.at p.who code' false → Counting journal p' m' counts
-    no_more {m' = m'} l e f =
-        subst (λ (q : Place). Counting journal q m' counts) (sym f)
-        (record {
-          index = z.index;
-          who = z.who;
-          rest = z.rest;
-          within = z.within;
-          seated = z.seated;
-          small = z.small;
-          long = z.long;
-          each = z.each;
-          stops = z.stops;
-          ran = λ g. absurd (true≢false (sym g));
-          ends = λ g. (l.none_left, e ∙ sym l.number);
-        })
+    -- No call was taken, so all is counted.
+    pub counted :
+        {code code' : ℕ} → Last z.index z.who z.rest code → code' ≡ code → CountedAll journal code' counts
+    unfolding counts_of ticks_of
+    counted l e =
+        let f : ℕ → ℕ = λ i. ticks_of i (course_of journal).made in (
+          e ∙ sym l.number ∙ z.stops,
+          ext_get_or 0 counts (tabulate count_words f) (z.long ∙ sym (length_tabulate count_words f))
+              (λ i h.
+              let k : i < count_words = omega (arith, h, z.long) in
+              let none_left = ap (λ (l : List Made). ticks_of i l) l.none_left in
+              let is = get_d_tabulate count_words f i k in
+              omega (arith, z.each i k, none_left) ∙ sym is),
+        )
 
-  -- All is counted.
-  pub counted : {p : Place} {counts : List ℕ} → Counting journal p m counts → p.going ≡ false
-      → (p.code ≡ stop_code (course_of journal).stop) × (counts ≡ counts_of journal)
-  unfolding counts_of ticks_of
-  counted {p} {counts} z e =
-      let f : ℕ → ℕ = λ i. ticks_of i (course_of journal).made in (
-        (z.ends e).1 ∙ z.stops,
-        ext_get_or 0 counts (tabulate count_words f) (z.long ∙ sym (length_tabulate count_words f))
-            (λ i h.
-            let k : i < count_words = omega (arith, h, z.long) in
-            let none_left = ap (λ (l : List Made). ticks_of i l) (z.ends e).0 in
-            let is = get_d_tabulate count_words f i k in
-            omega (arith, z.each i k, none_left) ∙ sym is),
-      )
+    pub counted_after :
+        {code code' : ℕ} → Last z.index z.who z.rest code → code' ≡ code
+        → (r : Result (source.Option Place) Refusal) → OverBy code' r → (m' : Lent) → After journal p r m' counts
+    counted_after l e (Ok (Some q)) o m' = absurd o
+    counted_after l e (Ok None) o m' = counted l (sym o ∙ e)
+    counted_after l e (Err why) o m' = counted l (sym o ∙ e)
 
--- How many turns are left at most.
-abbrev pub turns_left : ℕ → Place → ℕ
-turns_left n p = pick p.going (suc (n - p.at)) 0
+-- The number of a turn that took no call is the reader's: 18 or 19, or 0.
+abbrev Numbered : ℕ → Type 0
+Numbered n = ((n ≡ 0) ⊎ (n ≡ 18)) ⊎ (n ≡ 19)
 
-pub fewer :
-    (n : ℕ) (p q : Place) → p.going ≡ true → q.at ≤ n → (q.going ≡ true → p.at < q.at)
-    → turns_left n q < turns_left n p
-fewer n p q e h f =
-    let had : turns_left n p ≡ suc (n - p.at) = ap (λ (b : Bool). pick b (suc (n - p.at)) 0) e in
-    by q.going refl had
-  where
-    by : (b : Bool) → q.going ≡ b → turns_left n p ≡ suc (n - p.at) → turns_left n q < turns_left n p
-    by true g had =
-        let has : turns_left n q ≡ suc (n - q.at) = ap (λ (b : Bool). pick b (suc (n - q.at)) 0) g in
-        omega (arith, has, had, f g, h)
-    by false g had =
-        let has : turns_left n q ≡ 0 = ap (λ (b : Bool). pick b (suc (n - q.at)) 0) g in
-        omega (arith, has, had)
+module _ (journal : List ℕ) (at : ℕ) (m : Lent) where
+  by_read : (r : Read) → read_at journal at ≡ r → Numbered (code_of (turned r m).turn)
+  by_read (Found c next) e = inl (inl refl)
+  by_read (Refused code p) e =
+      elim (refused_at journal at code p e).number [ inl h ↦ inl (inr h) | inr h ↦ inr h ]
+  by_read Ended e = inl (inl refl)
+
+  pub numbered :
+      (t : Turn) (left : Lent) → ◌≡◌ {A = Turned} (record { turn = t; left = left }) (turned (read_at journal at) m)
+      → (n : ℕ) → n ≡ code_of t → ((n ≡ 0) ⊎ (n ≡ 18)) ⊎ (n ≡ 19)
+  numbered t left e n is =
+      subst Numbered (sym (is ∙ ap (λ (k : Turned). code_of k.turn) e)) (by_read (read_at journal at) refl)

@@ -1,3 +1,2 @@
 -- How a count goes on, call by call, and the entry's cases.
 pub mod Counting
-pub mod Entry

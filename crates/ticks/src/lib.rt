@@ -1,16 +1,17 @@
 // The ticks of a journal that each thread number is charged for, counted on tables of their own.
 #![tactic(auto)]
 
-ghost use Rattle.std.specs.Prelude.{◌<◌, ◌≤◌, ◌≡◌, true, length, replicate};
+ghost use Rattle.std.specs.Prelude.{◌≤◌, ◌≡◌, ◌⊎◌, length, replicate};
 ghost use Rattle.std.proofs.Math.Option.{none};
-ghost use Rattle.journal.specs.Course.{course_of, stop_code};
-ghost use Rattle.lent_tables.specs.Entries.{lent};
+ghost use Rattle.calls.specs.Answers.{code_in};
+ghost use Rattle.journal.specs.Course.{course_of};
+ghost use Rattle.rows.specs.Memory.{within};
 ghost use Rattle.rows.specs.Run.{Ran};
-ghost use Rattle.billing.specs.Ticks.{ticked, count_words, most_words, counts_of, Counted, count_for};
-ghost use Rattle.ticks.specs.Counting.{call_alone, Counting};
+ghost use Rattle.billing.specs.Ticks.{ticked, count_words, most_words, Counted, count_for};
+ghost use Rattle.ticks.specs.Counting.{call_alone, Counting, CountedAll, After, OverBy};
 
-use calls::{Answer, Call, codes};
-use rows::Turn;
+use calls::{Answer, Call, Refusal, codes};
+use rows::{Memory, Turn};
 
 // How many counts are lent: one for each thread number, and the idle ticks last.
 pub const COUNTS: usize = 257;
@@ -26,43 +27,48 @@ pub const MOST_RATE: u32 = 10_000;
 // The number of the call that is a tick.
 const TICK: u32 = 6;
 
-// How far a journal was run: the next word, who runs, as a number, whether the journal goes on, and the reader's number
-// where it does not.
-#[derive(Drop)]
+// How far a journal was run: the next word, and the place of who runs among the counts.
+// stays: (d) who runs is a number here: its count is found without a branch.
+#[derive(Clone, Copy)]
 struct Place {
     at: usize,
     who: usize,
-    code: u32,
-    going: bool,
 }
 
 // 1 for an accepted tick, else 0.
+#[tactic(auto, unfolding(billing::specs::Ticks::ticked))]
 fn tick(call: Call, answer: Answer) -> u32
     ensures { result ≡ ticked (call_alone call answer) }
 {
-    if (calls::number(call) == TICK) & (answer.code <= codes::BROKEN_OFF) {
-        return 1;
-    }
-    0
+    u32::from((calls::number(call) == TICK) & (answer.code <= codes::BROKEN_OFF))
 }
 
-// Takes the next call and adds it, if it is a tick, to the count of who ran before it. There is no branch on the tick:
-// 0 or 1 is added.
+// Where no call was taken: the journal is over, or why the reader, whose `Read` has a number, refuses it.
+fn over(code: u32) -> Result<Option<Place>, Refusal>
+    requires { ((code ≡ 0) ⊎ (code ≡ 18)) ⊎ (code ≡ 19) }
+    ensures { OverBy code result }
+{
+    if code == codes::DONE {
+        return Ok(None);
+    }
+    if code == Refusal::NoCall.into() {
+        return Err(Refusal::NoCall);
+    }
+    Err(Refusal::Range)
+}
+
+// Takes the next call and adds it, if it is a tick, to the count of who ran before it: the place behind it, none where
+// the journal is over. There is no branch on the tick: 0 or 1 is added.
 fn turn(
     journal: &[u32],
     p: Place,
-    tables: &mut [u32],
-    grants: &mut [u32],
-    scratch: &mut [u32],
+    memory: &mut Memory<'_>,
     counts: &mut [u32],
-) -> Place
-    requires { (length journal.now ≤ most_words) × (p.going ≡ true)
-        × Counting journal.now p (lent tables.old grants.old scratch.old) counts.old }
-    ensures at_lt_at { result.going ≡ true → p.at < result.at }
-    ensures counting { Counting journal.now result
-        (lent tables.new grants.new scratch.new) counts.new }
+) -> Result<Option<Place>, Refusal>
+    requires { (length journal.now ≤ most_words) × Counting journal.now p (within memory.old) counts.old }
+    ensures { After journal.now p result (within memory.new) counts.new }
 {
-    let taken = rows::next(journal, p.at, tables, grants, scratch);
+    let taken = memory.next(journal, p.at);
     let Turn::Took {
         call,
         answer,
@@ -70,93 +76,57 @@ fn turn(
         next,
     } = taken
     else {
-        return Place {
-            at: p.at,
-            who: p.who,
-            code: rows::code(taken),
-            going: false,
-        };
+        return over(rows::code(taken));
     };
-    let before = p.who;
-    counts[before] += tick(call, answer);
-    Place {
+    counts[p.who] += tick(call, answer);
+    Ok(Some(Place {
         at: next,
         who: calls::seat(who) as usize,
-        code: codes::DONE,
-        going: true,
-    }
+    }))
 }
 
 // Takes all calls, on fresh memory.
-fn turns(
-    journal: &[u32],
-    tables: &mut [u32],
-    grants: &mut [u32],
-    scratch: &mut [u32],
-    counts: &mut [u32],
-) -> u32
+fn turns(journal: &[u32], memory: &mut Memory<'_>, counts: &mut [u32]) -> Result<(), Refusal>
     requires { (length journal.now ≤ most_words) × (counts.old ≡ replicate count_words 0)
-        × Ran journal.now 0 0 none (lent tables.old grants.old scratch.old) (course_of journal.now) }
-    ensures { (result ≡ stop_code (course_of journal.now).stop)
-        × (counts.new ≡ counts_of journal.now) }
+        × Ran journal.now 0 0 none (within memory.old) (course_of journal.now) }
+    ensures { CountedAll journal.now (code_in result) counts.new }
 {
-    let mut p = Place {
-        at: 0,
-        who: IDLE,
-        code: codes::DONE,
-        going: true,
-    };
-    while p.going {
-        p = turn(journal, p, tables, grants, scratch, counts);
+    let mut p = Place { at: 0, who: IDLE };
+    while let Some(next) = turn(journal, p, memory, counts)? {
+        p = next;
     }
-    p.code
+    Ok(())
 }
 
 // The same on memory of its own: 82 KiB of stack with the counts.
-fn run(journal: &[u32], counts: &mut [u32]) -> u32
+fn run(journal: &[u32], counts: &mut [u32]) -> Result<(), Refusal>
     requires { (length journal.now ≤ most_words) × (counts.old ≡ replicate count_words 0) }
-    ensures { (result ≡ stop_code (course_of journal.now).stop)
-        × (counts.new ≡ counts_of journal.now) }
+    ensures { CountedAll journal.now (code_in result) counts.new }
 {
     let mut tables = [0u32; lent_tables::TABLE_WORDS];
     let mut grants = [0u32; grants::GRANT_WORDS];
     let mut scratch = [0u32; lent_tables::SCRATCH_WORDS];
-    lent_tables::fresh(&mut tables, &mut grants);
-    turns(journal, &mut tables, &mut grants, &mut scratch, counts)
-}
-
-// Hands the counts over.
-fn copy(from: &[u32], to: &mut [u32])
-    requires { length from.now ≡ length to.old }
-    ensures { to.new ≡ from.now }
-{
-    let mut i = 0;
-    while i < to.len() {
-        to[i] = from[i];
-        i += 1;
-    }
+    let _ = lent_tables::fresh(&mut tables, &mut grants);
+    let mut memory = Memory {
+        tables: &mut tables,
+        grants: &mut grants,
+        scratch: &mut scratch,
+    };
+    turns(journal, &mut memory, counts)
 }
 
 // The ticks of a journal for each thread number and, last, the idle ones. They are counted apart and handed over at the
 // end, so that a journal that does not read to its end leaves the lent counts as they were.
-pub fn count(journal: &[u32], rate: u32, counts: &mut [u32]) -> u32
-    ensures { ◌≡◌ {A = Counted} (record { code = result; counts = counts.new })
+#[tactic(auto, unfolding(billing::specs::Ticks::count_for))]
+pub fn count(journal: &[u32], rate: u32, counts: &mut [u32]) -> Result<(), Refusal>
+    ensures { ◌≡◌ {A = Counted} (record { code = code_in result; counts = counts.new })
         (count_for journal.now rate counts.old) }
 {
-    if journal.len() > MOST_WORDS {
-        return codes::LIMITS;
-    }
-    if rate > MOST_RATE {
-        return codes::LIMITS;
-    }
-    if counts.len() != COUNTS {
-        return codes::LIMITS;
+    if journal.len() > MOST_WORDS || rate > MOST_RATE || counts.len() != COUNTS {
+        return Err(Refusal::Limits);
     }
     let mut own = [0u32; COUNTS];
-    let code = run(journal, &mut own);
-    if code != codes::DONE {
-        return code;
-    }
-    copy(&own, counts);
-    codes::DONE
+    run(journal, &mut own)?;
+    counts.copy_from_slice(&own);
+    Ok(())
 }

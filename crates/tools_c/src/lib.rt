@@ -53,5 +53,5 @@ pub extern "C" fn nazsombet_count_ticks(journal: &[u32], rate: u32, counts: &mut
     ensures { ◌≡◌ {A = Counted} (record { code = result; counts = counts.new })
         (count_for journal.now rate counts.old) }
 {
-    ticks::count(journal, rate, counts)
+    calls::code(ticks::count(journal, rate, counts))
 }
