@@ -15,16 +15,6 @@ use Rattle.texts.specs.Text.{bytes}
 use Rattle.bills.specs.Lines.{entry_of, Few, line_room, bill_room}
 use Rattle.bills.proofs.Parts.{alone_below, line_fits}
 
--- A thread without ticks has no line,
-pub no_entry : (rate t n : ℕ) → n ≡ 0 → entry_of rate t n ≡ []
-unfolding entry_of
-no_entry rate t n e = rw (eq-eqb n 0 e)
-
--- one with ticks has its line.
-pub an_entry : (rate t n : ℕ) → 1 ≤ n → entry_of rate t n ≡ line_of rate t n
-unfolding entry_of
-an_entry rate t n h = rw (ne_eqb n 0 (λ (e : n ≡ 0). omega arith))
-
 pub entry_fits : (rate t n : ℕ) → rate ≤ most_rate → n ≤ most_words → t < 256 → length (entry_of rate t n) ≤ line_room
 unfolding entry_of
 entry_fits rate t n r h s = go (eqb n 0) (line_of rate t n) (line_fits rate t n r h s)

@@ -32,14 +32,6 @@ module _ (threads : ℕ → Thread) (e : ℕ) (l : List ℕ) where
 
 -- The last.
 module _ {m : List ℕ} {e r : ℕ} (F : FirstAt m e (2 + e) r) where
-  pub last_none : r ≡ 0 → Tells m (Alike e) 0 (last_sender e)
-  last_none z =
-      record {
-        tells = λ s M A.
-            let l : List ℕ = senders s.threads (s.endpoints e).waiters in
-            sym (ap (last_of 0) (first_zero l (sym ((F.sends refl).tells s M A) ∙ z)));
-      }
-
   pub last_sends : {d : ℕ} → (r ≡ 0 → ⊥) → Last m (endpoint_queue e) d → Tells m (Alike e) d (last_sender e)
   last_sends {d} z k = record { tells = λ s M A. go s M A.endpoint ((F.sends refl).tells s M A) A.alike }
     where

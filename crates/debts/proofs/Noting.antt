@@ -128,11 +128,6 @@ module _ {m₀ m : List ℕ} {e b t : ℕ} (N : NotedBelow m₀ m e b t) where
   range : (s : State) → t < 256 → e ≤ 63 → PairInRange t e s
   range s h k = record { thread = omega arith; endpoint = k }
 
-  pub member_asked : t < 256 → Shown m (PairInRange t e)
-  member_asked h =
-      let S = N.there in
-      record { state = S.state; shows = S.shows; holds = range S.state h S.holds }
-
   pub noted_more : {n : List ℕ} → t < 256 → Does m n (PairInRange t e) (note_one t e b) → NotedBelow m₀ n e b (t + 1)
   noted_more {n} h D =
       let S = N.there in

@@ -27,9 +27,6 @@ pub record Cleared (at : ℕ → ℕ) (n : ℕ) (m k : List ℕ) : Type 0 where
   pub others : (j : ℕ) → ((i : ℕ) → i < n → j ≡ at i → ⊥) → word k j ≡ word m j
 
 module _ (at : ℕ → ℕ) (m : List ℕ) where
-  pub cleared_none : Cleared at 0 m m
-  cleared_none = record { size = refl; zeros = λ i h. absurd (omega arith); others = λ j h. refl }
-
   pub cleared_more :
       (n a : ℕ) (k : List ℕ) → a ≡ at n → a < length m → Cleared at n m k → Cleared at (n + 1) m (set k a 0)
   cleared_more n a k is room C =

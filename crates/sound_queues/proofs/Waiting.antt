@@ -102,13 +102,6 @@ module _ (m : List ℕ) (q k c d b : ℕ) where
       rw (p, w, j, a, i, le-leb t 255 (omega arith), v')
 
 module _ (m : List ℕ) (e k : ℕ) where
-  pub waiters_holds :
-      (s : List ℕ) {c d b y : ℕ} → length s ≡ 256 → c ≡ endpoint_at m Part.Cursor e → d ≡ endpoint_at m Part.End e
-      → b ≡ banned_of m e k → y ≡ word m (link_at (Link.Head (endpoint_queue e)))
-      → WaitersAt m e k c d b s s Phase.Ahead 0 y 257
-  waiters_holds s {c} {d} {b} {y} h i j l o =
-      rw (i, j, l, o) (record { few = omega arith; kept = h; same = refl; passed = passed_none _ _ })
-
   waiters_met :
       waiters_as m e k ≡ true → met_from 257 (word m (link_at (Link.Head (endpoint_queue e)))) m
       ≡ met m (endpoint_queue e)

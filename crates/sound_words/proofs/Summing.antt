@@ -22,12 +22,6 @@ pub record Summed (f : ℕ → Bool) (k sum bit : ℕ) : Type 0 where
   pub power : bit ≡ 2 ^ k
   pub small : sum < bit
 
-pub share_none : (w bit : ℕ) → w ≡ 0 → 0 ≡ pick (not (eqb w 0)) bit 0
-share_none w bit h = rw (eq-eqb w 0 h)
-
-pub share_some : (w bit : ℕ) → (w ≡ 0 → ⊥) → bit ≡ pick (not (eqb w 0)) bit 0
-share_some w bit h = rw (ne_eqb w 0 h)
-
 pub share_of :
     (bit : ℕ) {s v w : ℕ} → v ≡ w → s ≡ pick (not (eqb v 0)) bit 0 → s ≡ pick (not (eqb w 0)) bit 0
 share_of bit {s} e h = subst (λ (x : ℕ). s ≡ pick (not (eqb x 0)) bit 0) e h
@@ -57,16 +51,6 @@ module _ (f : ℕ → Bool) where
       go : (b : Bool) → s ≡ pick b bit 0 → sum + s ≡ pick b (2 ^ k) 0 + bits k f
       go true i = omega arith
       go false i = omega arith
-
-  pub summed_low : (k : ℕ) {sum bit : ℕ} → k ≤ 32 → Summed f k sum bit → bit ≤ 2 ^ 32
-  summed_low k l h = let p : 2 ^ k ≤ 2 ^ 32 = pow_mono l in omega arith
-
-  pub sum_fits :
-      (k : ℕ) {sum bit s : ℕ} (b : Bool) → k ≤ 32 → Summed f k sum bit → s ≡ pick b bit 0 → sum + s < 2 ^ 64
-  sum_fits k {sum} {bit} {s} b l h e =
-      let p = summed_low k l h in
-      let q : s ≤ bit = share_small b bit e in
-      omega arith
 
   pub summed_all : (k n : ℕ) {sum bit : ℕ} → k ≤ n → n ≤ k → Summed f k sum bit → sum ≡ bits n f
   summed_all k n l g h = let e : k ≡ n = omega arith in h.is ∙ ap (λ (i : ℕ). bits i f) e

@@ -14,9 +14,6 @@ use Rattle.store.specs.Steps.{Tells}
 use Rattle.store.specs.Store.{IsSlot}
 use Rattle.store.specs.Readings.{slot_in}
 
-pub word_tells : (a : Slot) (m : List ℕ) (r : ℕ) → r ≡ word m (at a) → Tells m (IsSlot a) r (slot_in a)
-word_tells a m r e = record { tells = λ s M valid. e ∙ M.slots a valid }
-
 -- A memory in which one slot has a new word shows the state that differs there alone.
 pub stored_shows :
     (a : Slot) (m n : List ℕ) (v : ℕ) (s z : State) → ValidSlot a → Shows m s → n ≡ set m (at a) v → content z a ≡ v

@@ -203,7 +203,3 @@ module _ (s : Summary) (p : ℕ) (h : p < 256) where
       (λ f e.
       changed_is f p h false (clear_word (summary_of f) p) (summary_of f).top (clear_word_lem f p h)
       (keep_top f p h (λ z. d (ap (λ (t : Summary). clear_word t p) e ∙ z))))
-
--- With a level set it is a summary again.
-pub marked_summary : (s : Summary) (p : ℕ) (x : Bool) (r : Summary) → SetsBit s p x r → IsSummary s → IsSummary r
-marked_summary s p x r m h = record { levels = put h.levels p x; shown = m.marked h.levels h.shown }

@@ -14,10 +14,6 @@ use Rattle.texts.proofs.Texts.{length_pasted, take_pasted, drop_pasted, pasted_t
 pub wrote_nothing : (m : List ℕ) (at : ℕ) → Wrote m at [] at m
 wrote_nothing m at = record { next = sym (add-zero at); bytes = sym (pasted_nil m at) }
 
-pub wrote_byte :
-    {m m' : List ℕ} {at d p : ℕ} → at < length m → p ≡ at + 1 → m' ≡ set m at d → Wrote m at (d ∷ []) p m'
-wrote_byte {m} {m'} {at} {d} {p} h e g = record { next = e; bytes = g ∙ set_is m at d h }
-
 -- A text copied to the front.
 pub copied :
     {m m' text : List ℕ} {r : ℕ} → r ≡ length text
@@ -41,25 +37,6 @@ module _ (m : List ℕ) (at k : ℕ) (lent : at + k ≤ length m) where
       ∙ ap (drop t) (take-append-drop k (drop at m))
       ∙ drop-drop t at m
 
-  pub part_wrote :
-      (text part m' : List ℕ) (n : ℕ) → Wrote (take k (drop at m)) 0 text n part → length text ≤ k
-      → m' ≡ take at m ++ (part ++ drop k (drop at m)) → Wrote m at text (at + n) m'
-  unfolding pasted
-  part_wrote text part m' n w h g =
-      let front : part ≡ text ++ drop (length text) (take k (drop at m)) =
-      w.bytes ∙ ap (λ (j : ℕ). text ++ drop j (take k (drop at m))) (zero-add (length text))
-      in
-      record {
-        next = omega (arith, w.next);
-        bytes =
-            g
-            ∙ ap (λ (l : List ℕ). take at m ++ (l ++ drop k (drop at m))) front
-            ∙ ap (λ (l : List ℕ). take at m ++ l)
-            (append_assoc text (drop (length text) (take k (drop at m))) (drop k (drop at m))
-            ∙ ap (λ (l : List ℕ). text ++ l) (behind (length text) h))
-            ∙ sym (append_assoc (take at m) text (drop (at + length text) m));
-      }
-
 -- A text copied over the part that begins at its place and is as long.
 pub copied_over :
     (m text m' part : List ℕ) (at k : ℕ) → k ≡ length text → part ≡ text
@@ -82,34 +59,12 @@ module _ {m m' text : List ℕ} {at p : ℕ} (room : Room m at text) (w : Wrote 
   pub length_wrote : length m' ≡ length m
   length_wrote = rw w.bytes (length_pasted m at text room.fits)
 
-  pub upto_wrote : take p m' ≡ take at m ++ text
-  upto_wrote = rw (w.next, w.bytes) (take_pasted m at text room.fits)
-
-  pub behind_wrote : drop p m' ≡ drop p m
-  behind_wrote = rw (w.next, w.bytes) (simp add-zero at (drop_pasted m at text room.fits 0))
-
 -- Texts that are the same
-
-pub room_is : {m text text' : List ℕ} {at : ℕ} → text ≡ text' → Room m at text → Room m at text'
-room_is {m} {at = at} = subst (λ (t : List ℕ). Room m at t)
 
 pub wrote_is : {m m' text text' : List ℕ} {at p : ℕ} → text ≡ text' → Wrote m at text p m' → Wrote m at text' p m'
 wrote_is {m} {m'} {at = at} {p = p} = subst (λ (t : List ℕ). Wrote m at t p m')
 
 -- Two texts in turn
-
--- Room for two texts is room for the first,
-pub front_room : {m : List ℕ} {at : ℕ} (text rest : List ℕ) → Room m at (text ++ rest) → Room m at text
-front_room text rest r = record { fits = omega (arith, r.fits, length-append text rest) }
-
--- and where it was written, for the second.
-pub rest_room :
-    {m m' : List ℕ} {at p : ℕ} (text rest : List ℕ)
-    → Room m at (text ++ rest) → Wrote m at text p m' → Room m' p rest
-rest_room text rest r w =
-    record {
-      fits = omega (arith, r.fits, length-append text rest, w.next, length_wrote (front_room text rest r) w);
-    }
 
 pub wrote_then :
     {m m₁ m₂ s t : List ℕ} {at p q : ℕ}
@@ -120,12 +75,6 @@ wrote_then {m} {m₁} {m₂} {s} {t} {at} {p} {q} r v w = record {
       w.bytes ∙ ap (λ (l : List ℕ). pasted l p t) v.bytes ∙ ap (λ (k : ℕ). pasted (pasted m at s) k t) v.next
       ∙ pasted_then m at s r.fits t;
 }
-
--- Two texts written in turn are the two as one.
-pub in_turn :
-    {m m₁ m₂ text rest : List ℕ} {at p q : ℕ}
-    → Room m at (text ++ rest) → Wrote m at text p m₁ → Wrote m₁ p rest q m₂ → Wrote m at (text ++ rest) q m₂
-in_turn {text = text} {rest = rest} r v w = wrote_then (front_room text rest r) v w
 
 -- Bytes counted
 

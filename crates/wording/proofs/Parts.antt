@@ -31,38 +31,7 @@ sentence_is c a = simp append_assoc
 
 -- The same without the full stop.
 
-abbrev pub outcome_said : ℕ → Answer → List ℕ
-outcome_said call a = outcome a.code ++ details call a
-
-abbrev pub colon_said : ℕ → Answer → List ℕ
-colon_said call a = bytes ": " ++ outcome_said call a
-
-pub clause_is : (c : Call) (a : Answer) → clause c a ≡ request c ++ colon_said (number_of c) a
-clause_is c a = simp append_assoc
-
 -- A line is its clause and a full stop.
-
-pub sentence_ends : (c : Call) (a : Answer) → sentence c a ≡ clause c a ++ bytes ".\n"
-unfolding sentence
-sentence_ends c a = refl
-
-pub stop_ends : (code : ℕ) → stop_line code ≡ stop_clause code ++ bytes ".\n"
-unfolding stop_line
-stop_ends code = refl
-
-abbrev pub detail_count : ℕ → Answer → List ℕ
-detail_count call a = detail (asks_count call a.code) (bytes ", count ") a.count
-
-abbrev pub detail_badge : ℕ → Answer → List ℕ
-detail_badge call a = detail (asks_message call a.code) (bytes ", badge ") a.badge
-
-abbrev pub detail_message : ℕ → Answer → List ℕ
-detail_message call a = detail (asks_message call a.code) (bytes ", message ") a.message
-
-pub details_is :
-    (call : ℕ) (a : Answer) → details call a ≡ detail_count call a ++ (detail_badge call a ++ detail_message call a)
-unfolding details
-details_is call a = simp append_assoc
 
 -- The outcome of a refusal
 
@@ -111,13 +80,3 @@ module _ (e b n : ℕ) where
   abort_is = simp append_assoc
 
 -- The call of four: twice two.
-
-abbrev pub grant_what : ℕ → ℕ → List ℕ
-grant_what t r = bytes "Grant thread " ++ decimal t ++ bytes " rights " ++ decimal r
-
-abbrev pub grant_where : ℕ → ℕ → List ℕ
-grant_where e b = bytes " at endpoint " ++ decimal e ++ bytes " under badge " ++ decimal b
-
-pub grant_is : (t e r b : ℕ) → request (Grant t e r b) ≡ grant_what t r ++ grant_where e b
-unfolding request
-grant_is t e r b = simp append_assoc
