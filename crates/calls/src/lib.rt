@@ -4,7 +4,7 @@
 ghost use Rattle.std.specs.Prelude.{◌≡◌, ◌&&◌, leb};
 ghost use Rattle.calls.specs.Calls.{number_of, is_allowance, in_range};
 ghost use Rattle.calls.specs.Numbers.{four, answer_in};
-ghost use Rattle.calls.specs.Answers.{plain, counted, code_of, code_in, accepted_as, answer_of, thread_of, seat};
+ghost use Rattle.calls.specs.Answers.{code_of, code_in, accepted_as, answer_of, thread_of, seat};
 
 pub mod codes;
 pub mod sizes;
@@ -168,30 +168,6 @@ pub fn code(outcome: Result<(), Refusal>) -> u32
     }
 }
 
-// A code alone, with three zeros.
-pub fn plain(code: u32) -> Answer
-    ensures { result ≡ plain code }
-{
-    Answer {
-        code,
-        count: 0,
-        badge: 0,
-        message: 0,
-    }
-}
-
-// A code and a count.
-pub fn counted(code: u32, count: u32) -> Answer
-    ensures { result ≡ counted code count }
-{
-    Answer {
-        code,
-        count,
-        badge: 0,
-        message: 0,
-    }
-}
-
 // Who runs as one number, 256 for nobody.
 pub fn seat(who: Option<u32>) -> u32
     ensures { result ≡ seat (thread_of who) }
@@ -204,41 +180,19 @@ pub fn number(c: Call) -> u32
     ensures { result ≡ number_of c }
 {
     match c {
-        Call::CreateThread {
-            thread: _,
-            priority: _,
-        } => 1,
-        Call::DestroyThread { thread: _ } => 2,
-        Call::SetPriority {
-            thread: _,
-            priority: _,
-        } => 3,
-        Call::CreateEndpoint { endpoint: _ } => 4,
-        Call::Interrupt { line: _ } => 5,
+        Call::CreateThread { .. } => 1,
+        Call::DestroyThread { .. } => 2,
+        Call::SetPriority { .. } => 3,
+        Call::CreateEndpoint { .. } => 4,
+        Call::Interrupt { .. } => 5,
         Call::Tick => 6,
-        Call::Send {
-            endpoint: _,
-            badge: _,
-            message: _,
-        } => 7,
-        Call::Receive { endpoint: _ } => 8,
+        Call::Send { .. } => 7,
+        Call::Receive { .. } => 8,
         Call::Yield => 9,
-        Call::Wait { line: _ } => 10,
-        Call::Delete {
-            endpoint: _,
-            allowance: _,
-        } => 11,
-        Call::Abort {
-            endpoint: _,
-            allowance: _,
-            badge: _,
-        } => 12,
-        Call::Grant {
-            thread: _,
-            endpoint: _,
-            rights: _,
-            badge: _,
-        } => 13,
+        Call::Wait { .. } => 10,
+        Call::Delete { .. } => 11,
+        Call::Abort { .. } => 12,
+        Call::Grant { .. } => 13,
     }
 }
 

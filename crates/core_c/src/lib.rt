@@ -37,6 +37,7 @@ pub extern "C" fn nazsombet_check(tables: &[u32], grants: &[u32], scratch: &mut 
 }
 
 // The numbers name no call: 18, if tables and grants are sound.
+// stays: (a) C lends the three memories apart, and tables are read beside grants and scratch that change.
 fn refuse(tables: &[u32], grants: &[u32], scratch: &mut [u32]) -> Outcome
     ensures { ◌≡◌ {A = Called}
         (record { answer = answer_of result; left = lent tables.now grants.now scratch.new })

@@ -17,6 +17,7 @@ fn call_word(number: u32, subject: u32, argument: u32) -> u32
 }
 
 // A call that is its call word alone.
+// stays: (d) one function for one, two and three words would have to be told which spare words it leaves.
 fn one_word(number: u32, subject: u32, argument: u32) -> Words
     requires { (number < 16) × (subject < 256) × (argument < 65536) }
     ensures { words_written result ≡ as_written (call_word number subject argument ∷ []) }
@@ -29,7 +30,8 @@ fn one_word(number: u32, subject: u32, argument: u32) -> Words
 
 fn send_words(endpoint: u32, badge: u32, message: u32) -> Words
     requires { (endpoint < 256) × (badge < 0x10000000) × (message < 0x10000000) }
-    ensures { words_written result ≡ as_written (call_word 7 endpoint 0 ∷ badge_word badge ∷ message_word message ∷ []) }
+    ensures { words_written result
+        ≡ as_written (call_word 7 endpoint 0 ∷ badge_word badge ∷ message_word message ∷ []) }
 {
     let first = call_word(7, endpoint, 0);
     Words {

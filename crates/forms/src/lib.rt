@@ -15,6 +15,7 @@ use listing::Listed;
 use texts::Line;
 
 // How a call is told: a line of numbers, a sentence, or one with the call's index, its caller and who runs then.
+// stays: (d) `call_text` and `stop_text` have the three forms; closures would be handed down to one match each.
 #[derive(Clone, Copy)]
 pub enum Form {
     Lines,

@@ -1,5 +1,6 @@
 // The codes, and the machine's numbers, at the width at which the check reads words: a cast where one is used would be
 // a proof there. LAST is the end of a range.
+// stays: (d) the check compares words with indices, which are usize; with codes at u32 each index would be cast.
 use crate::codes;
 
 pub const ABSENT: usize = codes::ABSENT as usize;

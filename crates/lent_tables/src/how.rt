@@ -6,6 +6,7 @@ use calls::codes::{LAST_THREAD, MESSAGE_RECEIVED};
 use layout::{Field, Slot, Tables};
 
 // An outcome, and what was received with it: badge and message with outcome 2, else 0 and 0.
+// stays: (a) an outcome is the word as it is, whatever it is, in `woken_in` and for C.
 #[derive(Clone, Copy, Default)]
 pub struct Waking {
     pub outcome: u32,

@@ -16,6 +16,7 @@ pub struct Tally {
     wrong: usize,
 }
 
+// stays: (d) each change has a name to print beside what it does.
 #[derive(Clone, Copy)]
 pub enum Change {
     Zero,

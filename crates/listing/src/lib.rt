@@ -84,6 +84,7 @@ pub fn line(out: &mut [u8], l: Listed) -> usize
 }
 
 // The header at the front of the buffer, if it has room for every line; how many bytes were written.
+// stays: (a) 0 where there is no room, as `line_length` has it, for both.
 #[tactic(auto, unfolding(texts::specs::Text::bytes))]
 pub fn head(out: &mut [u8]) -> usize
     ensures value { result ≡ line_length header out.old }

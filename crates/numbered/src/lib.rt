@@ -109,6 +109,7 @@ fn stopped<const N: usize>(line: &mut Line<N>, index: u64, code: u32, runs: Opti
 }
 
 // The same, where every such line has room.
+// stays: (d) a call and a stop are told in other words; what they share is `close`.
 pub fn stop<const N: usize>(line: &mut Line<N>, index: u64, code: u32, runs: Option<u32>)
     requires { length line.old + numbered_room ≤ N }
     ensures upper_bound { length line.new ≤ length line.old + numbered_room }

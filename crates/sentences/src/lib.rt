@@ -84,6 +84,7 @@ pub fn say_stop<const N: usize>(line: &mut Line<N>, code: u32)
 }
 
 // That line as an entry, by the reader's number: its length, or Short as above.
+// stays: (d) a stop is tried for no range; what the two entries share is `Line`'s.
 pub fn stop(out: &mut [u8], code: u32) -> Result<usize, Refusal>
     ensures fact { ◌≡◌ {A = Filed} (told result out.new) (stop_for code out.old) }
     ensures counts { IfOk result (λ used. Counts used out.new) }

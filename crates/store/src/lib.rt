@@ -59,6 +59,7 @@ pub fn running(tables: &Tables) -> u32
 }
 
 // Thread t is at a place, with the outcome, badge and message that it has there.
+// stays: (d) the three go together to the words of a place, and the machine's definitions name them apart.
 // stays: places, debts, statuses and lines are words of the lent, fixed memory, as place_code of specs and its like.
 pub fn set_place(tables: &mut Tables, t: usize, place: u32, outcome: u32, badge: u32, message: u32)
     requires { Shown tables.old (IsThread t) }

@@ -60,8 +60,8 @@ impl Summary {
         }
     }
 
-    // The highest occupied level, if there is one, by the leading zeros of the top word and then of the word that it names. Here too the
-    // words have an array of their own.
+    // The highest occupied level, if there is one, by the leading zeros of the top word and then of the word that it
+    // names. Here too the words have an array of their own.
     pub fn highest(self) -> Option<u32>
         requires { IsSummary self }
         ensures { Finds self result }

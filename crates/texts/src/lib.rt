@@ -10,7 +10,7 @@ pub use line::Line;
 mod line;
 
 // How many digits n has.
-#[tactic(auto, using(crate::proofs::Digits::length_one, crate::proofs::Digits::length_more, crate::proofs::Digits::length_word))]
+#[tactic(auto, using(crate::proofs::Digits::counted))]
 pub fn width(n: u64) -> usize
     ensures { result ≡ length (decimal n) }
 {

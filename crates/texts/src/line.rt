@@ -88,7 +88,7 @@ impl<const N: usize> Line<N> {
 }
 
 // The digits of n alone: no number of 64 bits has more than 20.
-#[tactic(auto, using(crate::proofs::Digits::decimal_one, crate::proofs::Digits::decimal_more, crate::proofs::Digits::length_more, crate::proofs::Digits::length_word))]
+#[tactic(auto, using(crate::proofs::Digits::said_last))]
 fn digits(n: u64) -> Line<20>
     ensures { result ≡ decimal n }
 {

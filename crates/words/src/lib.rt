@@ -93,7 +93,8 @@ impl Name for Link {
     }
 }
 
-// Which pair of words link x of queue q is, what comes after it and what comes before it. The queue's own is computed in either case, so that the choice is no branch.
+// Which pair of words link x of queue q is, what comes after it and what comes before it. The queue's own is computed
+// in either case, so that the choice is no branch.
 fn pair_at(q: usize, x: usize) -> usize
     requires { (q ≤ 319) × (x ≤ 256) }
     ensures { Pair result q x }

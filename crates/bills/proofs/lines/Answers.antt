@@ -1,4 +1,5 @@
-use Rattle.std.proofs.Common.{◌≡◌, ◌+◌, ◌≤◌, ◌<◌, ◌++◌, ℕ, take, get_or, length, length-append, sym, ap, ◌∙◌, arith, rules}
+use Rattle.std.proofs.Common.{◌≡◌, ◌+◌, ◌≤◌, ◌<◌, ◌++◌, ℕ, take, get_or, length, length-append}
+use Rattle.std.proofs.Common.{sym, ap, ◌∙◌, arith, rules}
 use mathlib.Core.List.{append_assoc, append-nil}
 use Rattle.billing.specs.Bills.{lines_from}
 use Rattle.bills.specs.Lines.{entry_of, line_room}

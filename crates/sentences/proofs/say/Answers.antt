@@ -18,7 +18,8 @@ finish-requires g c =
     let words : Words c.args.answer =
     record { code = omega arith; count = omega arith; badge = omega arith; message = omega arith } in (
       search rules,
-      rw (c.clause.ensures, length-append) (omega (arith, c.requires.0, clause_short c.args.call c.args.answer c.requires.1 words)),
+      rw (c.clause.ensures, length-append)
+      (omega (arith, c.requires.0, clause_short c.args.call c.args.answer c.requires.1 words)),
     )
 
 pub returns : goal.returns
@@ -29,6 +30,7 @@ returns g c =
     let said : c.finish.new.line ≡ c.args.line.now ++ sentence c.args.call c.args.answer =
     rw (c.finish.ensures, c.clause.ensures) (append_assoc _ _ (bytes ".\n")) in
     record {
-      upper_bound = rw (said, length-append) (omega (arith, sentence_fits c.args.call c.args.answer c.requires.1 words));
+      upper_bound =
+          rw (said, length-append) (omega (arith, sentence_fits c.args.call c.args.answer c.requires.1 words));
       said = said;
     }
