@@ -5,9 +5,8 @@ ghost use Rattle.machine.specs.Aborts.{look};
 ghost use Rattle.store.specs.Steps.{Shown, Does};
 ghost use Rattle.abort_looks.specs.Looks.{Cursor, InMid, LooksOn};
 
-use layout::Tables;
 use layout::codes::{LINK, NOBODY};
-use layout::{Field, Part};
+use layout::{Field, Part, Tables};
 
 // A look takes the cursor's waiter w: under the abort's badge it is removed, else it is kept and the cursor moves on.
 fn look(tables: &mut Tables, e: usize, w: usize)

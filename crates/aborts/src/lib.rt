@@ -11,9 +11,8 @@ ghost use Rattle.endings.specs.Results.{Calling, Performs};
 ghost use Rattle.own_aborts.specs.Own.{Open};
 ghost use Rattle.aborts.specs.Aborts.{unnoted};
 
-use layout::Tables;
 use calls::{Accepted, Outcome};
-use layout::{Part, codes};
+use layout::{Part, Tables, codes};
 
 // An abort is begun where none stands, joined where it is of this badge, and finished first where it is of another.
 // stays: t, e and badge apart, as abort_open of Aborts takes them; each clause would name a struct's fields.

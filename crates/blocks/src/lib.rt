@@ -7,9 +7,8 @@ ghost use Rattle.store.specs.Steps.{Shown};
 ghost use Rattle.store.specs.Store.{IsThread};
 ghost use Rattle.blocks.specs.Blocks.{ticked_block, LoadsBlock, IsBlock, SetsBlock};
 
-use layout::Tables;
 use calls::codes::TICKS;
-use layout::Field;
+use layout::{Field, Tables};
 
 #[derive(Clone, Copy)]
 pub struct Block {

@@ -9,10 +9,9 @@ ghost use Rattle.store.specs.Store.{IsThread, IsEndpoint};
 ghost use Rattle.debts.specs.Debts.{Says, PairInRange, InCall, under_in, noted_in, note_one, noting, EndsAbort};
 ghost use Rattle.debts.specs.Debts.{Alike, BeginsAbort, FirstAt, last_sender};
 
-use layout::Tables;
 use calls::sizes::THREADS;
 use layout::codes::{ABORTING, LINK, NO_ABORT, NOBODY};
-use layout::{Field, Part, codes};
+use layout::{Field, Part, Tables, codes};
 
 // Thread t leaves the set that it is in, or its note goes.
 #[tactic(auto, using(crate::proofs::Joining::leaves))]

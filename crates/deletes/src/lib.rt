@@ -10,11 +10,10 @@ ghost use Rattle.store.specs.Steps.{Shown};
 ghost use Rattle.endings.specs.Results.{Calling, Performs};
 ghost use Rattle.deletes.specs.Deletes.{Closes, Removes};
 
-use layout::Tables;
 use calls::codes::ENDPOINT_GONE;
 use calls::{Accepted, Outcome};
-use layout::codes;
 use layout::codes::{LINK, NOBODY};
+use layout::{Tables, codes};
 
 // Waiters leave the head of endpoint e's queue with outcome 4, until nobody is left or the allowance is used up; how
 // many went.

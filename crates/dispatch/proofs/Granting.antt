@@ -74,7 +74,7 @@ refused_grants g (Err why) c size h =
     record {
       left =
           sym (ap grant_image (refused_leave (plain (code_of why)) c (grants_of g) (refusal_code why))
-              ∙ image_of g size);
+          ∙ image_of g size);
     }
 
 -- So does one that leaves the grants, whatever it is answered.

@@ -10,9 +10,9 @@ ghost use Rattle.grants.specs.Memory.{grant_words};
 ghost use Rattle.endings.specs.Results.{Asked, Calling, Performs};
 ghost use Rattle.dispatch.specs.Steps.{Own, Served, Grantable, Regrants};
 
-use layout::Tables;
-use grants::Grants;
 use calls::{Accepted, Call, Outcome};
+use grants::Grants;
+use layout::Tables;
 use layout::codes::LINK;
 
 // 1: a thread that was created has no grants.
@@ -50,7 +50,14 @@ fn grantable(tables: &Tables, t: usize, e: usize) -> Outcome
 }
 
 // 13: what is granted stands in the grants.
-fn grant(tables: &Tables, grants: &mut Grants, t: usize, e: usize, rights: u32, badge: u32) -> Outcome
+fn grant(
+    tables: &Tables,
+    grants: &mut Grants,
+    t: usize,
+    e: usize,
+    rights: u32,
+    badge: u32,
+) -> Outcome
     requires { Shown tables.now (Asked (Grantable t e rights badge)) }
     ensures performs { Performs tables.now tables.now (answer_of result) (Asked (Grantable t e rights badge))
         (grant t e) }

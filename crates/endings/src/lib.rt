@@ -10,9 +10,8 @@ ghost use Rattle.queues.specs.Queues.{Chooses};
 ghost use Rattle.endings.specs.Results.{Performs, Accepts};
 ghost use Rattle.endings.specs.Tests.{Tests, thread_there, endpoint_there, endpoint_open};
 
-use layout::Tables;
 use calls::{Accepted, Outcome, Refusal};
-use layout::{Field, Part, codes};
+use layout::{Field, Part, Tables, codes};
 
 // Thread t is there; otherwise the call is refused by 21.
 pub fn thread_there(tables: &Tables, t: usize) -> Result<(), Refusal>

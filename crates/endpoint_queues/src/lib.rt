@@ -6,9 +6,8 @@ ghost use Rattle.machine.specs.Endpoints.{join_endpoint, leave_endpoint, wake_fr
 ghost use Rattle.store.specs.Steps.{Shown, Does};
 ghost use Rattle.queues.specs.Queues.{ToEndpoint, InEndpoint, passing_at};
 
-use layout::Tables;
 use layout::codes::NOBODY;
-use layout::{Part, codes, wide};
+use layout::{Part, Tables, codes, wide};
 
 // Thread t, in no queue, joins the tail of endpoint e's.
 pub fn join_endpoint(tables: &mut Tables, t: usize, e: usize)

@@ -56,7 +56,11 @@ fn checked_step(tables: &mut [u32], grants: &mut [u32], scratch: &mut [u32], c: 
 {
     let tables: &mut Tables = tables.as_mut_array().ok_or(Refusal::Length)?;
     let grants: &mut Grants = grants.as_mut_array().ok_or(Refusal::Length)?;
-    lent_tables::verify(tables, grants, scratch.as_mut_array().ok_or(Refusal::Length)?)?;
+    lent_tables::verify(
+        tables,
+        grants,
+        scratch.as_mut_array().ok_or(Refusal::Length)?,
+    )?;
     step(tables, grants, c)
 }
 

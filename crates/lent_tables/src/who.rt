@@ -3,8 +3,8 @@ ghost use Rattle.std.specs.Prelude.{◌≡◌};
 ghost use Rattle.lent_tables.specs.Entries.{runner_in};
 
 use calls::codes::LAST_THREAD;
-use layout::{Slot, Tables};
 use layout::codes::LINK;
+use layout::{Slot, Tables};
 
 // The same in tables of their length. The link 0 is to nobody.
 #[tactic(auto, unfolding(crate::specs::Entries::runner_in))]

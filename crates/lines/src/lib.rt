@@ -9,10 +9,9 @@ ghost use Rattle.store.specs.Steps.{Shown, Does};
 ghost use Rattle.endings.specs.Results.{Asked, Calling, Performs};
 ghost use Rattle.lines.specs.Firing.{firing};
 
-use layout::Tables;
 use calls::codes::LINE_FIRED;
 use calls::{Outcome, Refusal};
-use layout::codes;
+use layout::{Tables, codes};
 
 // The waiter on line l is woken, or the line is pending.
 fn fire(tables: &mut Tables, l: usize)

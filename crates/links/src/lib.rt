@@ -7,9 +7,8 @@ ghost use Rattle.layout.specs.Addresses.{table_words};
 ghost use Rattle.links.specs.Links.{Joinable, JoinsFirst, JoinsLast, Leavable, Leads, LeavesQueue};
 ghost use Rattle.links.specs.Links.{PopsFirst, First, Last, Next, Prev};
 
-use layout::Tables;
 use layout::codes::NOBODY;
-use layout::{Link, wide};
+use layout::{Link, Tables, wide};
 use words::Beside;
 
 // stays: a link is a word of the lent, fixed memory, as link_of of specs has it, and goes from word to word as it is.

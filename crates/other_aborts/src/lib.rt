@@ -8,10 +8,9 @@ ghost use Rattle.store.specs.Steps.{Shown};
 ghost use Rattle.endings.specs.Results.{Performs};
 ghost use Rattle.own_aborts.specs.Own.{Open, Continues};
 
-use layout::Tables;
 use calls::{Accepted, Outcome};
 use layout::codes::NOBODY;
-use layout::{Part, codes};
+use layout::{Part, Tables, codes};
 
 // After another badge's abort the call's own begins, if allowance remains.
 // stays: t, e and badge apart, as begin_after of Aborts takes them; each clause would name a struct's fields.

@@ -64,15 +64,7 @@ fn detail<const N: usize>(line: &mut Line<N>, asked: bool, name: &[u8], n: u32)
 
 // Of count, badge and message those that are told; the call by its number.
 // stays: (a) `details` and the theorems on sentences have the number.
-#[tactic(
-    auto,
-    unfolding(
-        wording::specs::Sentence::details,
-        wording::specs::Sentence::asks_count,
-        wording::specs::Sentence::asks_message,
-        texts::specs::Text::bytes
-    )
-)]
+#[tactic(auto, unfolding(wording::specs::Sentence::details, wording::specs::Sentence::asks_count, wording::specs::Sentence::asks_message, texts::specs::Text::bytes))]
 pub fn details<const N: usize>(line: &mut Line<N>, call: u32, a: Answer)
     requires { length line.old + length (details call a) ≤ N }
     ensures { line.new ≡ line.old ++ details call a }

@@ -8,10 +8,9 @@ ghost use Rattle.store.specs.Steps.{Shown};
 ghost use Rattle.endings.specs.Results.{Performs};
 ghost use Rattle.own_aborts.specs.Own.{Open, Joining, Continues, own_ended, own_begun, joined_on};
 
-use layout::Tables;
 use calls::{Accepted, Outcome};
 use layout::codes::NOBODY;
-use layout::{Part, codes};
+use layout::{Part, Tables, codes};
 
 // The call's own abort ends where nothing is left: the caller leaves its set, and the other members get notes. Else it
 // is broken off.

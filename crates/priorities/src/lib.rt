@@ -10,9 +10,8 @@ ghost use Rattle.debts.specs.Debts.{Says};
 ghost use Rattle.endings.specs.Results.{Asked, Performs};
 ghost use Rattle.priorities.specs.Priorities.{ready_in, Changes, changing, PriorityInRange};
 
-use layout::Tables;
 use calls::Outcome;
-use layout::{Field, codes, wide};
+use layout::{Field, Tables, codes, wide};
 
 // Whether thread t is ready: able, and not the one that runs.
 pub fn is_ready(tables: &Tables, t: usize) -> bool

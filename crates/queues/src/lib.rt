@@ -8,9 +8,8 @@ ghost use Rattle.store.specs.Steps.{Shown, Does};
 ghost use Rattle.store.specs.Store.{IsThread};
 ghost use Rattle.queues.specs.Queues.{Loose, InLevel, InLevelAt, HeadAt, BlocksAt, leave_level};
 
-use layout::Tables;
 use layout::codes::NOBODY;
-use layout::{Field, codes};
+use layout::{Field, Tables, codes};
 
 // Thread t, in no queue, joins the tail of its level's.
 pub fn enqueue(tables: &mut Tables, t: usize)

@@ -8,9 +8,8 @@ ghost use Rattle.store.specs.Steps.{Shown, Does};
 ghost use Rattle.store.specs.Store.{Any};
 ghost use Rattle.queues.specs.Queues.{Loose, Chooses, FindsLevel};
 
-use layout::Tables;
 use layout::codes::NOBODY;
-use layout::{Field, wide};
+use layout::{Field, Tables, wide};
 
 // The highest occupied level, if there is one.
 fn highest_level(tables: &Tables) -> Option<u32>

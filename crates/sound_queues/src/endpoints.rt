@@ -9,10 +9,9 @@ ghost use Rattle.soundness.specs.Checks.{status_test, endpoint_test, met, met_be
 ghost use Rattle.sound_queues.specs.Steps.{stands_behind, waiters_as, kind_fits};
 ghost use Rattle.sound_queues.specs.Met.{met_in, Follows, FollowsAll};
 
-use layout::{Tables, Scratch};
 use calls::sizes::{ENDPOINTS, THREADS};
 use layout::codes::ENDPOINT_QUEUES;
-use layout::{Field, Link, Part, wide};
+use layout::{Field, Link, Part, Scratch, Tables, wide};
 use soundness::Phase;
 
 // An absent endpoint is empty; an absent or closing one has no abort.

@@ -7,9 +7,8 @@ ghost use Rattle.soundness.specs.Checks.{level_test, met, met_below};
 ghost use Rattle.sound_queues.specs.Steps.{ready_behind};
 ghost use Rattle.sound_queues.specs.Met.{met_in, Follows, FollowsAll};
 
-use layout::{Tables, Scratch};
 use calls::sizes::{LEVELS, THREADS};
-use layout::{Field, Link, Slot, wide};
+use layout::{Field, Link, Scratch, Slot, Tables, wide};
 
 // Thread t, met behind link x in the queue of level p: it is linked back, and ready at p.
 fn ready(tables: &Tables, p: usize, x: usize, t: usize) -> bool

@@ -6,9 +6,8 @@ ghost use Rattle.layout.specs.Tests.{all};
 ghost use Rattle.soundness.specs.Checks.{placed_test, met_below};
 ghost use Rattle.sound_queues.specs.Met.{met_in};
 
-use layout::{Tables, Scratch};
 use calls::sizes::THREADS;
-use layout::{Field, Link, Slot, wide};
+use layout::{Field, Link, Scratch, Slot, Tables, wide};
 
 fn place(tables: &Tables, scratch: &Scratch, t: usize) -> bool
     requires { (scratch.now ≡ met_in (met_below 320 tables.now)) × (t ≤ 255) }

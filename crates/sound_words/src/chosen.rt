@@ -7,8 +7,7 @@ ghost use Rattle.layout.specs.Addresses.{table_words};
 ghost use Rattle.layout.specs.Tests.{all};
 ghost use Rattle.soundness.specs.Checks.{occupied_at, summary_test, running_test};
 
-use layout::Tables;
-use layout::{Field, Link, Slot, wide};
+use layout::{Field, Link, Slot, Tables, wide};
 use summary::{LEVELS_IN_WORD, WORDS};
 
 // What a bit adds: nothing where the word it stands for is 0.

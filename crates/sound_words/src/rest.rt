@@ -4,9 +4,8 @@ ghost use Rattle.layout.specs.Addresses.{table_words};
 ghost use Rattle.layout.specs.Tests.{all};
 ghost use Rattle.soundness.specs.Checks.{line_test, unused_test};
 
-use layout::Tables;
 use calls::sizes::LINES;
-use layout::{Field, Slot, UNUSED_WORDS, wide};
+use layout::{Field, Slot, Tables, UNUSED_WORDS, wide};
 
 // A line's waiter waits on it.
 fn line(tables: &Tables, l: usize) -> bool

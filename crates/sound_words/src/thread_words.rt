@@ -7,9 +7,8 @@ ghost use Rattle.layout.specs.Tests.{all};
 ghost use Rattle.soundness.specs.Checks.{thread_at, absent_test, numbers_test, stored_test, waits_test, owes_test};
 ghost use Rattle.soundness.specs.Checks.{present_test, block_test};
 
-use layout::Tables;
 use calls::sizes::THREADS;
-use layout::{Field, Part, Slot, wide};
+use layout::{Field, Part, Slot, Tables, wide};
 
 // An absent thread's words are 0.
 #[tactic(auto, unfolding(soundness::specs::Checks::absent_test))]

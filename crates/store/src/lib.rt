@@ -12,8 +12,7 @@ ghost use Rattle.store.specs.Store.{Remakes, SetsPending};
 ghost use Rattle.store.specs.Readings.{slot_in, thread_in, endpoint_in, line_in, running_in};
 ghost use Rattle.store.specs.Levels.{LoadsSummary, SetsLevel, WritesLevel};
 
-use layout::Tables;
-use layout::{Field, Part, Slot, codes};
+use layout::{Field, Part, Slot, Tables, codes};
 use std::array;
 use summary::Summary;
 

@@ -10,10 +10,9 @@ ghost use Rattle.endings.specs.Results.{Asked, Performs};
 ghost use Rattle.threads.specs.Threads.{Able, leaving_ready, Goes, leaving};
 ghost use Rattle.priorities.specs.Priorities.{PriorityInRange};
 
-use layout::Tables;
 use calls::{Outcome, Refusal};
 use layout::codes::NOBODY;
-use layout::{Field, codes};
+use layout::{Field, Tables, codes};
 
 // 1: a new thread joins its level's tail.
 pub fn create_thread(tables: &mut Tables, t: usize, p: u32) -> Outcome

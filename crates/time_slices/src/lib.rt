@@ -9,8 +9,8 @@ ghost use Rattle.store.specs.Steps.{Shown, Does};
 ghost use Rattle.endings.specs.Results.{Asked, Calling, Performs};
 ghost use Rattle.time_slices.specs.Ticks.{ticking_for};
 
-use layout::Tables;
 use calls::Outcome;
+use layout::Tables;
 use layout::codes::{LINK, NOBODY};
 
 // The running thread u has a tick less; at the last it has 5 again and goes to its tail. The tick changes the thread's

@@ -12,11 +12,10 @@ ghost use Rattle.endings.specs.Results.{Asked, Calling, Performs};
 ghost use Rattle.waiting.specs.Waiting.{Dropped};
 ghost use Rattle.transfers.specs.Transfers.{TakesFrom, handing, taking, taking_from};
 
-use layout::Tables;
 use calls::codes::{MESSAGE_RECEIVED, MESSAGE_TAKEN};
 use calls::{Accepted, Outcome, Refusal};
 use layout::codes::{LINK, NOBODY};
-use layout::{Field, Part, codes};
+use layout::{Field, Part, Tables, codes};
 
 // 4: endpoint e, which is absent, is made. An absent one has no waiter and no abort, so only the status changes.
 pub fn create_endpoint(tables: &mut Tables, e: usize) -> Outcome

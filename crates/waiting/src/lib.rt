@@ -6,8 +6,8 @@ ghost use Rattle.store.specs.Steps.{Shown};
 ghost use Rattle.store.specs.Store.{IsThread};
 ghost use Rattle.waiting.specs.Waiting.{Suspends};
 
-use layout::Tables;
 use calls::{Accepted, Outcome};
+use layout::Tables;
 
 // The running thread t blocks at a place: code 1.
 pub fn suspend(tables: &mut Tables, t: usize, place: u32, badge: u32, message: u32) -> Outcome

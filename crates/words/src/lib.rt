@@ -7,8 +7,7 @@ ghost use Rattle.layout.specs.declared.Slot.{Slot};
 ghost use Rattle.layout.specs.Addresses.{column, offset, at, link_at, word, ValidSlot, ValidLink, table_words};
 ghost use Rattle.words.specs.Access.{Address, Pair, beside_at, ValidBeside};
 
-use layout::Tables;
-use layout::{Field, Link, Part, Slot, wide};
+use layout::{Field, Link, Part, Slot, Tables, wide};
 
 // The name of a lent word. What reads and writes the words below knows of a name its address alone.
 pub trait Name: Copy {

@@ -8,7 +8,7 @@ get-next-requires c =
     leaver_small c.requires.leavable
 
 pub put-requires : goal.put-requires
-put-requires c = 
+put-requires c =
     (c.requires.leavable.queue, (first_neighbours c.requires c.get-next.ensures).after_small)
 
 pub put-requires-3 : goal.put-requires-3

@@ -19,7 +19,7 @@ finish-requires g c =
     record { code = omega arith; count = omega arith; badge = omega arith; message = omega arith } in (
       search rules,
       rw (c.clause.ensures, length-append)
-      (omega (arith, c.requires.0, clause_short c.args.call c.args.answer c.requires.1 words)),
+          (omega (arith, c.requires.0, clause_short c.args.call c.args.answer c.requires.1 words)),
     )
 
 pub returns : goal.returns
