@@ -11,7 +11,8 @@ use lib.Seq.{drop-cons, take_all}
 use Rattle.calls.specs.declared.Call.{Call}
 use Rattle.journal.specs.Words.{top_byte, words_taken}
 use Rattle.journal.specs.Words.{call_of, call_at, judged, read_from, read_at}
-use Rattle.journal.proofs.Numbers.{by_number}
+use Rattle.journal.proofs.Numbers.{by_number, taken_most}
+use Rattle.journal.proofs.Refusals.{ends}
 use Rattle.journal.proofs.Options.{unused_none, unused_both_none}
 
 -- a number that is none of a one-word call, as the last arm of a match on them knows it
@@ -50,3 +51,6 @@ pub read_word_at :
     n ≡ words_taken (top_byte (get_or j at 0)) → judged at (at + n) named ≡ read_at j at
 unfolding read_at read_from
 read_word_at j at n named h e t = rw (e, part_is j (at + 1), drop-cons j at 0 h, t, add-one at)
+
+-- What reading a call at a place goes by.
+pub ruleset reads = (ends, read_word_at, taken_most)

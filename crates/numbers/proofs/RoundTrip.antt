@@ -15,7 +15,7 @@ use Rattle.journal.proofs.Numbers.{by_number}
 use Rattle.numbers.specs.Numbers.{short, without_rights, call_in, numbers_of}
 
 pub numbers_name : (c : Call) → call_in (numbers_of c) ≡ some c
-unfolding call_in without_rights short numbers_of call_of
+unfolding call_in numbers_of call_of
 numbers_name (CreateThread t p) = refl
 numbers_name (DestroyThread t) = refl
 numbers_name (SetPriority t p) = refl
@@ -75,13 +75,13 @@ module _ (s a b m r : ℕ) where
 
   -- No call has a number above 13.
   more : (n : ℕ) → 13 < n → call_of n s a [] ≡ none → Own (six n) (call_in (six n))
-  unfolding call_in without_rights short
+  unfolding call_in
   more n l h =
       rw (ne_eqb n 13 (λ e. omega arith), ne_eqb n 7 (λ e. omega arith), ne_eqb n 12 (λ e. omega arith), h)
       (plainly n s a b m r none (none_own _))
 
   own_named : (n : ℕ) → Own (six n) (call_in (six n))
-  unfolding call_in without_rights short numbers_of call_of
+  unfolding call_in numbers_of call_of
   own_named =
       by_number (λ n. Own (six n) (call_in (six n)))
       (plainly 0 s a b m r none (none_own _))

@@ -29,13 +29,13 @@ abbrev pub given_rights : List ℕ → ℕ
 given_rights ns = get_or ns 5 0
 
 -- the call with neither badge nor message: the one that such a call word alone names in the journal
-unfoldable pub short : List ℕ → Option Call
+abbrev pub short : List ℕ → Option Call
 short ns =
     unused (given_badge ns)
     (unused (given_message ns) (call_of (given_number ns) (given_subject ns) (given_argument ns) []))
 
 -- the call without rights that the first five name
-unfoldable pub without_rights : List ℕ → Option Call
+abbrev pub without_rights : List ℕ → Option Call
 without_rights ns =
     pick (eqb (given_number ns) 7)
     (unused (given_argument ns) (some (Send (given_subject ns) (given_badge ns) (given_message ns))))

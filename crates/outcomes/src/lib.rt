@@ -2,7 +2,7 @@
 #![tactic(auto)]
 
 ghost use Rattle.std.specs.Prelude.{◌≡◌, ◌+◌, ◌≤◌, ◌++◌, length};
-ghost use Rattle.wording.specs.Sentence.{cause, outcome, detail, details};
+ghost use Rattle.wording.specs.Sentence.{cause, outcome, detail, details, asks_count, asks_message};
 
 use calls::{Answer, codes};
 use texts::Line;
@@ -62,17 +62,31 @@ fn detail<const N: usize>(line: &mut Line<N>, asked: bool, name: &[u8], n: u32)
     }
 }
 
+// Whether the count is told: of a delete or an abort that was accepted.
+#[tactic(auto, unfolding(wording::specs::Sentence::asks_count))]
+fn asks_count(call: u32, code: u32) -> bool
+    ensures { result ≡ asks_count call code }
+{
+    ((call == 11) | (call == 12)) & ((code == codes::DONE) | (code == codes::BROKEN_OFF))
+}
+
+// Whether badge and message are: of a receive that is done.
+#[tactic(auto, unfolding(wording::specs::Sentence::asks_message))]
+fn asks_message(call: u32, code: u32) -> bool
+    ensures { result ≡ asks_message call code }
+{
+    (call == 8) & (code == codes::DONE)
+}
+
 // Of count, badge and message those that are told; the call by its number.
 // stays: (a) `details` and the theorems on sentences have the number.
-#[tactic(auto, unfolding(wording::specs::Sentence::details, wording::specs::Sentence::asks_count, wording::specs::Sentence::asks_message, texts::specs::Text::bytes))]
+#[tactic(auto, unfolding(wording::specs::Sentence::details, texts::specs::Text::bytes))]
 pub fn details<const N: usize>(line: &mut Line<N>, call: u32, a: Answer)
     requires { length line.old + length (details call a) ≤ N }
     ensures { line.new ≡ line.old ++ details call a }
 {
-    let ended = a.code == codes::DONE;
-    let counts = ((call == 11) | (call == 12)) & (ended | (a.code == codes::BROKEN_OFF));
-    let received = (call == 8) & ended;
-    detail(line, counts, b", count ", a.count);
+    let received = asks_message(call, a.code);
+    detail(line, asks_count(call, a.code), b", count ", a.count);
     detail(line, received, b", badge ", a.badge);
     detail(line, received, b", message ", a.message);
 }

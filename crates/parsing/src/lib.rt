@@ -46,7 +46,7 @@ pub fn words_taken(top: u32) -> usize
 }
 
 // What the journal's words from number `at` on read as.
-#[tactic(auto, using(journal::proofs::Refusals::ends, journal::proofs::Answers::read_word_at, journal::proofs::Numbers::taken_most))]
+#[tactic(auto, using(journal::proofs::Answers::reads))]
 pub fn read(journal: &[u32], at: usize) -> Read
     ensures { result ≡ read_at journal.now at }
 {

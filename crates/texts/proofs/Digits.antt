@@ -88,7 +88,5 @@ length_word n h = length_below 19 n (omega (arith, h))
 pub length_front : (n : ℕ) → 10 ≤ n → n < 2 ^ 64 → length (decimal (n / 10)) + 1 ≤ 20
 length_front n l h = omega (arith, length_more n l, length_word n h)
 
--- What a width is counted by, and the digits said by, the last behind the others.
-pub ruleset counted = (length_one, length_more, length_word)
-
+-- What the digits are said by, the last behind the others.
 pub ruleset said_last = (decimal_one, decimal_more, length_more, length_word)

@@ -160,10 +160,3 @@ pub fn endpoint(tables: &Tables, p: Part, e: usize) -> usize
 {
     wide(tables, Slot::Endpoint(p, e))
 }
-
-// All words become 0.
-pub fn clear(words: &mut [u32])
-    ensures { words.new ≡ replicate (length words.old) 0 }
-{
-    words.fill(0);
-}
