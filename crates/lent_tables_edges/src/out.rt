@@ -1,4 +1,5 @@
 // What is written to standard output.
+// stays: (d) each line is made of names and numbers in turn, by functions of its parts.
 
 pub fn text(rt: &impl Print, bytes: &[u8]) {
     let _ = rt.write_all(bytes);

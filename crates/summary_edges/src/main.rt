@@ -13,46 +13,27 @@ const MARKS: [u32; 28] = [
     0x0ff, 0x000,
 ];
 
-fn text(rt: &impl Print, bytes: &[u8]) {
-    let _ = rt.write_all(bytes);
-}
-
-fn number(rt: &impl Print, n: u32) {
-    let _ = print!(rt; "{n}");
-}
-
-fn word(rt: &impl Print, w: u32) {
-    let _ = print!(rt; "{w:08x}");
-}
-
 fn write_level(rt: &impl Print, level: Option<u32>) {
-    match level {
-        Some(p) => number(rt, p),
-        None => text(rt, b"none"),
-    }
+    let _ = match level {
+        Some(p) => print!(rt; "{p}"),
+        None => print!(rt; "none"),
+    };
 }
 
 // One line: the highest level, the top word, and the word of level p in hexadecimal.
 fn write_summary(rt: &impl Print, s: Summary, p: u32)
     requires { IsSummary s }
 {
-    let w = (p / 32 % 8) as usize;
-    text(rt, b" highest ");
+    let top = s.top;
+    let word = s.words[(p / 32 % 8) as usize];
+    let _ = print!(rt; " highest ");
     write_level(rt, s.highest());
-    text(rt, b" top ");
-    number(rt, s.top);
-    text(rt, b" word ");
-    word(rt, s.words[w]);
-    text(rt, b"\n");
+    let _ = println!(rt; " top {top} word {word:08x}");
 }
 
 fn write_mark(rt: &impl Print, occupied: bool, p: u32) {
-    if occupied {
-        text(rt, b"+");
-    } else {
-        text(rt, b"-");
-    }
-    number(rt, p);
+    let sign = if occupied { '+' } else { '-' };
+    let _ = print!(rt; "{sign}{p}");
 }
 
 // Makes one mark of the list.
