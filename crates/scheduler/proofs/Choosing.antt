@@ -5,7 +5,6 @@ use mathlib.Core.Logic.{inl}
 use mathlib.Core.Option.{Option, none, some}
 use mathlib.Core.List.{List, [], ◌∷◌}
 use native.Mathlib.Omega.{arith}
-use lib.ListN.{length}
 use borrow.Author.Tests.{lt-ltb, le-ltb}
 use Rattle.machine.specs.Lists.{without, Distinct}
 use Rattle.machine.specs.State.{State, set_runs, set_level}
@@ -13,7 +12,6 @@ use Rattle.machine.specs.Scheduling.{stand_back, highest, dispatch_head, dispatc
 use Rattle.machine.specs.Scheduling.{displace, choose_for, choose}
 use Rattle.machine.proofs.Lists.{without_first}
 use Rattle.machine.proofs.Running.{Highest, highest_is}
-use Rattle.layout.specs.Addresses.{table_words}
 use Rattle.summary.specs.declared.Summary.{Summary}
 use Rattle.std.specs.Prelude.{None, Some}
 use Rattle.std.specs.Prelude as code
@@ -62,8 +60,8 @@ module _ {m : List ℕ} {l : code.Option ℕ} (T : FindsLevel m l) where
     top_is : (s : State) → Shows m s → Highest 256 s.levels (some p)
     top_is s M = rw (level_at s M) at (highest_is s.levels)
 
-    pub readable : Shown m Any → (length m ≡ table_words) × (p ≤ 319)
-    readable S = (S.shows.size, omega (arith, (top_is S.state S.shows).0))
+    pub readable : Shown m Any → p ≤ 319
+    readable S = omega (arith, (top_is S.state S.shows).0)
 
     module _ {link : ℕ} (F : First m p link) where
       head_is : (s : State) → Shows m s → Head s p link

@@ -1,5 +1,6 @@
 -- Each arm is the machine's call, and leaves the grants that it should.
 use mathlib.Core.Path.{refl}
+use borrow.Author.Rules.{rules}
 use Rattle.machine.specs.Grants.{regranted}
 use Rattle.dispatch.proofs.Granting.{left_grants, own_regrants}
 use Rattle.dispatch.proofs.Cases.{host_done, create_arm, destroy_arm, priority_arm, endpoint_arm}
@@ -20,7 +21,7 @@ returns-in-DestroyThread-clause-performs c =
 pub returns-in-DestroyThread-clause-regrants : goal.returns-in-DestroyThread-clause-regrants
 unfolding regranted
 returns-in-DestroyThread-clause-regrants c =
-    left_grants _ _ _ c.in-DestroyThread.is c.requires.1 refl
+    left_grants _ _ _ c.in-DestroyThread.is (search rules) refl
 
 pub returns-in-SetPriority-clause-performs : goal.returns-in-SetPriority-clause-performs
 returns-in-SetPriority-clause-performs c =
@@ -29,7 +30,7 @@ returns-in-SetPriority-clause-performs c =
 pub returns-in-SetPriority-clause-regrants : goal.returns-in-SetPriority-clause-regrants
 unfolding regranted
 returns-in-SetPriority-clause-regrants c =
-    left_grants _ _ _ c.in-SetPriority.is c.requires.1 refl
+    left_grants _ _ _ c.in-SetPriority.is (search rules) refl
 
 pub returns-in-CreateEndpoint-clause-performs : goal.returns-in-CreateEndpoint-clause-performs
 returns-in-CreateEndpoint-clause-performs c =
@@ -42,7 +43,7 @@ returns-in-Interrupt-clause-performs c =
 pub returns-in-Interrupt-clause-regrants : goal.returns-in-Interrupt-clause-regrants
 unfolding regranted
 returns-in-Interrupt-clause-regrants c =
-    left_grants _ _ _ c.in-Interrupt.is c.requires.1 refl
+    left_grants _ _ _ c.in-Interrupt.is (search rules) refl
 
 pub returns-in-Tick-clause-performs : goal.returns-in-Tick-clause-performs
 returns-in-Tick-clause-performs c =
@@ -51,7 +52,7 @@ returns-in-Tick-clause-performs c =
 pub returns-in-Tick-clause-regrants : goal.returns-in-Tick-clause-regrants
 unfolding regranted
 returns-in-Tick-clause-regrants c =
-    left_grants _ _ _ c.in-Tick.is c.requires.1 refl
+    left_grants _ _ _ c.in-Tick.is (search rules) refl
 
 pub returns-in-Grant-clause-performs : goal.returns-in-Grant-clause-performs
 returns-in-Grant-clause-performs c =
@@ -64,4 +65,4 @@ returns-in_default-clause-performs c =
 pub returns-in_default-clause-regrants : goal.returns-in_default-clause-regrants
 returns-in_default-clause-regrants c =
     let own : (7 ≤ number_of c.args.c) × (number_of c.args.c ≤ 12) = search rules in
-    left_grants _ _ c.args.c refl c.requires.1 (own_regrants c.args.c own.0 own.1 _)
+    left_grants _ _ c.args.c refl (search rules) (own_regrants c.args.c own.0 own.1 _)

@@ -1,4 +1,5 @@
 -- Where it was accepted, the thread's row is cleared.
+use borrow.Author.Rules.{rules}
 use Rattle.machine.specs.Grants.{regranted}
 use Rattle.endings.proofs.Tests.{passed_on}
 use Rattle.dispatch.proofs.Granting.{accepted_regrants, refused_grants}
@@ -10,7 +11,7 @@ returns-in_err-accepted-clause-performs c =
 
 pub returns-in_err-accepted-clause-regrants : goal.returns-in_err-accepted-clause-regrants
 returns-in_err-accepted-clause-regrants c =
-    refused_grants _ c.from_residual.result _ c.requires.1 c.from_residual.ensures.0
+    refused_grants _ c.from_residual.result _ (search rules) c.from_residual.ensures.0
 
 pub returns-clause-regrants : goal.returns-clause-regrants
 unfolding regranted
