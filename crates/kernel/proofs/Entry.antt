@@ -95,22 +95,20 @@ module _ (l : Lent) {x : List ℕ} where
         go true (some s) true i j q k =
             record { fits = i; state = s; shown = j; granted = q; zeroed = ap (λ (r : Checked). r.scratch) k }
 
-    pub check_shown : Shown l.tables Sound × (length l.grants ≡ grant_words)
+    pub check_shown : Shown l.tables Sound
     check_shown =
-        let F = found in (
-          record {
-            state = F.state;
-            shows = state_shows l.tables F.state F.shown;
-            holds = ((state_exact l.tables F.state).0 F.shown).0;
-          },
-          ((sizes l).holds F.fits).1,
-        )
+        let F = found in
+        record {
+          state = F.state;
+          shows = state_shows l.tables F.state F.shown;
+          holds = ((state_exact l.tables F.state).0 F.shown).0;
+        }
 
     module _ {a : Answer} {n : List ℕ} (c : Call)
         (F : Performs l.tables n a Sound (stepping (grants_of l.grants) c)) where
       answered : a ≡ (step (grants_of l.grants) found.state c).answer
       unfolding found check_shown
-      answered = F.answers found.state check_shown.0.shows check_shown.0.holds
+      answered = F.answers found.state check_shown.shows check_shown.holds
 
       called_is : stepped (grants_of l.grants) found.state c ≡ called l c
       unfolding called
@@ -123,7 +121,7 @@ module _ (l : Lent) {x : List ℕ} where
       step_taken {h} q =
           let g = grants_of l.grants in
           let s = found.state in
-          let S = check_shown.0 in
+          let S = check_shown in
           let N = step_sound g s c S.holds in
           let r = step g s c in
           ap (λ (k : List ℕ). called_of a (lent n k x)) q.left

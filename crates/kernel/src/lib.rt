@@ -12,8 +12,8 @@ ghost use Rattle.dispatch.specs.Steps.{Ranged, admitting, stepping, Regrants};
 
 use calls::{Answer, Call, Outcome, Refusal};
 use grants::Grants;
-use layout::Tables;
 use layout::codes::{LINK, NOBODY};
+use layout::{Scratch, Tables};
 
 // A call whose numbers are in range; one that needs a running thread is refused by 20 where none runs, and by 29 where
 // that thread lacks a right.
@@ -49,19 +49,26 @@ fn step(tables: &mut Tables, grants: &mut Grants, c: Call) -> Outcome
 }
 
 // The step where the check of what is lent passes.
-fn checked_step(tables: &mut [u32], grants: &mut [u32], scratch: &mut [u32], c: Call) -> Outcome
+fn checked_step(tables: &mut Tables, grants: &mut Grants, scratch: &mut Scratch, c: Call) -> Outcome
+    ensures { ◌≡◌ {A = Called}
+        (record { answer = answer_of result; left = lent tables.new grants.new scratch.new })
+        (called (lent tables.old grants.old scratch.old) c) }
+{
+    lent_tables::verify(tables, grants, scratch)?;
+    step(tables, grants, c)
+}
+
+// The same on memories of any length: those that have not their own are refused by 16.
+#[tactic(auto, unfolding(lent_tables::specs::Entries::called))]
+fn sized_step(tables: &mut [u32], grants: &mut [u32], scratch: &mut [u32], c: Call) -> Outcome
     ensures { ◌≡◌ {A = Called}
         (record { answer = answer_of result; left = lent tables.new grants.new scratch.new })
         (called (lent tables.old grants.old scratch.old) c) }
 {
     let tables: &mut Tables = tables.as_mut_array().ok_or(Refusal::Length)?;
     let grants: &mut Grants = grants.as_mut_array().ok_or(Refusal::Length)?;
-    lent_tables::verify(
-        tables,
-        grants,
-        scratch.as_mut_array().ok_or(Refusal::Length)?,
-    )?;
-    step(tables, grants, c)
+    let scratch: &mut Scratch = scratch.as_mut_array().ok_or(Refusal::Length)?;
+    checked_step(tables, grants, scratch, c)
 }
 
 // Takes a call on tables, grants and scratch of any length and content.
@@ -70,5 +77,5 @@ pub fn call(tables: &mut [u32], grants: &mut [u32], scratch: &mut [u32], c: Call
         (record { answer = result; left = lent tables.new grants.new scratch.new })
         (called (lent tables.old grants.old scratch.old) c) }
 {
-    Answer::from(checked_step(tables, grants, scratch, c))
+    Answer::from(sized_step(tables, grants, scratch, c))
 }

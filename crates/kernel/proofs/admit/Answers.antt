@@ -3,6 +3,7 @@ use mathlib.Core.Path.{◌∙◌, refl, sym, ap}
 use mathlib.Core.Bool.{◌&&◌}
 use Prim.Native.Nat.{ℕ}
 use lib.Dec.{leb}
+use borrow.Author.Rules.{rules}
 use Rattle.std.specs.Prelude.{Err}
 use Rattle.calls.specs.declared.Refusal.TheVariants.{NobodyRuns, NoRight}
 use Rattle.grants.specs.Memory.{grants_of}
@@ -18,13 +19,12 @@ returns-then-link-eq-NOBODY-clause-performs c =
     c.if-link-eq-NOBODY.true
 
 pub returns-then-link-eq-NOBODY-clause-regrants : goal.returns-then-link-eq-NOBODY-clause-regrants
-returns-then-link-eq-NOBODY-clause-regrants c = refused_grants _ (Err NobodyRuns) _ c.requires.1 refl
+returns-then-link-eq-NOBODY-clause-regrants c = refused_grants _ (Err NobodyRuns) _ (search rules) refl
 
 pub lacks-requires : goal.lacks-requires
 lacks-requires c = (
-  c.requires.1,
-  thread_within c.args.c c.running-link.ensures c.requires.0,
-  c.requires.0.holds.numbers,
+  thread_within c.args.c c.running-link.ensures c.requires,
+  c.requires.holds.numbers,
 )
 
 pub returns-then-lacks-clause-performs : goal.returns-then-lacks-clause-performs
@@ -32,7 +32,7 @@ returns-then-lacks-clause-performs c =
     lacking c.args.c c.running-link.ensures _ c.if-link-eq-NOBODY.false (sym c.lacks.ensures ∙ c.if-lacks.true)
 
 pub returns-then-lacks-clause-regrants : goal.returns-then-lacks-clause-regrants
-returns-then-lacks-clause-regrants c = refused_grants _ (Err NoRight) _ c.requires.1 refl
+returns-then-lacks-clause-regrants c = refused_grants _ (Err NoRight) _ (search rules) refl
 
 -- Where the two tests meet, the host calls, or the thread has its right.
 pub returns-clause-performs : goal.returns-clause-performs
