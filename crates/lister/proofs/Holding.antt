@@ -1,19 +1,17 @@
 -- One byte: whether the bytes held are ready with it, and that they are held or taken; and a part, byte by byte.
 use Rattle.std.proofs.Common.{◌≡◌, ℕ, suc, ◌+◌, ◌*◌, ◌<◌, ◌≤◌, Bool, true, false, leb, List, [], ◌∷◌, ◌++◌, length}
 use Rattle.std.proofs.Common.{get_or, take, set, sym, refl, ap, ◌∙◌, subst, true≢false, append_assoc, append-nil, arith}
-use Rattle.std.proofs.Common.{length-set, length-take-le, take-suc, take-suc-set, le-leb, leb-false, leb-true}
+use Rattle.std.proofs.Common.{length-take-le, take-suc, take-suc-set, le-leb, leb-false, leb-true}
 use Rattle.machine.specs.Lists.{pick}
 use Rattle.journal.specs.Words.{top_byte, words_taken, read_at}
 use Rattle.journal.proofs.Numbers.{taken_most}
 use Rattle.lent_tables.specs.Entries.{Lent}
 use Rattle.texts.proofs.Writing.{wrote_nothing, wrote_then}
 use Rattle.input.specs.Words.{little_endian, words_in}
-use Rattle.rows.specs.declared.Turn.{Turn}
-use Rattle.rows.specs.declared.Turn.TheVariants.{Took, Stopped, Over}
-use Rattle.rows.specs.Taking.{Turned, turned}
+use Rattle.rows.specs.Taking.{turned}
 use Rattle.forms.specs.declared.Form.{Form}
 use Rattle.lister.specs.declared.Lister.{Lister}
-use Rattle.lister.specs.Feeding.{Progress, Told, ready, holding, told_of, told_by, offered, byte_to, fed}
+use Rattle.lister.specs.Feeding.{Progress, Told, ready, holding, told_by, offered, byte_to, fed}
 use Rattle.lister.specs.Buffers.{progress_of, Feeds}
 
 -- Twelve bytes are ready: no call has more.

@@ -1,7 +1,7 @@
 -- What a call's bytes come to, from what the functions promise: a call in range, the text that stops the journal, or
 -- nothing; and the end.
 use Rattle.std.proofs.Common.{◌≡◌, ℕ, zero, suc, Bool, true, false, List, [], ◌∷◌, length, take, sym, refl, ap, ◌∙◌}
-use Rattle.std.proofs.Common.{subst, inl, inr, arith}
+use Rattle.std.proofs.Common.{subst, arith}
 use Rattle.calls.specs.declared.Answer.{Answer}
 use Rattle.calls.specs.declared.Call.{Call}
 use Rattle.std.specs.Prelude as source
@@ -15,7 +15,6 @@ use Rattle.journal.proofs.RoundTrip.{writes_what_was_read}
 use Rattle.texts.specs.Buffer.{Wrote}
 use Rattle.texts.proofs.Writing.{wrote_nothing}
 use Rattle.lent_tables.specs.Entries.{Lent, runner_in}
-use Rattle.input.specs.Words.{words_in}
 use Rattle.rows.specs.declared.Turn.{Turn}
 use Rattle.rows.specs.declared.Turn.TheVariants.{Took, Stopped, Over}
 use Rattle.rows.specs.Taking.{Turned, turned}

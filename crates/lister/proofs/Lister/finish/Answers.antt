@@ -17,4 +17,4 @@ pub returns-clause-wrote : goal.returns-clause-wrote
 returns-clause-wrote c =
     held_ends c.args.form c.args.self.now (lent c.args.tables.now [] []) c.args.out.now
     c.if-not-self.false c.if-self-eq0.false
-    (search rules) _ c.running.ensures _ _ c.stop.ensures.wrote
+    (search rules) _ c.running.ensures _ _ (rw c.into.ensures at c.stop.ensures.wrote)
