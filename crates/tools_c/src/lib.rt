@@ -13,6 +13,7 @@ ghost use Rattle.tools_c.specs.Entries.{sentence_named, sentence_in};
 use calls::{Answer, Call, Refusal, codes};
 
 // The sentence of the call that the numbers name, if they name one.
+#[tactic(auto, using(crate::proofs::Entries::short_named, crate::proofs::Entries::none_named))]
 fn sentence_named(out: &mut [u8], named: Option<Call>, answer: Answer) -> Result<usize, Refusal>
     ensures { ◌≡◌ {A = Filed} (told result out.new) (sentence_named (maybe_of named) answer out.old) }
 {
@@ -24,6 +25,7 @@ fn sentence_named(out: &mut [u8], named: Option<Call>, answer: Answer) -> Result
 }
 
 // Writes the sentence of a call and its answer.
+#[tactic(auto, unfolding(crate::specs::Entries::sentence_in))]
 #[unsafe(no_mangle)]
 pub extern "C" fn nazsombet_sentence(
     call: &[u32; 6],
