@@ -83,10 +83,3 @@ length_spaced n = rw length-append
 -- A word of 64 bits has at most 20 digits.
 pub length_word : (n : ℕ) → n < 2 ^ 64 → length (decimal n) ≤ 20
 length_word n h = length_below 19 n (omega (arith, h))
-
--- and at most 19 before its last.
-pub length_front : (n : ℕ) → 10 ≤ n → n < 2 ^ 64 → length (decimal (n / 10)) + 1 ≤ 20
-length_front n l h = omega (arith, length_more n l, length_word n h)
-
--- What the digits are said by, the last behind the others.
-pub ruleset said_last = (decimal_one, decimal_more, length_more, length_word)

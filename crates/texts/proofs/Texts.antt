@@ -46,3 +46,34 @@ pasted_nil out at = rw (add-zero, append-nil, take-append-drop)
 pub set_is : (out : List ℕ) (at d : ℕ) → at < length out → set out at d ≡ pasted out at (d ∷ [])
 unfolding pasted
 set_is out at d h = rw (add-one, append_snoc, set_split out at d)
+
+drop_set : (l : List ℕ) (i d : ℕ) → i < length l → drop i (set l i d) ≡ d ∷ drop (suc i) l
+drop_set l i d h =
+    drop-cons (set l i d) i 0 (rw length-set h)
+    ∙ rw (get_or-set_same l i d 0 h, drop-set-lt (suc i) l i d (omega arith))
+
+-- A text whose last byte was stored first.
+pub pasted_last :
+    (out : List ℕ) (at : ℕ) (s : List ℕ) (d : ℕ) → at + length s < length out
+    → pasted (set out (at + length s) d) at s ≡ pasted out at (s ++ (d ∷ []))
+unfolding pasted
+pasted_last out at s d h =
+    rw (take-set-le at out (at + length s) d (omega arith), drop_set out (at + length s) d h)
+    (simp (append_assoc, length-append, ← add_assoc, add-one))
+
+-- A number's digits, the last stored first.
+
+module _ (out : List ℕ) (at n i : ℕ) (place : i + 1 ≡ at + length (decimal n)) (room : i < length out) where
+  pub digit_stored : 10 ≤ n → pasted (set out i (digit (n % 10))) at (decimal (n / 10)) ≡ pasted out at (decimal n)
+  digit_stored h =
+      let e : at + length (decimal (n / 10)) ≡ i = omega (arith, length_more n h) in
+      ap (λ (k : ℕ). pasted (set out k (digit (n % 10))) at (decimal (n / 10))) (sym e)
+      ∙ pasted_last out at (decimal (n / 10)) (digit (n % 10)) (omega arith)
+      ∙ ap (λ (l : List ℕ). pasted out at l) (sym (decimal_more n h))
+
+  pub digit_first : n < 10 → set out i (digit n) ≡ pasted out at (decimal n)
+  digit_first h =
+      let e : i ≡ at = omega (arith, length_one n h) in
+      ap (λ (k : ℕ). set out k (digit n)) e
+      ∙ set_is out at (digit n) (omega arith)
+      ∙ ap (λ (l : List ℕ). pasted out at l) (sym (decimal_one n h))

@@ -5,3 +5,4 @@
 pub use line::Line;
 
 mod line;
+mod printing;

@@ -55,8 +55,9 @@ impl<const N: usize> Line<N> {
         requires { length self.old + length (decimal n) ≤ N }
         ensures { self.new ≡ self.old ++ decimal n }
     {
-        let digits = digits(n);
-        self.say(digits.text());
+        let at = self.len;
+        let all = &mut self.bytes[..];
+        self.len = crate::printing::number(all, at, n);
     }
 
     // A number and the space after it.
@@ -85,19 +86,4 @@ impl<const N: usize> Line<N> {
         out[at..end].copy_from_slice(text);
         end
     }
-}
-
-// The digits of n alone: no number of 64 bits has more than 20.
-#[tactic(auto, using(crate::proofs::Digits::said_last))]
-fn digits(n: u64) -> Line<20>
-    ensures { result ≡ decimal n }
-{
-    if n < 10 {
-        let mut line = Line::new();
-        line.byte(n as u8 + b'0');
-        return line;
-    }
-    let mut line = digits(n / 10);
-    line.byte((n % 10) as u8 + b'0');
-    line
 }
