@@ -56,7 +56,7 @@ uint32_t nazsombet_sentence(const struct nazsombet_numbers *call, const struct n
  * 0: all 257 counts are written over. Refused, in this order: 30, journal_length is above 16,000, rate is above 10,000
  * or counts_length is not 257; 18, a word of the journal does not read as a call; 19, a number of a call is out of its
  * range. With these three every count is as it was.
- * By the watermark, as nazsombet.h has it, nazsombet_count_ticks takes 84416 bytes of stack, the tables and grants among
+ * By the watermark, as nazsombet.h has it, nazsombet_count_ticks takes 84544 bytes of stack, the tables and grants among
  * them: it is for an office, and not for the box.
  */
 uint32_t nazsombet_count_ticks(const uint32_t *journal, size_t journal_length, uint32_t rate, uint32_t *counts,
