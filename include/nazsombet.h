@@ -16,12 +16,12 @@
  *     SSE2 is enough, and so is an alignment of 4 bytes for tables, grants and scratch.
  *   - take less than 1 KiB of stack, memset's own apart, call nothing but memset, make no system call and no trap. By
  *     the watermark on a painted stack, with the return address and what is written below the stack pointer,
- *     nazsombet_call takes 576 bytes at most, nazsombet_check takes 192, nazsombet_read takes 96,
- *     nazsombet_fresh takes 64, nazsombet_write takes 96, nazsombet_running takes 16,
- *     nazsombet_woken takes 16, and of the tools nazsombet_sentence takes 320.
+ *     nazsombet_call takes 512 bytes at most, nazsombet_check takes 192, nazsombet_read takes 96,
+ *     nazsombet_fresh takes 64, nazsombet_write takes 32, nazsombet_running takes 16,
+ *     nazsombet_woken takes 16, and of the tools nazsombet_sentence takes 288.
  *   - have no unwind tables: nothing can be thrown through them, and a debugger sees no frames.
  *   - stand in a section each: linked with -Wl,--gc-sections a host keeps those that it uses and what they call, some
- *     8.5 of 10.7 KB of code for nazsombet_fresh, nazsombet_call and nazsombet_running.
+ *     10.3 of 12.5 KB of code for nazsombet_fresh, nazsombet_call and nazsombet_running.
  * tests/archive.sh and tests/stack.sh try these on the compiled library, but for the direction flag and the sizes.
  *
  * An interrupt during a call. One caller at a time lends the memory: a handler that makes a call while another call is

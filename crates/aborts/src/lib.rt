@@ -44,6 +44,7 @@ fn abort_at(tables: &mut Tables, t: usize, e: usize, allowance: u32, badge: u32)
 }
 
 // 12: thread t aborts badge at endpoint e, with at most as many looks as the allowance lets.
+#[inline(always)]
 pub fn abort(tables: &mut Tables, t: usize, e: usize, allowance: u32, badge: u32) -> Outcome
     requires { Shown tables.old (Calling t ((e ≤ 63) × (allowance ≤ 65535) × (badge < 2 ^ 28))) }
     ensures { Performs tables.old tables.new (answer_of result)

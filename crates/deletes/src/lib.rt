@@ -46,6 +46,7 @@ fn delete_from(tables: &mut Tables, e: usize, allowance: u32) -> Outcome
 }
 
 // 11: thread t deletes endpoint e, removing at most as many waiters as the allowance lets.
+#[inline(always)]
 pub fn delete(tables: &mut Tables, t: usize, e: usize, allowance: u32) -> Outcome
     requires { Shown tables.old (Calling t (e ≤ 63)) }
     ensures { Performs tables.old tables.new (answer_of result) (Calling t (e ≤ 63))

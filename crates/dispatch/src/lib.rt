@@ -69,6 +69,7 @@ fn grant(
 }
 
 // A call of the running thread t: 7 to 12.
+#[inline(always)]
 fn own_call(tables: &mut Tables, t: usize, c: Call) -> Outcome
     requires { Shown tables.old (Calling t (Own c)) }
     ensures { Performs tables.old tables.new (answer_of result) (Calling t (Own c)) (perform c) }
@@ -97,6 +98,7 @@ fn own_call(tables: &mut Tables, t: usize, c: Call) -> Outcome
 
 // A call by its kind: 7 to 12 are made by the running thread, that of the link.
 // stays: a link, as Served and link_of have it; an Option would only be taken apart again in the last arm.
+#[inline(always)]
 pub fn carry_out(tables: &mut Tables, grants: &mut Grants, link: u32, c: Call) -> Outcome
     requires { Shown tables.old (Served link c) }
     ensures performs { Performs tables.old tables.new (answer_of result) (Served link c) (perform c) }

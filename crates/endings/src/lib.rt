@@ -10,7 +10,7 @@ ghost use Rattle.queues.specs.Queues.{Chooses};
 ghost use Rattle.endings.specs.Results.{Performs, Accepts};
 ghost use Rattle.endings.specs.Tests.{Tests, thread_there, endpoint_there, endpoint_open};
 
-use calls::{Accepted, Outcome, Refusal};
+use calls::{Accepted, Answer, Outcome, Refusal};
 use layout::{Field, Part, Tables, codes};
 
 // Thread t is there; otherwise the call is refused by 21.
@@ -54,6 +54,15 @@ pub fn accept(tables: &mut Tables, accepted: Accepted) -> Outcome
 {
     scheduler::choose(tables);
     Ok(accepted)
+}
+
+// The same of any four numbers as the answer.
+pub fn accept_as(tables: &mut Tables, answer: Answer) -> Answer
+    requires { Shown tables.old Chooses }
+    ensures { Accepts tables.old answer result Chooses tables.new }
+{
+    scheduler::choose(tables);
+    answer
 }
 
 // The call is done: code 0.

@@ -35,12 +35,21 @@ pub fn standard(rt: &HostRuntime) -> Streams<Stdin, Stdout, Stderr> {
     }
 }
 
-pub fn complain<R, W, E: Write>(s: &mut Streams<R, W, E>, text: &[u8]) -> io::Result<()>
+// Says a text on standard error; whether it could.
+pub fn try_complain<R, W, E: Write>(s: &mut Streams<R, W, E>, text: &[u8]) -> io::Result<()>
     ensures input { s.new.input ≡ s.old.input }
     ensures output { s.new.output ≡ s.old.output }
     ensures said { OnOk result (Appends (E.contents s.old.errors) (E.contents s.new.errors) text.now) }
 {
     s.errors.write_all(text)
+}
+
+// Says a text on standard error, if it can: there is nowhere to say that it could not.
+pub fn complain<R, W, E: Write>(s: &mut Streams<R, W, E>, text: &[u8])
+    ensures input { s.new.input ≡ s.old.input }
+    ensures output { s.new.output ≡ s.old.output }
+{
+    let _ = try_complain(s, text);
 }
 
 // Writes all of it, or says that it could not.
@@ -51,7 +60,7 @@ pub fn show<R, W: Write, E: Write>(s: &mut Streams<R, W, E>, text: &[u8]) -> io:
 {
     let shown = s.output.write_all(text);
     if shown.is_err() {
-        let _ = complain(s, b"nazsombet: standard output could not be written\n");
+        complain(s, b"nazsombet: standard output could not be written\n");
     }
     shown
 }
@@ -65,7 +74,7 @@ pub fn part<R: Read, W, E: Write>(s: &mut Streams<R, W, E>, buf: &mut [u8]) -> i
 {
     let got = s.input.read(buf);
     if got.is_err() {
-        let _ = complain(s, b"nazsombet: standard input could not be read\n");
+        complain(s, b"nazsombet: standard input could not be read\n");
     }
     got
 }

@@ -1,7 +1,7 @@
 -- The memory after stores: which words differ, and of which grants it is the memory.
 use Prim.Native.Nat.{ℕ, ◌+◌, ◌-◌, ◌*◌, ◌≤◌, ◌<◌}
 use mathlib.Core.Bool.{Bool, true, false}
-use mathlib.Core.Path.{◌≡◌, refl, sym, ◌∙◌, ap}
+use mathlib.Core.Path.{◌≡◌, refl, sym, ◌∙◌, ap, subst}
 use mathlib.Core.List.{List}
 use native.Mathlib.Omega.{arith}
 use lib.Dec.{leb, ltb}
@@ -80,11 +80,11 @@ module _ (m k : List ℕ) (size : length m ≡ grant_words) where
           ∙ sym (ap (λ (r : ℕ → ℕ). r e) (put_other (grants_of m) t u (λ e. 0) o))
 
   -- The part of the memory that is a thread's, filled with 0.
-  pub row_filled :
+  filled_row :
       (t : ℕ) {n : ℕ} {z : List ℕ} → t ≤ 255 → n ≡ 64 → z ≡ replicate (length (take n (drop (64 * t) m))) 0
       → k ≡ put_mid (64 * t) n m z → k ≡ grant_image (put (grants_of m) t (λ e. 0))
   unfolding word
-  row_filled t {n} {z} h is filled w =
+  filled_row t {n} {z} h is filled w =
       let room : 64 * t + n ≤ length m = omega arith in
       let part : length (take n (drop (64 * t) m)) ≡ n = search (rules, moves) in
       let long : length z ≡ n = ap length filled ∙ length-replicate {A = ℕ} _ 0 ∙ part in
@@ -105,6 +105,15 @@ module _ (m k : List ℕ) (size : length m ≡ grant_words) where
           let low = ltb-false j (64 * t) b in
           let high = apart t j l low in
           above m z (64 * t) n long room j (omega arith)
+
+  -- The same, wherever the part is said to begin.
+  pub row_filled :
+      (t : ℕ) {first n : ℕ} {z : List ℕ} → t ≤ 255 → first ≡ 64 * t → n ≡ 64
+      → z ≡ replicate (length (take n (drop first m))) 0
+      → k ≡ put_mid first n m z → k ≡ grant_image (put (grants_of m) t (λ e. 0))
+  row_filled t {first} {n} {z} h at is filled w =
+      filled_row t h is (subst (λ (f : ℕ). z ≡ replicate (length (take n (drop f m))) 0) at filled)
+      (subst (λ (f : ℕ). k ≡ put_mid f n m z) at w)
 
   -- All words of an endpoint cleared.
   pub column_cleared :

@@ -38,6 +38,7 @@ pub fn interrupt(tables: &mut Tables, l: usize) -> Outcome
 }
 
 // 10: the running thread t waits on line l; a pending interrupt is taken at once.
+#[inline(always)]
 pub fn wait(tables: &mut Tables, t: usize, l: usize) -> Outcome
     requires { Shown tables.old (Calling t (l ≤ 31)) }
     ensures { Performs tables.old tables.new (answer_of result) (Calling t (l ≤ 31)) (waiting t l) }

@@ -18,6 +18,7 @@ use journal::types::{Read, Words};
 const ENDED: u32 = 255;
 
 // The call that six numbers name. A grant's subject is the thread, its argument the endpoint.
+#[inline(always)]
 #[tactic(auto, unfolding(crate::specs::Numbers::call_in, journal::specs::Words::call_of))]
 pub fn call_in(numbers: [u32; 6]) -> Option<Call>
     ensures { maybe_of result ≡ call_in numbers }

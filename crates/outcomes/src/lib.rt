@@ -11,26 +11,27 @@ use wording::one;
 // Why, for the numbers that have a cause.
 // stays: a number, no Refusal, since an answer from C has any number for its code (`sentence_in`, `cause`)
 #[tactic(auto, unfolding(wording::specs::Sentence::cause, texts::specs::Text::bytes))]
-fn cause(code: u32) -> &'static [u8]
-    ensures { result.now ≡ cause code }
+fn cause<const N: usize>(line: &mut Line<N>, code: u32)
+    requires { length line.old + length (cause code) ≤ N }
+    ensures { line.new ≡ line.old ++ cause code }
 {
     match code {
-        16 => b", wrong memory length",
-        17 => b", memory is not sound",
-        18 => b", this is no call",
-        19 => b", number out of range",
-        20 => b", no thread runs",
-        21 => b", no such thread",
-        22 => b", the thread exists",
-        23 => b", no such endpoint",
-        24 => b", the endpoint exists",
-        25 => b", endpoint is closing",
-        26 => b", badge is under abort",
-        27 => b", the line has a waiter",
-        28 => b", buffer too short",
-        29 => b", lacks right or badge",
-        30 => b", too much to bill",
-        _ => b"",
+        16 => line.say(b", wrong memory length"),
+        17 => line.say(b", memory is not sound"),
+        18 => line.say(b", this is no call"),
+        19 => line.say(b", number out of range"),
+        20 => line.say(b", no thread runs"),
+        21 => line.say(b", no such thread"),
+        22 => line.say(b", the thread exists"),
+        23 => line.say(b", no such endpoint"),
+        24 => line.say(b", the endpoint exists"),
+        25 => line.say(b", endpoint is closing"),
+        26 => line.say(b", badge is under abort"),
+        27 => line.say(b", the line has a waiter"),
+        28 => line.say(b", buffer too short"),
+        29 => line.say(b", lacks right or badge"),
+        30 => line.say(b", too much to bill"),
+        _ => {}
     }
 }
 
@@ -46,7 +47,7 @@ pub fn outcome<const N: usize>(line: &mut Line<N>, code: u32)
         codes::BROKEN_OFF => line.say(b"broken off"),
         _ => {
             one(line, b"refused by ", code);
-            line.say(cause(code));
+            cause(line, code);
         }
     }
 }

@@ -3,11 +3,15 @@
 
 ghost use Rattle.std.specs.Prelude.{◌≡◌, ◌+◌, ◌≤◌, ◌++◌, length};
 ghost use Rattle.calls.specs.declared.Call.TheVariants.{Send, Delete, Abort, Grant};
+ghost use Rattle.texts.specs.Buffer.{Room, Wrote};
 ghost use Rattle.wording.specs.Sentence.{request};
 
 use calls::Call;
 use texts::Line;
 use wording::{one, two};
+
+// Room for the request of every call, also one out of range; the longest has 87 bytes.
+const ROOM: usize = 96;
 
 fn send<const N: usize>(line: &mut Line<N>, endpoint: u32, badge: u32, message: u32)
     requires { length line.old + length (request (Send endpoint badge message)) ≤ N }
@@ -98,4 +102,14 @@ pub fn request<const N: usize>(line: &mut Line<N>, call: Call)
             badge,
         } => grant(line, thread, endpoint, rights, badge),
     }
+}
+
+// The request at a place of the buffer; the next place.
+pub fn request_at(out: &mut [u8], at: usize, call: Call) -> usize
+    requires { Room out.old at (request call) }
+    ensures { Wrote out.old at (request call) result out.new }
+{
+    let mut line: Line<ROOM> = Line::new();
+    request(&mut line, call);
+    line.put(out, at)
 }

@@ -28,7 +28,7 @@ fn form(rt: &HostRuntime) -> Option<Form> {
 fn main(rt: HostRuntime) {
     let mut streams = files::standard(&rt);
     let Some(form) = form(&rt) else {
-        let _ = files::complain(
+        files::complain(
             &mut streams,
             b"nazsombet: tell takes the argument -n or none\n",
         );

@@ -7,12 +7,16 @@ use native.Mathlib.Nat.{add-zero, zero-add}
 use lib.ListN.{length, take, drop, set, length-append, length-drop, take-append-drop}
 use lib.Seq.{length-take-le, take_all, drop-append-le, drop-drop}
 use Rattle.texts.specs.Buffer.{Room, pasted, Wrote, Counts}
-use Rattle.texts.proofs.Texts.{length_pasted, take_pasted, drop_pasted, pasted_then, pasted_nil, set_is}
+use Rattle.texts.proofs.Texts.{length_pasted, pasted_then, pasted_nil, set_is}
 
 -- One text
 
 pub wrote_nothing : (m : List ℕ) (at : ℕ) → Wrote m at [] at m
 wrote_nothing m at = record { next = sym (add-zero at); bytes = sym (pasted_nil m at) }
+
+pub wrote_byte :
+    {m m' : List ℕ} {at d p : ℕ} → at < length m → p ≡ at + 1 → m' ≡ set m at d → Wrote m at (d ∷ []) p m'
+wrote_byte {m} {m'} {at} {d} {p} h e g = record { next = e; bytes = g ∙ set_is m at d h }
 
 -- A text copied to the front.
 pub copied :
@@ -66,6 +70,19 @@ wrote_is {m} {m'} {at = at} {p = p} = subst (λ (t : List ℕ). Wrote m at t p m
 
 -- Two texts in turn
 
+-- Room for two texts is room for the first,
+pub front_room : {m : List ℕ} {at : ℕ} (text rest : List ℕ) → Room m at (text ++ rest) → Room m at text
+front_room text rest r = record { fits = omega (arith, r.fits, length-append text rest) }
+
+-- and where it was written, for the second.
+pub rest_room :
+    {m m' : List ℕ} {at p : ℕ} (text rest : List ℕ)
+    → Room m at (text ++ rest) → Wrote m at text p m' → Room m' p rest
+rest_room text rest r w =
+    record {
+      fits = omega (arith, r.fits, length-append text rest, w.next, length_wrote (front_room text rest r) w);
+    }
+
 pub wrote_then :
     {m m₁ m₂ s t : List ℕ} {at p q : ℕ}
     → Room m at s → Wrote m at s p m₁ → Wrote m₁ p t q m₂ → Wrote m at (s ++ t) q m₂
@@ -75,6 +92,12 @@ wrote_then {m} {m₁} {m₂} {s} {t} {at} {p} {q} r v w = record {
       w.bytes ∙ ap (λ (l : List ℕ). pasted l p t) v.bytes ∙ ap (λ (k : ℕ). pasted (pasted m at s) k t) v.next
       ∙ pasted_then m at s r.fits t;
 }
+
+-- Two texts written in turn are the two as one.
+pub in_turn :
+    {m m₁ m₂ text rest : List ℕ} {at p q : ℕ}
+    → Room m at (text ++ rest) → Wrote m at text p m₁ → Wrote m₁ p rest q m₂ → Wrote m at (text ++ rest) q m₂
+in_turn {text = text} {rest = rest} r v w = wrote_then (front_room text rest r) v w
 
 -- Bytes counted
 

@@ -82,8 +82,6 @@ impl<const N: usize> Line<N> {
         ensures { Wrote out.old at self.now result out.new }
     {
         let text = self.text();
-        let end = at + text.len();
-        out[at..end].copy_from_slice(text);
-        end
+        crate::printing::say(out, at, text)
     }
 }

@@ -49,6 +49,7 @@ pub fn tick(tables: &mut Tables) -> Outcome
 }
 
 // 9: the running thread t goes to its level's tail.
+#[inline(always)]
 pub fn yield_running(tables: &mut Tables, t: usize) -> Outcome
     requires { Shown tables.old (Calling t (Unit {0})) }
     ensures { Performs tables.old tables.new (answer_of result) (Calling t (Unit {0})) (yield t) }

@@ -56,6 +56,7 @@ fn hand(tables: &mut Tables, t: usize, e: usize, badge: u32, message: u32) -> Ou
 }
 
 // 7: the running thread t sends to endpoint e.
+#[inline(always)]
 pub fn send(tables: &mut Tables, t: usize, e: usize, badge: u32, message: u32) -> Outcome
     requires { Shown tables.old (Calling t ((e ≤ 63) × (badge < 2 ^ 28) × (message < 2 ^ 28))) }
     ensures { Performs tables.old tables.new (answer_of result)
@@ -94,6 +95,7 @@ fn take(tables: &mut Tables, t: usize, e: usize) -> Outcome
 }
 
 // 8: the running thread t receives from endpoint e.
+#[inline(always)]
 pub fn receive(tables: &mut Tables, t: usize, e: usize) -> Outcome
     requires { Shown tables.old (Calling t (e ≤ 63)) }
     ensures { Performs tables.old tables.new (answer_of result) (Calling t (e ≤ 63)) (receiving t e) }

@@ -7,4 +7,5 @@ use Rattle.grants.proofs.clear_thread.Goals as goal
 
 pub returns : goal.returns
 returns c =
-    row_filled _ _ (search rules) c.args.thread c.requires (omega arith) (c.fill.ensures.after (λ y e. e)) refl
+    row_filled _ _ (search rules) c.args.thread c.requires (omega arith) (omega arith)
+    (c.fill.ensures.after (λ y e. e)) refl

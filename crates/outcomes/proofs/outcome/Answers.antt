@@ -8,5 +8,5 @@ use Rattle.outcomes.proofs.outcome.Goals as goal
 pub returns-in_default : goal.returns-in_default
 unfolding bytes
 returns-in_default g c =
-    rw (c.say-in_default.ensures, c.one.ensures, c.cause.ensures, refused_is c.args.code (search rules))
+    rw (c.cause.ensures, c.one.ensures, refused_is c.args.code (search rules))
     (simp append_assoc)

@@ -1,10 +1,7 @@
-use Prim.Native.Nat.{◌+◌, ◌/◌, ◌<◌}
-use mathlib.Core.Path.{◌≡◌, refl, ◌∙◌}
+use Prim.Native.Nat.{◌/◌}
+use mathlib.Core.Path.{refl, ◌∙◌}
 use native.Mathlib.Omega.{arith}
-use lib.ListN.{length, length-set}
-use borrow.Author.Rules.{rules}
-use Rattle.texts.specs.Decimal.{decimal}
-use Rattle.texts.specs.Buffer.{pasted}
+use lib.ListN.{length-set}
 use Rattle.texts.proofs.Digits.{length_some, length_more}
 use Rattle.texts.proofs.Texts.{digit_stored, digit_first}
 use Rattle.texts.proofs.printing.number.Goals as goal

@@ -1,14 +1,10 @@
 -- The invariant: i is the place of the last digit left, and the digits left, written to the buffer as it is, give
 -- what n's give, written to it as it was. The measure is the number left.
-use Prim.Native.Nat.{◌+◌, ◌/◌, ◌<◌}
-use mathlib.Core.Path.{◌≡◌, refl, ◌∙◌}
-use native.Mathlib.Omega.{arith}
-use lib.ListN.{length, length-set}
-use borrow.Author.Rules.{rules}
+use Prim.Native.Nat.{◌+◌, ◌<◌}
+use mathlib.Core.Path.{◌≡◌}
+use lib.ListN.{length}
 use Rattle.texts.specs.Decimal.{decimal}
 use Rattle.texts.specs.Buffer.{pasted}
-use Rattle.texts.proofs.Digits.{length_some, length_more}
-use Rattle.texts.proofs.Texts.{digit_stored, digit_first}
 use Rattle.texts.proofs.printing.number.Given as goal
 
 abbrev pub invariant-loop-left : goal.invariant-loop-left

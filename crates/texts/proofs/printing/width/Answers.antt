@@ -1,8 +1,4 @@
-use Prim.Native.Nat.{◌+◌}
-use mathlib.Core.Path.{◌≡◌}
 use native.Mathlib.Omega.{arith}
-use lib.ListN.{length}
-use Rattle.texts.specs.Decimal.{decimal}
 use Rattle.texts.proofs.Digits.{length_one, length_more, length_below}
 use Rattle.texts.proofs.printing.width.Goals as goal
 

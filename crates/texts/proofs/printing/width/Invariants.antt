@@ -1,10 +1,8 @@
 -- The invariant: k and the digits left are one more than the digits of n. The measure is the number left.
 use Prim.Native.Nat.{◌+◌}
 use mathlib.Core.Path.{◌≡◌}
-use native.Mathlib.Omega.{arith}
 use lib.ListN.{length}
 use Rattle.texts.specs.Decimal.{decimal}
-use Rattle.texts.proofs.Digits.{length_one, length_more, length_below}
 use Rattle.texts.proofs.printing.width.Given as goal
 
 abbrev pub invariant-loop-left : goal.invariant-loop-left

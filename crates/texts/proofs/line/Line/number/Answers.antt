@@ -1,5 +1,5 @@
 -- What is written behind the bytes said so far is said.
-use Rattle.std.proofs.Common.{rules, ◌≡◌, ◌+◌, ◌≤◌, ◌++◌, length, take, ap, ◌∙◌, arith}
+use Rattle.std.proofs.Common.{rules, ◌+◌, ◌≤◌, ◌++◌, length, ap, ◌∙◌}
 use Rattle.texts.specs.Decimal.{decimal}
 use Rattle.texts.proofs.Texts.{take_pasted}
 use Rattle.texts.proofs.line.Line.number.Goals as goal
